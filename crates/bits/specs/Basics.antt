@@ -1,0 +1,42 @@
+-- Words that the definitions of every crate share.
+use Prim.Native.Nat.{ℕ, zero, suc, _+_, _-_}
+use mathlib.Core.Bool.{Bool, true, false}
+use mathlib.Core.List.{List, [], _∷_}
+use lib.Dec.{eqb}
+
+-- the first of two values where the test holds, else the second
+abbrev pub pick : {A : Type 0} → Bool → A → A → A
+pick true a b = a
+pick false a b = b
+
+-- P of every element
+abbrev pub All : {A : Type 0} → (A → Type 0) → List A → Type 0
+All P [] = Unit
+All P (x ∷ xs) = P x × All P xs
+
+-- the test holds for every element
+unfoldable pub every : {A : Type 0} → (A → Bool) → List A → Bool
+every f [] = true
+every f (x ∷ xs) = pick (f x) (every f xs) false
+
+-- the distance of two samples
+abbrev pub gap : ℕ → ℕ → ℕ
+gap a b = a - b + (b - a)
+
+-- f 0 + .. + f (n - 1)
+unfoldable pub sum : (ℕ → ℕ) → ℕ → ℕ
+sum f zero = 0
+sum f (suc n) = sum f n + f n
+
+-- the n values f j, f (j + 1), ..
+unfoldable pub valuesFrom : {A : Type 0} → (ℕ → A) → ℕ → ℕ → List A
+valuesFrom f zero j = []
+valuesFrom f (suc n) j = f j ∷ valuesFrom f n (suc j)
+
+-- refusals, lowest number first (document 01, "Refused for what came in"): the first of two that is one; 0 is none
+abbrev pub orElse : ℕ → ℕ → ℕ
+orElse a b = pick (eqb a 0) b a
+
+-- the refusal where the test fails
+abbrev pub unless : Bool → ℕ → ℕ
+unless b n = pick b 0 n

@@ -1,0 +1,2 @@
+// A lent byte slice as a string of bits: writing codes into it and reading them.
+pub mod svq1_vlc;

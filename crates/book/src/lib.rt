@@ -1,0 +1,3 @@
+// The book of code tables: its parts, its refusals, the house book, and book files.
+pub mod svq1_blocktree;
+pub mod svq1_vlc;

@@ -1,0 +1,1 @@
+// Book files: the text form of a book of code tables.
