@@ -1,8 +1,9 @@
 -- Words that the definitions of every crate share.
 use Prim.Native.Nat.{ℕ, zero, suc, _+_, _-_}
+use lib.IntN.{ℤ, pos, negsuc}
 use mathlib.Core.Bool.{Bool, true, false}
 use mathlib.Core.List.{List, [], _∷_}
-use lib.Dec.{eqb}
+use lib.Dec.{eqb, ltb}
 
 -- the first of two values where the test holds, else the second
 abbrev pub pick : {A : Type 0} → Bool → A → A → A
@@ -40,3 +41,12 @@ orElse a b = pick (eqb a 0) b a
 -- the refusal where the test fails
 abbrev pub unless : Bool → ℕ → ℕ
 unless b n = pick b 0 n
+
+-- the signed number that a two's complement byte stands for
+abbrev pub signedOf : ℕ → ℤ
+signedOf n = pick (ltb n 128) (pos n) (negsuc (255 - n))
+
+-- the natural number that a signed one is, 0 below 0
+abbrev pub natural : ℤ → ℕ
+natural (pos n) = n
+natural (negsuc n) = 0

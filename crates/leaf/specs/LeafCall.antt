@@ -1,0 +1,58 @@
+-- The leaf search as a call: its refusals and its answer (document 01, `svq1_enc_leaf.rs`, refusals 5 to 8).
+use Prim.Native.Nat.{ℕ, zero, suc, _+_}
+use mathlib.Core.Bool.{Bool, true, false, not, _&&_}
+use mathlib.Core.List.{List}
+use lib.Dec.{eqb, leb, ltb}
+use lib.ListN.{length}
+use Rattle.bits.specs.Basics.{pick, orElse, unless}
+use Rattle.book.specs.Book.{tablesOf, dataRefusal}
+use Rattle.book.specs.Level.{area}
+use Rattle.book.specs.declared.svq1_vlc.Svq1Half.{Svq1Half}
+use Rattle.book.specs.declared.svq1_vlc.Svq1Half.the-variants.{Intra, Inter}
+use Rattle.leaf.specs.Codebook.{vectorAt}
+use Rattle.leaf.specs.Leaf.{Leaf, sse, leafShown, leafRule, capAt}
+use Rattle.leaf.specs.LeafBits.{leafBits}
+
+-- what a leaf or a plan is asked with: level and half as numbers, so that unknown ones can be refused; 0 is the intra half, 1 the inter half
+pub record BlockIn : Type 0 where
+  pub book : List ℕ
+  pub codebook : List ℕ
+  pub level : ℕ
+  pub half : ℕ
+  pub cap : ℕ
+  pub allowSkip : Bool
+  pub target : List ℕ
+  pub predictor : List ℕ
+
+abbrev pub halfAt : ℕ → Svq1Half
+halfAt zero = Intra
+halfAt (suc n) = Inter
+
+-- 8: unknown level or half, a block of wrong length, a cap above 6, skip allowed with the intra half
+unfoldable pub blockOk : BlockIn → Bool
+blockOk b =
+    ((ltb (b .level) 6 && ltb (b .half) 2) && (eqb (length (b .target)) (area (b .level)) && eqb (length (b .predictor)) (area (b .level))))
+    && (leb (b .cap) 6 && not (b .allowSkip && eqb (b .half) 0))
+
+-- of a leaf call and of a plan call alike; 0 for none
+unfoldable pub blockRefusal : BlockIn → ℕ
+blockRefusal b = orElse (dataRefusal (b .book) (b .codebook)) (unless (blockOk b) 8)
+
+-- what an accepted leaf call answers: the leaf, its bits, its error and the samples that it shows
+pub record LeafAnswer : Type 0 where
+  pub leaf : Leaf
+  pub bits : ℕ
+  pub error : ℕ
+  pub shown : List ℕ
+
+unfoldable pub leafAnswer : BlockIn → LeafAnswer
+leafAnswer b =
+    let h = halfAt (b .half) in
+    let vs = vectorAt (b .codebook) h (b .level) in
+    let l = leafRule h vs (capAt (b .level) (b .cap)) (b .allowSkip) (b .target) (b .predictor) in
+    record {
+      leaf = l;
+      bits = length (leafBits (tablesOf (b .book) h) (b .level) l);
+      error = sse (b .target) (leafShown vs (b .predictor) l);
+      shown = leafShown vs (b .predictor) l;
+    }

@@ -1,0 +1,7 @@
+-- The definitions that the contracts of this crate cite.
+pub mod Codebook
+pub mod Mean
+pub mod MeanLaws
+pub mod Leaf
+pub mod LeafBits
+pub mod LeafCall

@@ -1,0 +1,2 @@
+// The block tree of a macroblock: plan, emission, reading and reconstruction.
+pub mod svq1_enc_tree;
