@@ -1,0 +1,134 @@
+-- Which modes are tried for a macroblock, and which is written (document 01, `svq1_enc_inter.rs`, "Behind demand 3").
+use Prim.Native.Nat.{ℕ, _+_, _-_, _*_, _/_, _%_, min}
+use mathlib.Core.Bool.{Bool, true, false, _&&_, _||_}
+use mathlib.Core.List.{List, [], _∷_, _++_, map}
+use mathlib.Core.Option.{Option, none, some}
+use lib.Dec.{eqb, ltb}
+use lib.ListN.{length, getD}
+use Rattle.bits.specs.Basics.{pick, valuesFrom}
+use Rattle.book.specs.Book.{tablesOf}
+use Rattle.book.specs.declared.svq1_vlc.Svq1Half.{Svq1Half}
+use Rattle.book.specs.declared.svq1_vlc.Svq1Half.the-variants.{Intra, Inter}
+use Rattle.leaf.specs.Codebook.{vectorAt, stagesPerPage}
+use Rattle.leaf.specs.Leaf.{sse}
+use Rattle.motion.specs.declared.svq1_motion_predictor.Svq1Mv.{Svq1Mv}
+use Rattle.motion.specs.Neighbours.{Near, forOne, forFirst, forSecond, forThird, forFourth}
+use Rattle.motion.specs.Grid.{part}
+use Rattle.motion.specs.Search.{Search, searched}
+use Rattle.tree.specs.Blocks.{gather}
+use Rattle.tree.specs.Plan.{Weight, Planning, total, cost}
+use Rattle.tree.specs.TreeBits.{planTree}
+use Rattle.macroblock.specs.Macroblock.{Given, cols, Motion, still, single, four, Choice, skipped, coded, halfOf, leftOf, topOf, baseline, shown, choiceBits}
+
+-- what the writer is given besides
+pub record Task : Type 0 where
+  pub source : List ℕ
+  pub lambda : ℕ
+  pub radius : ℕ
+  pub allowFour : Bool
+
+-- the source, its last column and row repeated to whole macroblocks (`block`)
+unfoldable pub paddedSource : Given → Task → List ℕ
+paddedSource g t =
+    valuesFrom (λ p. getD (t .source) (min (p / g .reference .stride) (g .height - 1) * g .width + min (p % g .reference .stride) (g .width - 1)) 0)
+    (g .reference .stride * g .reference .rows) 0
+
+-- its macroblock k
+unfoldable pub target : Given → Task → ℕ → List ℕ
+target g t k = part 16 (cols g) k (paddedSource g t)
+
+-- ---- vectors
+-- the search for macroblock k, and for its 8×8 block j in raster order
+abbrev pub searchFor : Given → Task → ℕ → Svq1Mv → Search
+searchFor g t k p = record {
+  reference = g .reference;
+  width = g .width;
+  height = g .height;
+  target = target g t k;
+  side = 16;
+  x = leftOf g k;
+  y = topOf g k;
+  predictor = p;
+  radius = t .radius;
+}
+
+abbrev pub blockSearchFor : Given → Task → ℕ → ℕ → Svq1Mv → Search
+blockSearchFor g t k j p = record {
+  reference = g .reference;
+  width = g .width;
+  height = g .height;
+  target = gather 16 8 8 (128 * (j / 2) + 8 * (j % 2)) (target g t k);
+  side = 8;
+  x = leftOf g k + 8 * (j % 2);
+  y = topOf g k + 8 * (j / 2);
+  predictor = p;
+  radius = t .radius;
+}
+
+abbrev pub ifFound : Option Svq1Mv → (Svq1Mv → List Motion) → List Motion
+ifFound none f = []
+ifFound (some v) f = f v
+
+-- one vector, where its search finds it
+unfoldable pub singleTried : Given → Task → ℕ → Near → List Motion
+singleTried g t k n = ifFound (searched (searchFor g t k (forOne n))) (λ v. single v ∷ [])
+
+-- four, where their four searches find them, each predicted from those before it
+unfoldable pub fourTried : Given → Task → ℕ → Near → List Motion
+fourTried g t k n =
+    ifFound (searched (blockSearchFor g t k 0 (forFirst n))) λ a.
+    ifFound (searched (blockSearchFor g t k 1 (forSecond n a))) λ b.
+    ifFound (searched (blockSearchFor g t k 2 (forThird n a b))) λ c.
+    ifFound (searched (blockSearchFor g t k 3 (forFourth a b c))) λ d.
+    four a b c d ∷ []
+
+-- INTER where its search finds, INTRA, and with the flag set INTER_4MV where its searches find
+unfoldable pub motionsTried : Given → Task → ℕ → Near → List Motion
+motionsTried g t k n = singleTried g t k n ++ (still ∷ pick (t .allowFour) (fourTried g t k n) [])
+
+-- ---- plans
+abbrev pub skipsLeaves : Svq1Half → Bool
+skipsLeaves Intra = false
+skipsLeaves Inter = true
+
+-- in a plane a plan has every stage of the level open and, for the inter half, skip too
+unfoldable pub planningFor : Given → Task → ℕ → Motion → Planning
+planningFor g t k m = record {
+  tables = tablesOf (g .book) (halfOf m);
+  vectors = vectorAt (g .codebook) (halfOf m);
+  cap = stagesPerPage;
+  allowSkip = skipsLeaves (halfOf m);
+  lambda = t .lambda;
+  level = 5;
+  target = target g t k;
+  predictor = baseline g k m;
+}
+
+-- ---- candidates
+-- SKIP, INTER, INTRA, INTER_4MV, as far as they are tried
+unfoldable pub tried : Given → Task → ℕ → Near → List Choice
+tried g t k n = skipped ∷ map (λ m. coded m (planTree (planningFor g t k m))) (motionsTried g t k n)
+
+-- a mode's bits are all that it writes, its error the squared distance of what it shows from the padded source
+unfoldable pub weightOf : Given → Task → ℕ → Near → Choice → Weight
+weightOf g t k n c = record { bits = length (choiceBits g n c); err = sse (target g t k) (shown g k c) }
+
+-- d is written and not c: less cost, or the same with fewer bits
+unfoldable pub beats : Given → Task → ℕ → Near → Choice → Choice → Bool
+beats g t k n d c =
+    let a = weightOf g t k n d in
+    let b = weightOf g t k n c in
+    ltb (cost (t .lambda) a) (cost (t .lambda) b) || (eqb (cost (t .lambda) a) (cost (t .lambda) b) && ltb (a .bits) (b .bits))
+
+-- the first that no later one beats
+unfoldable pub bestOf : Given → Task → ℕ → Near → Choice → List Choice → Choice
+bestOf g t k n c [] = c
+bestOf g t k n c (d ∷ ds) = bestOf g t k n (pick (beats g t k n d c) d c) ds
+
+-- what is written for macroblock k: the best of those tried, SKIP first
+abbrev pub bestFrom : Given → Task → ℕ → Near → List Choice → Choice
+bestFrom g t k n [] = skipped
+bestFrom g t k n (c ∷ cs) = bestOf g t k n c cs
+
+unfoldable pub chosen : Given → Task → ℕ → Near → Choice
+chosen g t k n = bestFrom g t k n (tried g t k n)

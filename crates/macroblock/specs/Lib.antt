@@ -1,0 +1,5 @@
+-- The definitions that the contracts of this crate cite.
+pub mod Mode
+pub mod Macroblock
+pub mod Choice
+pub mod Reading

@@ -1,0 +1,35 @@
+-- One macroblock, read from the front of a bit list (document 01, "Reading", refusals 10, 11, 24).
+use Prim.Native.Nat.{ℕ, zero, suc}
+use mathlib.Core.List.{List}
+use Rattle.bits.specs.Codes.{Got, got, then, takeCode}
+use Rattle.book.specs.Book.{tablesOf}
+use Rattle.motion.specs.declared.svq1_motion_predictor.Svq1Mv.{Svq1Mv}
+use Rattle.motion.specs.Vectors.{finalMv, differenceAt}
+use Rattle.motion.specs.Neighbours.{Near, forOne, forFirst, forSecond, forThird, forFourth}
+use Rattle.tree.specs.TreeBits.{readTree}
+use Rattle.macroblock.specs.Macroblock.{Given, Motion, still, single, four, Choice, skipped, coded, halfOf, modeCodes, vectorCodes}
+
+-- a vector: the codes of its differences, x before y, added to the predictor and clipped
+unfoldable pub readVector : Given → Svq1Mv → List ℕ → Got Svq1Mv
+readVector g p bits =
+    then (takeCode (vectorCodes g) bits) λ dx r.
+    then (takeCode (vectorCodes g) r) λ dy q.
+    got (finalMv p (differenceAt dx) (differenceAt dy)) q
+
+-- the tree behind a motion
+unfoldable pub readCoded : Given → Motion → List ℕ → Got Choice
+readCoded g m bits = then (readTree (tablesOf (g .book) (halfOf m)) 5 bits) λ t r. got (coded m t) r
+
+-- what stands behind the mode at a position: 0 INTER, 1 INTER_4MV, 2 INTRA, 3 SKIP
+unfoldable pub readBehind : Given → Near → ℕ → List ℕ → Got Choice
+readBehind g n zero bits = then (readVector g (forOne n) bits) λ v r. readCoded g (single v) r
+readBehind g n (suc zero) bits =
+    then (readVector g (forFirst n) bits) λ a r1.
+    then (readVector g (forSecond n a) r1) λ b r2.
+    then (readVector g (forThird n a b) r2) λ c r3.
+    then (readVector g (forFourth a b c) r3) λ d r4. readCoded g (four a b c d) r4
+readBehind g n (suc (suc zero)) bits = readCoded g still bits
+readBehind g n (suc (suc (suc k))) bits = got skipped bits
+
+unfoldable pub readMacroblock : Given → Near → List ℕ → Got Choice
+readMacroblock g n bits = then (takeCode (modeCodes g) bits) (readBehind g n)

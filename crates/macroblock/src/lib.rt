@@ -1,0 +1,2 @@
+// One macroblock: the modes tried for it, the choice, its writing and its reading.
+pub mod svq1_enc_inter;

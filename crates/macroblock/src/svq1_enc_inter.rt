@@ -1,0 +1,25 @@
+ghost use mathlib.Core.Path.{_≡_};
+ghost use Prim.Native.Nat.{ℕ, _<_};
+ghost use Rattle.macroblock.specs.Mode.{modePosition};
+
+// How a macroblock is coded.
+pub enum Svq1MbMode {
+    Inter,
+    Inter4Mv,
+    Intra,
+    Skip,
+}
+
+impl Svq1MbMode {
+    // The position of the mode's code in the mode table.
+    pub fn position(self) -> usize
+        ensures { λ r. ⌜ (r ≡ modePosition self) × (r < 4) ⌝ }
+    {
+        match self {
+            Svq1MbMode::Inter => 0,
+            Svq1MbMode::Inter4Mv => 1,
+            Svq1MbMode::Intra => 2,
+            Svq1MbMode::Skip => 3,
+        }
+    }
+}
