@@ -1,0 +1,109 @@
+-- A plane, written and read macroblock by macroblock, from any start bit, ended early or not (document 01, "Rust forms that need another build", "Files as they stay", "Reading", refusals 10, 11, 22, 24).
+use Prim.Native.Nat.{ℕ, _+_, _-_, _*_}
+use mathlib.Core.Bool.{Bool}
+use mathlib.Core.List.{List, map}
+use lib.Dec.{leb}
+use lib.IntN.{ℤ}
+use lib.ListN.{length, drop}
+use Rattle.bits.specs.Basics.{pick}
+use Rattle.bits.specs.Bits.{putBits}
+use Rattle.bits.specs.Codes.{Got, got, bad}
+use Rattle.book.specs.House.{signedByte}
+use Rattle.motion.specs.declared.svq1_motion_predictor.Svq1Mv.{Svq1Mv}
+use Rattle.motion.specs.Neighbours.{Near, nearOf}
+use Rattle.motion.specs.Grid.{putPart}
+use Rattle.tree.specs.Plan.{Weight}
+use Rattle.macroblock.specs.Macroblock.{Given, cols, rows, Choice, vectorsOf, shown, choiceBits}
+use Rattle.macroblock.specs.Choice.{Task, weightOf, chosen}
+use Rattle.macroblock.specs.Reading.{readMacroblock}
+use Rattle.plane.specs.Run.{Step, on, stop, End, run, after}
+
+-- the macroblocks of a plane
+abbrev pub count : Given → ℕ
+count g = cols g * rows g
+
+-- the result slices that writer and reader share: the reconstruction, and the block vectors' x and y
+pub record Slices : Type 0 where
+  pub recon : List ℕ
+  pub vx : List ℕ
+  pub vy : List ℕ
+
+-- the neighbours of macroblock k, as the vectors of the macroblocks before it were left
+abbrev pub near : Given → Slices → ℕ → Near
+near g s k = nearOf (cols g) (rows g) (s .vx) (s .vy) k
+
+-- macroblock k of each slice as a choice leaves it
+unfoldable pub laid : Given → ℕ → Choice → Slices → Slices
+laid g k c s = record {
+  recon = putPart 16 (cols g) k (shown g k c) (s .recon);
+  vx = putPart 2 (cols g) k (map (λ v. signedByte (v .x)) (vectorsOf c)) (s .vx);
+  vy = putPart 2 (cols g) k (map (λ v. signedByte (v .y)) (vectorsOf c)) (s .vy);
+}
+
+-- ---- the writer
+-- its state: the output's bits, the next bit, the slices, both totals
+pub record Writing : Type 0 where
+  pub out : List ℕ
+  pub next : ℕ
+  pub slices : Slices
+  pub bits : ℕ
+  pub error : ℕ
+
+-- what is written for macroblock k in a state, and what it weighs
+abbrev pub wrote : Given → Task → ℕ → Writing → Choice
+wrote g t k s = chosen g t k (near g (s .slices) k)
+
+abbrev pub wroteWeight : Given → Task → ℕ → Writing → Weight
+wroteWeight g t k s = weightOf g t k (near g (s .slices) k) (wrote g t k s)
+
+abbrev pub wroteBits : Given → Task → ℕ → Writing → List ℕ
+wroteBits g t k s = choiceBits g (near g (s .slices) k) (wrote g t k s)
+
+-- it fits
+abbrev pub fits : Given → Task → ℕ → Writing → Bool
+fits g t k s = leb (s .next + wroteWeight g t k s .bits) (length (s .out))
+
+-- the state behind it
+unfoldable pub written : Given → Task → ℕ → Writing → Writing
+written g t k s = record {
+  out = putBits (s .out) (s .next) (wroteBits g t k s);
+  next = s .next + wroteWeight g t k s .bits;
+  slices = laid g k (wrote g t k s) (s .slices);
+  bits = s .bits + wroteWeight g t k s .bits;
+  error = s .error + wroteWeight g t k s .err;
+}
+
+-- 22: the next macroblock does not fit
+abbrev pub writeStep : Given → Task → ℕ → Writing → Step Writing
+writeStep g t k s = pick (fits g t k s) (on (written g t k s)) (stop 22)
+
+-- an output's bits, the start bit, and what the slices held
+abbrev pub toWrite : List ℕ → ℕ → Slices → Writing
+toWrite out start s = record { out = out; next = start; slices = s; bits = 0; error = 0 }
+
+unfoldable pub writePlane : Given → Task → List ℕ → ℕ → Slices → End Writing
+writePlane g t out start s = run (writeStep g t) (count g) 0 (toWrite out start s)
+
+-- the state before macroblock k of a plane that is written that far
+abbrev pub writingAt : Given → Task → List ℕ → ℕ → Slices → ℕ → Writing
+writingAt g t out start s k = after (written g t) (toWrite out start s) k
+
+-- ---- the reader, over the bits of a bit string
+pub record ReadingState : Type 0 where
+  pub next : ℕ
+  pub slices : Slices
+
+-- a macroblock that its bits give whole is laid; else 10, 11 or 24, whichever is met first
+abbrev pub taken : Given → ℕ → ℕ → Slices → Got Choice → Step ReadingState
+taken g len k s (got c rest) = on (record { next = len - length rest; slices = laid g k c s })
+taken g len k s (bad n) = stop n
+
+unfoldable pub readStep : Given → List ℕ → ℕ → ReadingState → Step ReadingState
+readStep g bits k r = taken g (length bits) k (r .slices) (readMacroblock g (near g (r .slices) k) (drop (r .next) bits))
+
+-- the first n macroblocks
+unfoldable pub readUpTo : Given → List ℕ → ℕ → Slices → ℕ → End ReadingState
+readUpTo g bits start s n = run (readStep g bits) n 0 (record { next = start; slices = s })
+
+unfoldable pub readPlane : Given → List ℕ → ℕ → Slices → End ReadingState
+readPlane g bits start s = readUpTo g bits start s (count g)

@@ -1,0 +1,2 @@
+// Planes: the writer, the reader, and what is claimed of both.
+pub mod svq1_plane;
