@@ -3,5 +3,6 @@ pub mod Codebook
 pub mod Mean
 pub mod MeanLaws
 pub mod Leaf
+pub mod LeafLaws
 pub mod LeafBits
 pub mod LeafCall

@@ -1,1 +1,3 @@
-pub mod Try
+pub mod Cards
+pub mod Flat
+pub mod Proof

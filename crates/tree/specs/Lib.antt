@@ -1,4 +1,6 @@
--- The definitions that the contracts of this crate cite.
+-- The definitions that the contracts of this crate cite; the laws that callers cite stand in the files named `..Laws`.
 pub mod Blocks
+pub mod BlocksLaws
 pub mod Plan
+pub mod PlanLaws
 pub mod TreeBits

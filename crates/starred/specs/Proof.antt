@@ -1,0 +1,119 @@
+-- The cards hold of the definitions: each is computed; the two planes by way of the law of flat planes.
+-- Assumes nothing.
+use mathlib.Core.Path.{_≡_, refl, ap, _∙_}
+use mathlib.Core.Bool.{true}
+use mathlib.Core.List.{List, [], _∷_}
+use Prim.Native.Nat.{ℕ}
+use lib.ListN.{replicate}
+use Rattle.bits.specs.Basics.{All}
+use Rattle.book.specs.declared.svq1_vlc.Svq1Half.the-variants.{Intra, Inter}
+use Rattle.motion.specs.Vectors.{zeroMv}
+use Rattle.motion.specs.Neighbours.{Near}
+use Rattle.macroblock.specs.Macroblock.{Given, Motion, still, single, four, Choice, skipped, coded, halfOf}
+use Rattle.macroblock.specs.Choice.{Task}
+use Rattle.plane.specs.Plane.{near, Slices}
+use Rattle.tree.specs.TreeBits.{Node, planTree}
+use Rattle.jobs.specs.Job.{Job}
+use Rattle.jobs.specs.Listing.{noSlices}
+use Rattle.starred.specs.Cards.{flatGiven, flatTask, plane, firstLine, firstText, largestLine, largestText, Holds, cards}
+use Rattle.starred.specs.Flat.{flat, flatPlanning, meanLeaf, oneLeaf, tree-is, leaf-at-32, leaf-at-largest}
+use Rattle.bits.specs.Basics.{every, valuesFrom}
+use Rattle.bits.specs.Bits.{msb, bitsOf, cleared, afterBits, putBits}
+use Rattle.bits.specs.Codes.{codesOf}
+use Rattle.book.specs.House.{logUnder, signedRank, rank, houseFrom, houseBook, houseCodebook}
+use Rattle.jobs.specs.Job.{jobRead, jobIn}
+use Rattle.jobs.specs.Listing.{refusedText, totalLine, macroblockLine, linesTo, planeText}
+use Rattle.leaf.specs.Codebook.{rasterOf}
+use Rattle.leaf.specs.Leaf.{sse, seeded, staged, samples, leafShown}
+use Rattle.leaf.specs.LeafBits.{stageBits, leafBits}
+use Rattle.leaf.specs.Mean.{rounded, clampMean, meanOf, saturate}
+use Rattle.macroblock.specs.Choice.{paddedSource, target, singleTried, fourTried, motionsTried, planningFor, tried, weightOf, beats, bestOf, chosen}
+use Rattle.macroblock.specs.Macroblock.{referenceBlock, baseline, shown, vectorBits, motionBits, choiceBits}
+use Rattle.motion.specs.Compensation.{sampleAt, halfSample, movedBlock}
+use Rattle.motion.specs.Grid.{owner, placeIn, part, putFrom, putPart}
+use Rattle.motion.specs.Neighbours.{neighbourAt, nearOf}
+use Rattle.motion.specs.Search.{inWindow, allowed, sad, errorOf, consider, fullAt, rowTo, rowsTo, fullSearch, aroundTo, searchBest, searched}
+use Rattle.motion.specs.Vectors.{median, predicted, codable}
+use Rattle.plane.specs.Plane.{laid, written, writePlane}
+use Rattle.plane.specs.Run.{run, after}
+use Rattle.text.specs.Text.{isNumber, valueFrom, numberUpTo, pieces, allEnded, linesOf, fieldsOf, digitsBefore, decimal, joined, lineOf}
+use Rattle.tree.specs.Blocks.{gather, paint, placeUnder, place, blockOf, paintAt, rebuilt}
+use Rattle.tree.specs.Plan.{shownAt}
+use Rattle.tree.specs.TreeBits.{nodeBits, emit, treeBits, treeShown}
+
+-- the plane of the first two cards, at any lambda
+abbrev job : ℕ → Job
+job lambda = record { width = 16; height = 16; lambda = lambda; radius = 8; allowFour = true }
+
+abbrev given : ℕ → Given
+given lambda = flatGiven (job lambda) 0
+
+abbrev task : ℕ → Task
+task lambda = flatTask (job lambda) 100
+
+-- no macroblock stands before the first
+abbrev around : ℕ → Near
+around lambda = near (given lambda) (noSlices (given lambda)) 0
+
+-- every search finds the zero vector
+motions-are : (lambda : ℕ) → motionsTried (given lambda) (task lambda) 0 (around lambda) ≡ single zeroMv ∷ still ∷ four zeroMv zeroMv zeroMv zeroMv ∷ []
+unfolding paddedSource target part valuesFrom singleTried fourTried motionsTried nearOf neighbourAt predicted median searched searchBest fullSearch rowsTo rowTo aroundTo consider allowed codable inWindow fullAt errorOf sad movedBlock halfSample sampleAt gather
+motions-are lambda = refl
+
+target-is : (lambda : ℕ) → target (given lambda) (task lambda) 0 ≡ flat 256 100
+unfolding paddedSource target part valuesFrom
+target-is lambda = refl
+
+abbrev Over0 : ℕ → Motion → Type 0
+Over0 lambda m = baseline (given lambda) 0 m ≡ flat 256 0
+
+baselines-are : (lambda : ℕ) → All (Over0 lambda) (single zeroMv ∷ still ∷ four zeroMv zeroMv zeroMv zeroMv ∷ [])
+unfolding baseline movedBlock valuesFrom halfSample sampleAt
+baselines-are lambda = (refl, (refl, (refl, tt)))
+
+planning-is : (lambda : ℕ) (m : Motion) → Over0 lambda m → planningFor (given lambda) (task lambda) 0 m ≡ flatPlanning (halfOf m) lambda
+unfolding planningFor
+planning-is lambda m e = rw (target-is lambda, e)
+
+-- what is tried: SKIP, and three times the one leaf
+abbrev tree : List Node
+tree = oneLeaf meanLeaf 62
+
+abbrev candidates : List Choice
+candidates = skipped ∷ coded (single zeroMv) tree ∷ coded still tree ∷ coded (four zeroMv zeroMv zeroMv zeroMv) tree ∷ []
+
+tried-are : (lambda : ℕ) → planTree (flatPlanning Intra lambda) ≡ tree → planTree (flatPlanning Inter lambda) ≡ tree
+    → tried (given lambda) (task lambda) 0 (around lambda) ≡ candidates
+unfolding tried
+tried-are lambda a b =
+    let over = baselines-are lambda in
+    let one = ap planTree (planning-is lambda (single zeroMv) (over .0)) ∙ b in
+    let two = ap planTree (planning-is lambda still (over .1 .0)) ∙ a in
+    let three = ap planTree (planning-is lambda (four zeroMv zeroMv zeroMv zeroMv) (over .1 .1 .0)) ∙ b in
+    rw (motions-are lambda, one, two, three)
+
+-- INTRA wins at lambda 32; at the largest lambda all costs are equal and SKIP has the fewest bits
+chosen-at-32 : chosen (given 32) (task 32) 0 (around 32) ≡ coded still tree
+unfolding chosen bestOf beats weightOf codesOf msb houseBook houseFrom rank signedRank logUnder vectorBits motionBits choiceBits nodeBits emit treeBits leafBits stageBits shown treeShown rebuilt paintAt paint blockOf gather place placeUnder shownAt leafShown staged samples seeded saturate baseline movedBlock valuesFrom halfSample sampleAt referenceBlock part sse paddedSource target nearOf neighbourAt predicted median
+chosen-at-32 = rw (tried-are 32 (tree-is Intra 32 (leaf-at-32 Intra)) (tree-is Inter 32 (leaf-at-32 Inter)))
+
+abbrev largest : ℕ
+largest = 18446744073709551615
+
+chosen-at-largest : chosen (given largest) (task largest) 0 (around largest) ≡ skipped
+unfolding chosen bestOf beats weightOf codesOf msb houseBook houseFrom rank signedRank logUnder vectorBits motionBits choiceBits nodeBits emit treeBits leafBits stageBits shown treeShown rebuilt paintAt paint blockOf gather place placeUnder shownAt leafShown staged samples seeded saturate baseline movedBlock valuesFrom halfSample sampleAt referenceBlock part sse paddedSource target nearOf neighbourAt predicted median
+chosen-at-largest = rw (tried-are largest (tree-is Intra largest (leaf-at-largest Intra)) (tree-is Inter largest (leaf-at-largest Inter)))
+
+-- what is written and listed for a plane of one macroblock, once the choice is known
+first-card : Holds (plane firstLine (job 32) 100 0 (0x21 ∷ 0x01 ∷ 0x94 ∷ []) firstText)
+unfolding jobIn jobRead linesOf fieldsOf pieces allEnded numberUpTo isNumber valueFrom every writePlane run after written weightOf putBits afterBits cleared bitsOf planeText linesTo macroblockLine totalLine lineOf joined decimal digitsBefore codesOf msb houseBook houseFrom rank signedRank logUnder vectorBits motionBits choiceBits nodeBits emit treeBits leafBits stageBits shown treeShown rebuilt paintAt paint blockOf gather place placeUnder shownAt leafShown staged samples seeded saturate baseline movedBlock valuesFrom halfSample sampleAt referenceBlock part sse paddedSource target
+first-card = (refl, rw chosen-at-32, rw chosen-at-32)
+
+largest-card : Holds (plane largestLine (job largest) 100 0 (0x80 ∷ []) largestText)
+unfolding jobIn jobRead linesOf fieldsOf pieces allEnded numberUpTo isNumber valueFrom every writePlane run after written weightOf putBits afterBits cleared bitsOf planeText linesTo macroblockLine totalLine lineOf joined decimal digitsBefore codesOf msb houseBook houseFrom rank signedRank logUnder vectorBits motionBits choiceBits nodeBits emit treeBits leafBits stageBits shown treeShown rebuilt paintAt paint blockOf gather place placeUnder shownAt leafShown staged samples seeded saturate baseline movedBlock valuesFrom halfSample sampleAt referenceBlock part sse paddedSource target
+largest-card = (refl, rw chosen-at-largest, rw chosen-at-largest)
+
+-- THE CARDS
+pub starred : All Holds cards
+unfolding meanOf rounded clampMean predicted median rasterOf valuesFrom searched searchBest fullSearch rowsTo rowTo aroundTo consider allowed codable inWindow fullAt errorOf sad movedBlock halfSample sampleAt
+starred = (first-card, (largest-card, (refl, (refl, (refl, (refl, (refl, (refl, (refl, (refl, (refl, (refl, (refl, tt)))))))))))))
