@@ -181,3 +181,9 @@ good-whole [] e = refl
 good-whole (h ∷ []) e = absurd (true≢false (sym e))
 good-whole (h ∷ l ∷ []) e = absurd (true≢false (sym e))
 good-whole (h ∷ l ∷ n ∷ t) e = omega (arith, good-whole t (both-true (goodEntry (h * 256 + l) n) (goodTable t) e .1))
+
+-- none of its codes is longer than 32 bits
+pub code-fits : (t : List ℕ) → goodTable t ≡ true → (k : ℕ) → k < length (codesOf t) → length (code (codesOf t) k) ≤ 32
+code-fits t g k h =
+    let l : k < length t / 3 = rw length-codesOf at h in
+    rw (code-at t k l, length-msb) (good-is t g .long k l)

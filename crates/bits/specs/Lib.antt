@@ -7,3 +7,4 @@ pub mod ReadLaws
 pub mod Codes
 pub mod CodesLaws
 pub mod CodeReadLaws
+pub mod Calls

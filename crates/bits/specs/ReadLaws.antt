@@ -1,14 +1,17 @@
 -- Laws of reading bits: a run of bits as a number, and the bits of a list of bytes from a bit on. Upper layers cite bytes-same, valOf-msb and run-lt.
 use mathlib.Core.Path.{_≡_, refl, sym, ap, _∙_, subst}
+use mathlib.Core.Bool.{Bool, true, false}
 use mathlib.Core.List.{List, [], _∷_, _++_, append-assoc}
-use Prim.Native.Nat.{ℕ, zero, suc, _+_, _-_, _*_, _/_, _%_, _^_, _≤_, _<_}
+use Prim.Native.Nat.{ℕ, zero, suc, _+_, _-_, _*_, _/_, _%_, _^_, _≤_, _<_, min}
 use native.Mathlib.Nat.{mul-assoc, add-mul, pow-succ'}
 use native.Mathlib.Numerals.{one-add}
 use native.Mathlib.Omega.{arith}
+use lib.Dec.{leb}
 use lib.ListN.{length, take, drop, getD, length-append, length-drop}
-use lib.Seq.{split-at, take-at, drop-at, length-take-le, drop-drop, take-add}
+use lib.Seq.{split-at, take-at, drop-at, length-take-le, drop-drop, take-add, take-all, take-length}
 use lib.Pow.{pow-add, mod-pow-add, high}
 use lib.Arith.{digits-lt}
+use borrow.Author.Tests.{leb-true, leb-false}
 use Rattle.bits.specs.Bits.{msb, valOf, bitsOf}
 use Rattle.bits.specs.BitsLaws.{bitsOf-append, msb-split, msb-low, length-msb, length-bitsOf}
 
@@ -118,3 +121,17 @@ bytes-same (a ∷ s) (b ∷ t) hs ht e =
     let hb : b < 256 = ht 0 in
     let same : a ≡ b = omega arith in
     rw same (ap (λ (l : List ℕ). b ∷ l) (bytes-same s t (λ k. hs (suc k)) (λ k. ht (suc k)) rest))
+
+-- what is read at most n bits ahead
+pub take-min : (n : ℕ) (l : List ℕ) → take (min n (length l)) l ≡ take n l
+take-min n l = go (leb (length l) n) refl
+  where
+    go : (b : Bool) → leb (length l) n ≡ b → take (min n (length l)) l ≡ take n l
+    go true e =
+        let h = leb-true (length l) n e in
+        let m : min n (length l) ≡ length l = omega arith in
+        rw m (take-length l ∙ sym (take-all n l h))
+    go false e =
+        let h = leb-false (length l) n e in
+        let m : min n (length l) ≡ n = omega arith in
+        rw m

@@ -1,0 +1,85 @@
+use native.Mathlib.Omega.{arith}
+use Prim.Native.Nat.{ℕ, _+_, _-_, _*_, _/_, _≤_, _<_}
+use mathlib.Core.Path.{_≡_, refl, sym, ap, _∙_}
+use mathlib.Core.Bool.{true, false}
+use mathlib.Core.List.{List, []}
+use borrow.Author.Needs.{needs}
+use borrow.Author.Count.{below-more}
+use denote.Ref.{now}
+use lib.ListN.{length, getD}
+use Rattle.bits.specs.Bits.{msb}
+use Rattle.bits.specs.CodeReadLaws.{start-none, start-some}
+use Rattle.bits.specs.Codes.{begins, codesOf, code}
+use Rattle.bits.specs.CodesLaws.{good-is, code-at, length-codesOf}
+use Rattle.bits.proofs.inner.find_code.Statement.{statement}
+use Rattle.bits.proofs.inner.find_code.Tie as tie
+use Rattle.bits.proofs.inner.find_code.Reads as reads
+use Rattle.bits.proofs.inner.find_code.Lts as lts
+use Rattle.bits.proofs.inner.begins_bits.Reads as begins-bits-reads
+use Rattle.bits.proofs.inner.entry_len.Reads as entry-len-reads
+use Rattle.bits.proofs.inner.entry_val.Reads as entry-val-reads
+
+abbrev Inv-loop : tie.InvT-loop
+Inv-loop table w m n i₀ i = (i ≤ length table / 3) × ((k : ℕ) → k < i → begins (code (codesOf table) k) (msb m w) ≡ false)
+
+abbrev μ-loop : tie.MeasureT-loop
+μ-loop table w m n i₀ i = length table / 3 - i
+
+loop-holds : tie.Need-loop-holds Inv-loop μ-loop
+loop-holds c = (omega arith, λ k h. absurd (omega arith))
+
+entry-val-requires : tie.Need-entry-val-requires Inv-loop μ-loop
+entry-val-requires c κs = omega arith
+
+entry-len-requires : tie.Need-entry-len-requires Inv-loop μ-loop
+entry-len-requires c κs = omega arith
+
+begins-bits-requires : tie.Need-begins-bits-requires Inv-loop μ-loop
+begins-bits-requires c κs =
+    let u = c .before .before .before in
+    let s = u .before .before in
+    let g = good-is (now (s .args .table)) (s .pre .2) in
+    let i : ℕ = u .loop .i in
+    let h : i < length (now (s .args .table)) / 3 = omega arith in
+    (rw (c .entry-len .ensures) (g .long i h), s .pre .0, rw (c .entry-len .ensures, c .before .entry-val .ensures) (g .small i h), s .pre .1)
+
+-- what the test says of the entry's code
+tested : (c : tie.After-begins-bits Inv-loop μ-loop) →
+    let u = c .before .before .before .before in
+    let a = u .before .before .args in
+    c .begins-bits .result ≡ begins (code (codesOf (now (a .table))) (u .loop .i)) (msb (a .m) (a .w))
+tested c =
+    let u = c .before .before .before .before in
+    let a = u .before .before .args in
+    rw (code-at (now (a .table)) (u .loop .i) (omega arith), ← c .before .entry-len .ensures, ← c .before .before .entry-val .ensures) (c .begins-bits .ensures)
+
+returns : tie.Need-returns Inv-loop μ-loop
+returns c = (omega arith, (c .before .before .before .before .before .loop .inv .1, λ _. sym (tested (c .before)) ∙ c .if1 .taken))
+
+add-i : tie.Need-add-i Inv-loop μ-loop
+add-i c = omega arith
+
+loop-less : tie.Need-loop-less Inv-loop μ-loop
+loop-less c = omega arith
+
+loop-again : tie.Need-loop-again Inv-loop μ-loop
+loop-again c = (omega arith, below-more _ _ (c .before .before .before .before .before .loop .inv .1) (sym (tested (c .before)) ∙ c .if1 .left))
+
+returns-2 : tie.Need-returns-2 Inv-loop μ-loop
+returns-2 c = (omega arith, (c .before .loop .inv .1, λ h. absurd (omega arith)))
+
+pub find-code-spec : {M : Type 1} → statement M
+find-code-spec =
+    tie.close
+    (tie.spec
+    Inv-loop
+    μ-loop
+    loop-holds
+    entry-val-requires
+    entry-len-requires
+    begins-bits-requires
+    returns
+    add-i
+    loop-less
+    loop-again
+    returns-2)

@@ -1,0 +1,43 @@
+use Prim.Native.Nat.{ℕ, _+_, _*_}
+use native.Mathlib.Omega.{arith}
+use denote.Ref.{now}
+use Rattle.bits.specs.BitsLaws.{length-msb}
+use Rattle.bits.specs.CodesLaws.{code-at}
+use borrow.Author.Needs.{needs}
+use Rattle.bits.proofs.inner.put_code.Statement.{statement}
+use Rattle.bits.proofs.inner.put_code.Tie as tie
+use Rattle.bits.proofs.inner.put_code.Reads as reads
+use Rattle.bits.proofs.inner.put_code.Lts as lts
+use Rattle.bits.proofs.inner.entry_len.Reads as entry-len-reads
+use Rattle.bits.proofs.inner.entry_val.Reads as entry-val-reads
+use Rattle.bits.proofs.inner.put_bits.Reads as put-bits-reads
+
+entry-len-requires : tie.Need-entry-len-requires
+entry-len-requires c κs = search needs
+
+entry-val-requires : tie.Need-entry-val-requires
+entry-val-requires c κs = search needs
+
+cast-val : tie.Need-cast-val
+cast-val c =
+    let k : ℕ = c .before .before .before .before .args .k in
+    let known = c .before .before .shared-slice-known .given in
+    omega (arith, known (3 * k), known (3 * k + 1))
+
+put-bits-requires : tie.Need-put-bits-requires
+put-bits-requires c κs = search needs
+
+same-length : tie.Need-same-length
+same-length c = search needs
+
+returns : tie.Need-returns
+returns c =
+    let v = c .before .before .before .before in
+    let s = v .before .before .before .before in
+    let p = c .before .before .put-bits in
+    rw (code-at (now (s .args .table)) (s .args .k) (s .pre .0), length-msb, ← v .before .entry-len .ensures, ← v .entry-val .ensures) (p .ensures .0, p .ensures .1)
+
+pub put-code-spec : {M : Type 1} → statement M
+put-code-spec =
+    tie.close
+    (tie.spec entry-len-requires entry-val-requires cast-val put-bits-requires same-length returns)
