@@ -1,7 +1,7 @@
 -- Laws of bit lists: what bits put into a byte slice come to. Upper layers cite put-nil, put-put, put-length and the lengths.
+use Prim.Native.Nat.{ℕ, zero, suc, _+_, _-_, _*_, _/_, _%_, _^_, _≤_, _<_}
 use mathlib.Core.Path.{_≡_, refl, sym, ap, _∙_, subst}
 use mathlib.Core.List.{List, [], _∷_, _++_, append-assoc, append-nil}
-use Prim.Native.Nat.{ℕ, zero, suc, _+_, _-_, _*_, _/_, _%_, _^_, _≤_, _<_}
 use native.Mathlib.Nat.{add-zero, zero-add, suc-add, add-comm, mul-assoc, pow-succ', mul-add-div-right, zero-div}
 use native.Mathlib.Omega.{arith}
 use lib.ListN.{length, take, drop, getD, set, replicate, length-append, length-replicate, length-drop, take-append-drop}
@@ -56,7 +56,7 @@ unfolding laid cleared
 laid-at A L T xs at z ha hl he =
     let hz : byteEnd (at + length xs) - (at + length xs) ≡ z = omega arith in
     let hd : drop (byteEnd (at + length xs)) (A ++ (L ++ T)) ≡ T =
-        rw (he, ← append-assoc A L T) (drop-at (A ++ L) T (at + length L) (rw length-append (omega arith))) in
+    rw (he, ← append-assoc A L T) (drop-at (A ++ L) T (at + length L) (rw length-append (omega arith))) in
     rw (hz, hd, take-at A (L ++ T) at ha)
 
 -- two runs of bits, one after the other, are one run
@@ -75,11 +75,11 @@ laid-laid bs xs ys at h =
     let hm : byteEnd m ≡ length (A ++ (xs ++ Z)) + (byteEnd m - byteEnd n) = omega arith in
     let back : byteEnd n + (byteEnd m - byteEnd n) ≡ byteEnd m = omega arith in
     let hd : drop (byteEnd m) (A ++ (xs ++ (Z ++ D))) ≡ drop (byteEnd m) bs =
-        rw (← append-assoc xs Z D, ← append-assoc A (xs ++ Z) D)
-        (ap (λ (k : ℕ). drop k ((A ++ (xs ++ Z)) ++ D)) hm
-        ∙ drop-append-add (A ++ (xs ++ Z)) D (byteEnd m - byteEnd n)
-        ∙ drop-drop (byteEnd m - byteEnd n) (byteEnd n) bs
-        ∙ ap (λ (k : ℕ). drop k bs) back) in
+    rw (← append-assoc xs Z D, ← append-assoc A (xs ++ Z) D)
+    (ap (λ (k : ℕ). drop k ((A ++ (xs ++ Z)) ++ D)) hm
+    ∙ drop-append-add (A ++ (xs ++ Z)) D (byteEnd m - byteEnd n)
+    ∙ drop-drop (byteEnd m - byteEnd n) (byteEnd n) bs
+    ∙ ap (λ (k : ℕ). drop k bs) back) in
     let hl : at + length (xs ++ ys) ≡ m = rw length-append (omega arith) in
     rw (ht, hd, hl) (simp append-assoc)
 
@@ -119,12 +119,20 @@ put-byte p t b r n z v e h hv =
     let Z : List ℕ = replicate z 0 in
     let T : List ℕ = bitsOf t in
     let new : msb 8 (b / 2 ^ (n + z) * 2 ^ (n + z) + v * 2 ^ z) ≡ H ++ (W ++ Z) =
-        subst (λ (k : ℕ). msb k (b / 2 ^ (n + z) * 2 ^ (n + z) + v * 2 ^ z) ≡ H ++ (W ++ Z)) e (byte-bits b r n z v hv) in
+    subst (λ (k : ℕ). msb k (b / 2 ^ (n + z) * 2 ^ (n + z) + v * 2 ^ z) ≡ H ++ (W ++ Z)) e (byte-bits b r n z v hv) in
     let old : msb 8 b ≡ H ++ L = subst (λ (k : ℕ). msb k b ≡ H ++ L) e (msb-split r (n + z) b) in
     let hp : length (P ++ H) ≡ 8 * length p + r = simp (length-append, length-msb, length-bitsOf) in
     let he : byteEnd (8 * length p + r + length W) ≡ 8 * length p + r + length L = simp length-msb (omega arith) in
-    rw (bitsOf-append p (b ∷ t), bitsOf-append p ((b / 2 ^ (n + z) * 2 ^ (n + z) + v * 2 ^ z) ∷ t), new, old, append-assoc H L T, ← append-assoc P H (L ++ T),
-      put-some ((P ++ H) ++ (L ++ T)) W (8 * length p + r) (simp length-msb h), laid-at (P ++ H) L T W (8 * length p + r) z hp (simp length-msb) he)
+    rw (
+      bitsOf-append p (b ∷ t),
+      bitsOf-append p ((b / 2 ^ (n + z) * 2 ^ (n + z) + v * 2 ^ z) ∷ t),
+      new,
+      old,
+      append-assoc H L T,
+      ← append-assoc P H (L ++ T),
+      put-some ((P ++ H) ++ (L ++ T)) W (8 * length p + r) (simp length-msb h),
+      laid-at (P ++ H) L T W (8 * length p + r) z hp (simp length-msb) he,
+    )
     (simp append-assoc)
 
 -- the same at an index of a list of bytes
@@ -134,7 +142,7 @@ put-set s q r n z v hq e h hv =
     let p : List ℕ = take q s in
     let hp : length p ≡ q = length-take-le q s (omega arith) in
     let k : putBits (bitsOf (p ++ getD s q 0 ∷ drop (suc q) s)) (8 * length p + r) (msb n v) ≡ putBits (bitsOf s) (8 * q + r) (msb n v) =
-        rw (hp, ← split-at s q 0 hq) in
+    rw (hp, ← split-at s q 0 hq) in
     rw (set-split s q _ hq) (put-byte p (drop (suc q) s) (getD s q 0) r n z v e h hv ∙ k)
 
 pub msb-mod : (n x : ℕ) → msb n (x % 2 ^ n) ≡ msb n x
@@ -150,7 +158,7 @@ put-more bs at w l n v hn hl h =
     let k : w - (l - n) ≡ w - l + n = omega arith in
     let two : msb (w - (l - n)) (v / 2 ^ (l - n)) ≡ X ++ Y = rw (k, msb-split (w - l) n (v / 2 ^ (l - n)), shr-shr v (l - n) n, back) in
     let one : putBits (putBits bs at X) (at + (w - l)) Y ≡ putBits bs at (X ++ Y) =
-        subst (λ (m : ℕ). putBits (putBits bs at X) (at + m) Y ≡ putBits bs at (X ++ Y)) (length-msb (w - l) (v / 2 ^ l)) (put-put bs X Y at h) in
+    subst (λ (m : ℕ). putBits (putBits bs at X) (at + m) Y ≡ putBits bs at (X ++ Y)) (length-msb (w - l) (v / 2 ^ l)) (put-put bs X Y at h) in
     rw (msb-mod n (v / 2 ^ (l - n)), two) one
 
 -- the sum of a byte's high bits and lower ones is a byte

@@ -1,8 +1,8 @@
 -- Laws of reading a code: what was written is read back. Upper layers cite read-at, read-put, read-after, code-at-bit, take-code and take-bits.
+use Prim.Native.Nat.{ℕ, zero, suc, _+_, _^_, _≤_, _<_, suc-le-suc}
 use mathlib.Core.Path.{_≡_, refl, sym, ap, _∙_}
 use mathlib.Core.Bool.{Bool, true, false, true≢false}
 use mathlib.Core.List.{List, [], _∷_, _++_, append-assoc}
-use Prim.Native.Nat.{ℕ, zero, suc, _+_, _^_, _≤_, _<_, suc-le-suc}
 use native.Mathlib.Omega.{arith}
 use native.Mathlib.Nat.{not-suc-le-zero, le-of-suc-le-suc, mod-eq-of-lt, add-zero, zero-add}
 use lib.Dec.{eqb}
@@ -14,7 +14,7 @@ use Rattle.bits.specs.BasicsLaws.{both-true, either-right, is-false}
 use Rattle.bits.specs.Bits.{msb, putBits}
 use Rattle.bits.specs.BitsLaws.{drop-put, drop-after, length-msb}
 use Rattle.bits.specs.ReadLaws.{valOf-msb}
-use Rattle.bits.specs.Codes.{begins, clash, apart, prefixFree, code, firstCode, anyStart, readCode, Got, got, bad, codeGot, takeCode, takeBits}
+use Rattle.bits.specs.Codes.{begins, clash, apart, prefixFree, code, firstCode, anyStart, readCode, got, codeGot, takeCode, takeBits}
 use Rattle.bits.specs.CodesLaws.{begins-append, begins-window, starts-window, eqb-swap, apart-at}
 use Rattle.bits.specs.declared.svq1_vlc.CodeRead.{CodeRead}
 use Rattle.bits.specs.declared.svq1_vlc.CodeRead.the-variants.{Code, NoCode, Ends}
@@ -84,8 +84,10 @@ start-window : (cs : List (List ℕ)) (bs : List ℕ) (n : ℕ) → ((k : ℕ) �
 unfolding anyStart
 start-window [] bs n h e = refl
 start-window (c ∷ cs) bs n h e =
-    rw (starts-window c bs n (h 0 (omega arith)) (e 0 (omega arith)),
-      start-window cs bs n (λ k l. h (suc k) (suc-le-suc l)) (λ k l. e (suc k) (suc-le-suc l)))
+    rw (
+      starts-window c bs n (h 0 (omega arith)) (e 0 (omega arith)),
+      start-window cs bs n (λ k l. h (suc k) (suc-le-suc l)) (λ k l. e (suc k) (suc-le-suc l)),
+    )
 
 -- reading by the first n bits, where no code is longer
 module _ (cs : List (List ℕ)) (bits : List ℕ) (at n : ℕ) (fits : (k : ℕ) → k < length cs → length (code cs k) ≤ n) where

@@ -1,8 +1,8 @@
 -- Laws of tables of codes: what begins a run of bits, a code by its entry, good and prefix-free tables. Upper layers cite code-at, length-codesOf, good-is.
+use Prim.Native.Nat.{ℕ, zero, suc, _+_, _-_, _*_, _/_, _%_, _^_, _≤_, _<_}
 use mathlib.Core.Path.{_≡_, refl, sym, ap, _∙_, subst}
 use mathlib.Core.Bool.{Bool, true, false, not, _&&_, true≢false}
 use mathlib.Core.List.{List, [], _∷_, _++_}
-use Prim.Native.Nat.{ℕ, zero, suc, _+_, _-_, _*_, _/_, _%_, _^_, _≤_, _<_}
 use native.Mathlib.Numerals.{add-one}
 use native.Mathlib.Omega.{arith}
 use native.Mathlib.Nat.{not-suc-le-zero, le-of-suc-le-suc, mod-eq-of-lt}
@@ -76,11 +76,11 @@ begins-msb a b x y h hx hy =
     go z hz r true q = rw (q, eqb-true z x q) (begins-append (msb a x) r)
     go z hz r false q =
         rw q (is-false (begins (msb a x) (msb a z ++ r)) (λ t.
-          let whole = begins-true (msb a x) (msb a z ++ r) t in
-          let same : msb a z ≡ msb a x =
-              sym (take-at (msb a z) r a (length-msb a z)) ∙ ap (take a) whole ∙ take-at (msb a x) _ a (length-msb a x) in
-          let val : z % 2 ^ a ≡ x % 2 ^ a = sym (valOf-msb a z) ∙ ap valOf same ∙ valOf-msb a x in
-          eqb-false z x q (sym (mod-eq-of-lt hz) ∙ val ∙ mod-eq-of-lt hx)))
+        let whole = begins-true (msb a x) (msb a z ++ r) t in
+        let same : msb a z ≡ msb a x =
+        sym (take-at (msb a z) r a (length-msb a z)) ∙ ap (take a) whole ∙ take-at (msb a x) _ a (length-msb a x) in
+        let val : z % 2 ^ a ≡ x % 2 ^ a = sym (valOf-msb a z) ∙ ap valOf same ∙ valOf-msb a x in
+        eqb-false z x q (sym (mod-eq-of-lt hz) ∙ val ∙ mod-eq-of-lt hx)))
 
 -- ---- a table's codes
 pub length-codesOf : (t : List ℕ) → length (codesOf t) ≡ length t / 3
@@ -150,13 +150,13 @@ good-at (h ∷ l ∷ n ∷ t) (suc k) e lt =
 pub good-is : (t : List ℕ) → goodTable t ≡ true → GoodTable t
 good-is t e =
     let two : (k : ℕ) → k < length t / 3 → ((leb 1 (codeLen t k) && leb (codeLen t k) 32) ≡ true) × (ltb (codeVal t k) (2 ^ codeLen t k) ≡ true) =
-        λ k h. both-true (leb 1 (codeLen t k) && leb (codeLen t k) 32) (ltb (codeVal t k) (2 ^ codeLen t k)) (good-at t k e h) in
+    λ k h. both-true (leb 1 (codeLen t k) && leb (codeLen t k) 32) (ltb (codeVal t k) (2 ^ codeLen t k)) (good-at t k e h) in
     let one : (k : ℕ) → k < length t / 3 → (leb 1 (codeLen t k) ≡ true) × (leb (codeLen t k) 32 ≡ true) =
-        λ k h. both-true (leb 1 (codeLen t k)) (leb (codeLen t k) 32) (two k h .0) in
+    λ k h. both-true (leb 1 (codeLen t k)) (leb (codeLen t k) 32) (two k h .0) in
     record {
       some = λ k h. leb-true 1 (codeLen t k) (one k h .0);
       long = λ k h. leb-true (codeLen t k) 32 (one k h .1);
-      small = λ k h. ltb-true (codeVal t k) (2 ^ codeLen t k) (two k h .1)
+      small = λ k h. ltb-true (codeVal t k) (2 ^ codeLen t k) (two k h .1);
     }
 
 pub good-step : (t : List ℕ) (i : ℕ) → i < length t / 3

@@ -8,3 +8,4 @@ pub mod Codes
 pub mod CodesLaws
 pub mod CodeReadLaws
 pub mod Calls
+pub mod CallsLaws

@@ -1,8 +1,8 @@
 -- Laws of reading bits: a run of bits as a number, and the bits of a list of bytes from a bit on. Upper layers cite bytes-same, valOf-msb and run-lt.
+use Prim.Native.Nat.{ℕ, zero, suc, _+_, _*_, _/_, _%_, _^_, _≤_, _<_, min}
 use mathlib.Core.Path.{_≡_, refl, sym, ap, _∙_, subst}
 use mathlib.Core.Bool.{Bool, true, false}
 use mathlib.Core.List.{List, [], _∷_, _++_, append-assoc}
-use Prim.Native.Nat.{ℕ, zero, suc, _+_, _-_, _*_, _/_, _%_, _^_, _≤_, _<_, min}
 use native.Mathlib.Nat.{mul-assoc, add-mul, pow-succ'}
 use native.Mathlib.Numerals.{one-add}
 use native.Mathlib.Omega.{arith}
@@ -38,9 +38,9 @@ part-bits s q r k z hq e =
     let K : List ℕ = msb k (b / 2 ^ z) in
     let R : List ℕ = msb z b ++ bitsOf (drop (suc q) s) in
     let byte : msb 8 b ≡ H ++ (K ++ msb z b) =
-        subst (λ (n : ℕ). msb n b ≡ H ++ (K ++ msb z b)) e (rw (msb-split r (k + z) b, msb-split k z b)) in
+    subst (λ (n : ℕ). msb n b ≡ H ++ (K ++ msb z b)) e (rw (msb-split r (k + z) b, msb-split k z b)) in
     let whole : bitsOf s ≡ (P ++ H) ++ (K ++ R) =
-        ap bitsOf (split-at s q 0 hq) ∙ bitsOf-append (take q s) (b ∷ drop (suc q) s) ∙ rw byte (simp append-assoc) in
+    ap bitsOf (split-at s q 0 hq) ∙ bitsOf-append (take q s) (b ∷ drop (suc q) s) ∙ rw byte (simp append-assoc) in
     let hp : length (P ++ H) ≡ 8 * q + r = rw (length-append P H, length-bitsOf (take q s), length-take-le q s (omega arith), length-msb r (b / 2 ^ (k + z))) in
     rw (whole, drop-at (P ++ H) (K ++ R) (8 * q + r) hp) (take-at K R k (length-msb k (b / 2 ^ z)))
 

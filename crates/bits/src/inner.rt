@@ -7,7 +7,6 @@ ghost use lib.ListN.{length, take, drop};
 ghost use Rattle.bits.specs.Bits.{msb, valOf, bitsOf, putBits};
 ghost use Rattle.bits.specs.Calls.{startRefusal, roomRefusal, bitsRefusal};
 ghost use Rattle.bits.specs.Codes.{begins, code, codesOf, codeLen, codeVal, anyStart, readCode, apart, prefixFree, goodEntry, goodTable};
-
 use super::svq1_vlc::CodeRead;
 
 // The byte b with its low k bits replaced by v shifted up by z.

@@ -4,7 +4,6 @@ ghost use lib.ListN.{length};
 ghost use Rattle.bits.specs.Bits.{msb};
 ghost use Rattle.bits.specs.Codes.{code, codesOf};
 ghost use Rattle.bits.specs.Calls.{entryRefusal, bitsRefusal, codeRefusal, Put};
-
 use super::inner;
 
 // The bit behind what was written, or the number of a refusal.
@@ -34,7 +33,10 @@ fn entry_refusal(table: &[u8], position: usize) -> u8
     if table.len() / 3 <= position {
         return 5;
     }
-    if inner::good_entry(inner::entry_val(table, position), inner::entry_len(table, position)) {
+    if inner::good_entry(
+        inner::entry_val(table, position),
+        inner::entry_len(table, position),
+    ) {
         return 0;
     }
     6

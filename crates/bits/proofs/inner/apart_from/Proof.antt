@@ -1,19 +1,14 @@
-use Prim.Native.Nat.{ℕ, _+_, _-_, _*_, _/_, _^_, _≤_, _<_}
-use mathlib.Core.Path.{_≡_, refl, sym, ap, _∙_}
-use mathlib.Core.Bool.{Bool, true, false, not, _&&_}
-use mathlib.Core.List.{List, []}
+use Prim.Native.Nat.{ℕ, _+_, _-_, _/_, _^_, _≤_, _<_}
+use mathlib.Core.Path.{_≡_, refl, sym, _∙_}
+use mathlib.Core.Bool.{not, _&&_}
+use mathlib.Core.List.{List}
 use native.Mathlib.Omega.{arith}
 use denote.Ref.{now}
-use lib.ListN.{length, getD, drop}
-use Rattle.bits.specs.Codes.{begins, clash, codesOf, apart, code, goodTable}
+use lib.ListN.{length, drop}
+use Rattle.bits.specs.Codes.{begins, clash, codesOf, apart, code}
 use Rattle.bits.specs.CodesLaws.{code-at, length-codesOf, apart-step, apart-end, good-is}
 use Rattle.bits.proofs.inner.apart_from.Statement.{statement}
 use Rattle.bits.proofs.inner.apart_from.Tie as tie
-use Rattle.bits.proofs.inner.apart_from.Reads as reads
-use Rattle.bits.proofs.inner.apart_from.Lts as lts
-use Rattle.bits.proofs.inner.begins_bits.Reads as begins-bits-reads
-use Rattle.bits.proofs.inner.entry_len.Reads as entry-len-reads
-use Rattle.bits.proofs.inner.entry_val.Reads as entry-val-reads
 
 abbrev Inv-loop : tie.InvT-loop
 Inv-loop table i n x a j₀ j = apart (code (codesOf table) i) (drop (i + 1) (codesOf table)) ≡ apart (code (codesOf table) i) (drop j (codesOf table))
@@ -50,9 +45,12 @@ good c =
     let g = good-is (now (s .args .table)) (s .pre .1) in
     let j : ℕ = u .loop .j in
     let h : j < length (now (s .args .table)) / 3 = omega arith in
-    let i : ℕ = s .args .i in
-    (rw (x .entry-len .ensures) (g .long i (s .pre .0)), rw (c .entry-len2 .ensures) (g .long j h),
-      rw (x .entry-len .ensures, x .before .entry-val .ensures) (g .small i (s .pre .0)), rw (c .entry-len2 .ensures, c .before .entry-val2 .ensures) (g .small j h))
+    let i : ℕ = s .args .i in (
+      rw (x .entry-len .ensures) (g .long i (s .pre .0)),
+      rw (c .entry-len2 .ensures) (g .long j h),
+      rw (x .entry-len .ensures, x .before .entry-val .ensures) (g .small i (s .pre .0)),
+      rw (c .entry-len2 .ensures, c .before .entry-val2 .ensures) (g .small j h),
+    )
 
 -- what the two tests say
 first : (c : tie.After-begins-bits Inv-loop μ-loop) →

@@ -1,12 +1,10 @@
 use mathlib.Core.Path.{sym}
+use borrow.Author.Needs.{needs}
 use Rattle.bits.specs.Bits.{msb}
 use Rattle.bits.specs.BitsLaws.{length-msb}
 use Rattle.bits.specs.CodesLaws.{begins-msb, begins-long}
-use borrow.Author.Needs.{needs}
 use Rattle.bits.proofs.inner.begins_bits.Statement.{statement}
 use Rattle.bits.proofs.inner.begins_bits.Tie as tie
-use Rattle.bits.proofs.inner.begins_bits.Reads as reads
-use Rattle.bits.proofs.inner.begins_bits.Lts as lts
 
 cast-result : tie.Need-cast-result
 cast-result c = search needs

@@ -1,11 +1,9 @@
 use Prim.Native.Nat.{_+_, _*_, _/_, _^_, _<_}
 use native.Mathlib.Omega.{arith}
-use Rattle.bits.specs.BitsLaws.{byte-lt}
 use borrow.Author.Needs.{needs}
+use Rattle.bits.specs.BitsLaws.{byte-lt}
 use Rattle.bits.proofs.inner.byte_with.Statement.{statement}
 use Rattle.bits.proofs.inner.byte_with.Tie as tie
-use Rattle.bits.proofs.inner.byte_with.Reads as reads
-use Rattle.bits.proofs.inner.byte_with.Lts as lts
 
 -- what the two parts come to
 sum-lt : (c : tie.Start) → c .args .b / 2 ^ c .args .k * 2 ^ c .args .k + c .args .v * 2 ^ c .args .z < 256

@@ -1,10 +1,8 @@
+use Prim.Native.Nat.{_+_, _*_}
 use native.Mathlib.Omega.{arith}
-use Prim.Native.Nat.{ℕ, _+_, _-_, _*_, _/_, _≤_, _<_}
 use borrow.Author.Needs.{needs}
 use Rattle.bits.proofs.inner.entry_val.Statement.{statement}
 use Rattle.bits.proofs.inner.entry_val.Tie as tie
-use Rattle.bits.proofs.inner.entry_val.Reads as reads
-use Rattle.bits.proofs.inner.entry_val.Lts as lts
 
 mul-result : tie.Need-mul-result
 mul-result c = search needs

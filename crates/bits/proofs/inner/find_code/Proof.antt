@@ -1,23 +1,15 @@
+use Prim.Native.Nat.{ℕ, _-_, _/_, _≤_, _<_}
+use mathlib.Core.Path.{_≡_, sym, _∙_}
+use mathlib.Core.Bool.{false}
 use native.Mathlib.Omega.{arith}
-use Prim.Native.Nat.{ℕ, _+_, _-_, _*_, _/_, _≤_, _<_}
-use mathlib.Core.Path.{_≡_, refl, sym, ap, _∙_}
-use mathlib.Core.Bool.{true, false}
-use mathlib.Core.List.{List, []}
-use borrow.Author.Needs.{needs}
-use borrow.Author.Count.{below-more}
 use denote.Ref.{now}
-use lib.ListN.{length, getD}
+use lib.ListN.{length}
+use borrow.Author.Count.{below-more}
 use Rattle.bits.specs.Bits.{msb}
-use Rattle.bits.specs.CodeReadLaws.{start-none, start-some}
 use Rattle.bits.specs.Codes.{begins, codesOf, code}
-use Rattle.bits.specs.CodesLaws.{good-is, code-at, length-codesOf}
+use Rattle.bits.specs.CodesLaws.{good-is, code-at}
 use Rattle.bits.proofs.inner.find_code.Statement.{statement}
 use Rattle.bits.proofs.inner.find_code.Tie as tie
-use Rattle.bits.proofs.inner.find_code.Reads as reads
-use Rattle.bits.proofs.inner.find_code.Lts as lts
-use Rattle.bits.proofs.inner.begins_bits.Reads as begins-bits-reads
-use Rattle.bits.proofs.inner.entry_len.Reads as entry-len-reads
-use Rattle.bits.proofs.inner.entry_val.Reads as entry-val-reads
 
 abbrev Inv-loop : tie.InvT-loop
 Inv-loop table w m n i₀ i = (i ≤ length table / 3) × ((k : ℕ) → k < i → begins (code (codesOf table) k) (msb m w) ≡ false)

@@ -1,20 +1,14 @@
-use Prim.Native.Nat.{ℕ, _+_, _-_, _*_, _/_, _%_, _^_, _≤_, _<_}
-use mathlib.Core.Path.{_≡_, refl, sym, ap, _∙_, subst}
-use mathlib.Core.List.{List}
+use Prim.Native.Nat.{ℕ, _+_, _-_, _*_, _/_, _%_, _^_, _≤_}
+use mathlib.Core.Path.{_≡_, sym, _∙_}
 use native.Mathlib.Nat.{lt-of-lt-of-le}
 use native.Mathlib.Omega.{arith}
 use denote.Ref.{now}
 use lib.Pow.{pow-mono}
-use lib.ListN.{length, take, drop, getD}
+use lib.ListN.{take, drop}
 use Rattle.bits.specs.Bits.{bitsOf, valOf}
 use Rattle.bits.specs.ReadLaws.{more-bits, run-lt}
 use Rattle.bits.proofs.inner.get_bits.Statement.{statement}
 use Rattle.bits.proofs.inner.get_bits.Tie as tie
-use Rattle.bits.proofs.inner.get_bits.Reads as reads
-use Rattle.bits.proofs.inner.get_bits.Lts as lts
-use Rattle.bits.proofs.inner.joined.Reads as joined-reads
-use Rattle.bits.proofs.inner.lesser.Reads as lesser-reads
-use Rattle.bits.proofs.inner.part_of.Reads as part-of-reads
 
 abbrev Inv-loop : tie.InvT-loop
 Inv-loop s at n acc₀ p₀ left₀ acc p left =

@@ -7,8 +7,6 @@ use borrow.Author.Tests.{le-leb, lt-leb}
 use borrow.Author.Needs.{needs}
 use Rattle.bits.proofs.inner.good_entry.Statement.{statement}
 use Rattle.bits.proofs.inner.good_entry.Tie as tie
-use Rattle.bits.proofs.inner.good_entry.Reads as reads
-use Rattle.bits.proofs.inner.good_entry.Lts as lts
 
 returns : tie.Need-returns
 returns c = sym (rw (lt-leb 1 (c .before .args .n) (c .if1 .taken)))

@@ -9,11 +9,6 @@ use Rattle.bits.specs.Codes.{codeVal, codeLen, goodEntry, goodTable}
 use Rattle.bits.specs.CodesLaws.{good-step, good-end}
 use Rattle.bits.proofs.inner.good_table.Statement.{statement}
 use Rattle.bits.proofs.inner.good_table.Tie as tie
-use Rattle.bits.proofs.inner.good_table.Reads as reads
-use Rattle.bits.proofs.inner.good_table.Lts as lts
-use Rattle.bits.proofs.inner.entry_len.Reads as entry-len-reads
-use Rattle.bits.proofs.inner.entry_val.Reads as entry-val-reads
-use Rattle.bits.proofs.inner.good_entry.Reads as good-entry-reads
 
 abbrev Inv-loop : tie.InvT-loop
 Inv-loop table n i₀ i = goodTable table ≡ goodTable (drop (3 * i) table)
@@ -40,7 +35,7 @@ step c =
     let t : List ℕ = now (u .before .before .args .table) in
     let i : ℕ = u .loop .i in
     let e : c .good-entry .result ≡ goodEntry (codeVal t i) (codeLen t i) =
-        rw (← c .before .entry-len .ensures, ← c .before .before .entry-val .ensures) (c .good-entry .ensures) in
+    rw (← c .before .entry-len .ensures, ← c .before .before .entry-val .ensures) (c .good-entry .ensures) in
     u .loop .inv ∙ good-step t i (omega arith) ∙ rw (← e)
 
 good-entry-requires : tie.Need-good-entry-requires Inv-loop μ-loop

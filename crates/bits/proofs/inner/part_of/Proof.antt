@@ -5,8 +5,6 @@ use lib.Pow.{pow-mono, pow-pos}
 use borrow.Author.Needs.{needs}
 use Rattle.bits.proofs.inner.part_of.Statement.{statement}
 use Rattle.bits.proofs.inner.part_of.Tie as tie
-use Rattle.bits.proofs.inner.part_of.Reads as reads
-use Rattle.bits.proofs.inner.part_of.Lts as lts
 
 one-shl : (n : ℕ) → n ≤ 8 → 1 * 2 ^ n % 4294967296 ≡ 2 ^ n
 one-shl n h = let m : 2 ^ n ≤ 256 = pow-mono h in omega arith

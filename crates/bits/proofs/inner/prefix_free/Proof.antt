@@ -9,9 +9,6 @@ use Rattle.bits.specs.Codes.{codesOf, prefixFree}
 use Rattle.bits.specs.CodesLaws.{length-codesOf, free-step, free-end}
 use Rattle.bits.proofs.inner.prefix_free.Statement.{statement}
 use Rattle.bits.proofs.inner.prefix_free.Tie as tie
-use Rattle.bits.proofs.inner.prefix_free.Reads as reads
-use Rattle.bits.proofs.inner.prefix_free.Lts as lts
-use Rattle.bits.proofs.inner.apart_from.Reads as apart-from-reads
 
 abbrev Inv-loop : tie.InvT-loop
 Inv-loop table n i₀ i = prefixFree (codesOf table) ≡ prefixFree (drop i (codesOf table))

@@ -1,21 +1,15 @@
-use Prim.Native.Nat.{ℕ, _+_, _-_, _*_, _/_, _%_, _^_, _≤_}
-use mathlib.Core.Path.{_≡_, refl, sym, ap, _∙_, subst}
+use Prim.Native.Nat.{ℕ, _+_, _-_, _/_, _%_, _^_, _≤_}
+use mathlib.Core.Path.{_≡_, refl, _∙_}
+use mathlib.Core.List.{List}
 use native.Mathlib.Omega.{arith}
-use borrow.Author.Needs.{needs}
+use native.Mathlib.Nat.{mod-lt}
+use denote.Ref.{now}
 use lib.ListN.{length}
+use lib.Pow.{pow-pos}
 use Rattle.bits.specs.Bits.{msb, bitsOf, putBits}
 use Rattle.bits.specs.BitsLaws.{put-more, put-first, put-last, length-bitsOf}
-use mathlib.Core.List.{List}
-use denote.Ref.{now}
-use lib.Pow.{pow-pos}
-use native.Mathlib.Nat.{mod-lt}
 use Rattle.bits.proofs.inner.put_bits.Statement.{statement}
 use Rattle.bits.proofs.inner.put_bits.Tie as tie
-use Rattle.bits.proofs.inner.put_bits.Reads as reads
-use Rattle.bits.proofs.inner.put_bits.Lts as lts
-use Rattle.bits.proofs.inner.lesser.Reads as lesser-reads
-use Rattle.bits.proofs.inner.part_of.Reads as part-of-reads
-use Rattle.bits.proofs.inner.put_part.Reads as put-part-reads
 
 abbrev Inv-loop : tie.InvT-loop
 Inv-loop out₀ at width value p₀ left₀ out p left =
@@ -73,7 +67,7 @@ loop-again c =
     let p : at + (w - l) ≡ u .loop .p = omega arith in
     let room : at ≤ length (bitsOf out₀) = omega (arith, length-bitsOf out₀, s) in
     let more : putBits (bitsOf (u .loop .out)) (u .loop .p) (msb n (v / 2 ^ (l - n) % 2 ^ n)) ≡ putBits (bitsOf out₀) at (msb (w - (l - n)) (v / 2 ^ (l - n))) =
-        rw (u .loop .inv .3, ← p) (put-more (bitsOf out₀) at w l n v hn (u .loop .inv .0) room) in
+    rw (u .loop .inv .3, ← p) (put-more (bitsOf out₀) at w l n v hn (u .loop .inv .0) room) in
     (omega arith, omega arith, c .before .before .put-part .kept .0 ∙ u .loop .inv .2, rw (c .before .before .before .before .part-of .ensures) at (c .before .before .put-part .ensures) ∙ more)
 
 same-length : tie.Need-same-length Inv-loop μ-loop

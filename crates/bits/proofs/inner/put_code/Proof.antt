@@ -1,16 +1,11 @@
 use Prim.Native.Nat.{ℕ, _+_, _*_}
 use native.Mathlib.Omega.{arith}
 use denote.Ref.{now}
+use borrow.Author.Needs.{needs}
 use Rattle.bits.specs.BitsLaws.{length-msb}
 use Rattle.bits.specs.CodesLaws.{code-at}
-use borrow.Author.Needs.{needs}
 use Rattle.bits.proofs.inner.put_code.Statement.{statement}
 use Rattle.bits.proofs.inner.put_code.Tie as tie
-use Rattle.bits.proofs.inner.put_code.Reads as reads
-use Rattle.bits.proofs.inner.put_code.Lts as lts
-use Rattle.bits.proofs.inner.entry_len.Reads as entry-len-reads
-use Rattle.bits.proofs.inner.entry_val.Reads as entry-val-reads
-use Rattle.bits.proofs.inner.put_bits.Reads as put-bits-reads
 
 entry-len-requires : tie.Need-entry-len-requires
 entry-len-requires c κs = search needs

@@ -4,13 +4,10 @@ use mathlib.Core.List.{List}
 use native.Mathlib.Omega.{arith}
 use denote.Ref.{now}
 use lib.Pow.{shl-lt}
-use Rattle.bits.specs.BitsLaws.{put-set}
 use borrow.Author.Needs.{needs}
+use Rattle.bits.specs.BitsLaws.{put-set}
 use Rattle.bits.proofs.inner.put_part.Statement.{statement}
 use Rattle.bits.proofs.inner.put_part.Tie as tie
-use Rattle.bits.proofs.inner.put_part.Reads as reads
-use Rattle.bits.proofs.inner.put_part.Lts as lts
-use Rattle.bits.proofs.inner.byte_with.Reads as byte-with-reads
 
 cast-z : tie.Need-cast-z
 cast-z c = search needs

@@ -1,32 +1,20 @@
-use Prim.Native.Nat.{ℕ, _+_, _-_, _*_, _/_, _^_, _≤_, _<_, min}
-use mathlib.Core.Path.{_≡_, refl, sym, ap, _∙_}
-use mathlib.Core.Bool.{Bool, true, false}
-use mathlib.Core.List.{List, []}
+use Prim.Native.Nat.{ℕ, _-_, _*_, _/_, _^_, _<_, min}
+use mathlib.Core.Path.{_≡_, sym, ap, _∙_}
+use mathlib.Core.List.{List}
 use native.Mathlib.Omega.{arith}
 use denote.Ref.{now}
-use lib.Dec.{leb}
-use borrow.Author.Tests.{leb-true, leb-false}
-use lib.ListN.{length, getD, take, drop, length-drop}
-use lib.Seq.{take-all, take-length}
+use lib.ListN.{length, take, drop, length-drop}
+use borrow.Author.Needs.{needs}
 use Rattle.bits.specs.Basics.{pick}
-use Rattle.bits.specs.Bits.{msb, bitsOf, valOf}
+use Rattle.bits.specs.Bits.{msb, bitsOf}
 use Rattle.bits.specs.BitsLaws.{length-msb, length-bitsOf}
 use Rattle.bits.specs.CodeReadLaws.{read-found, read-none}
-use Rattle.bits.specs.Codes.{codesOf, readCode, anyStart, code, goodTable}
+use Rattle.bits.specs.Codes.{codesOf, readCode, anyStart, code}
 use Rattle.bits.specs.CodesLaws.{code-at, length-codesOf, code-fits}
 use Rattle.bits.specs.ReadLaws.{run-lt, run-msb, take-min}
-use Rattle.bits.specs.declared.svq1_vlc.CodeRead.{CodeRead}
-use Rattle.bits.specs.declared.svq1_vlc.CodeRead.the-variants.{Code, NoCode, Ends}
-use borrow.Author.Needs.{needs}
+use Rattle.bits.specs.declared.svq1_vlc.CodeRead.the-variants.{NoCode, Ends}
 use Rattle.bits.proofs.inner.read_code.Statement.{statement}
 use Rattle.bits.proofs.inner.read_code.Tie as tie
-use Rattle.bits.proofs.inner.read_code.Reads as reads
-use Rattle.bits.proofs.inner.read_code.Lts as lts
-use Rattle.bits.proofs.inner.any_start.Reads as any-start-reads
-use Rattle.bits.proofs.inner.entry_len.Reads as entry-len-reads
-use Rattle.bits.proofs.inner.find_code.Reads as find-code-reads
-use Rattle.bits.proofs.inner.get_bits.Reads as get-bits-reads
-use Rattle.bits.proofs.inner.window.Reads as window-reads
 
 -- the window's bits are the next ones, at most 32
 seen : (c : tie.After-get-bits) →
@@ -49,13 +37,13 @@ small c =
 none : (c : tie.Else1) →
     let s = c .before .before .before .before .before .before in
     readCode (codesOf (now (s .args .table))) (bitsOf (now (s .args .s))) (s .args .at)
-        ≡ pick (anyStart (codesOf (now (s .args .table))) (msb (c .before .before .before .window .result) (c .before .before .get-bits .result))) Ends NoCode
+    ≡ pick (anyStart (codesOf (now (s .args .table))) (msb (c .before .before .before .window .result) (c .before .before .get-bits .result))) Ends NoCode
 none c =
     let s = c .before .before .before .before .before .before in
     let t : List ℕ = now (s .args .table) in
     let f = c .before .find-code in
     rw (seen (c .before .before)) (read-none (codesOf t) (bitsOf (now (s .args .s))) (s .args .at) 32 (code-fits t (s .pre .2))
-      (λ k h. rw (seen (c .before .before)) at (f .ensures .1 .0 k (omega (arith, length-codesOf t)))))
+    (λ k h. rw (seen (c .before .before)) at (f .ensures .1 .0 k (omega (arith, length-codesOf t)))))
 
 window-requires : tie.Need-window-requires
 window-requires c κs = search needs
@@ -88,7 +76,7 @@ returns c =
     let l : i < length t / 3 = omega arith in
     let n : length (code (codesOf t) i) ≡ c .entry-len .result = rw (code-at t i l, length-msb) (sym (c .entry-len .ensures)) in
     rw (← n) (sym (read-found (codesOf t) (bitsOf (now (s .args .s))) (s .args .at) 32 (code-fits t (s .pre .2)) i (rw (length-codesOf t) l)
-      (λ k h. rw (seen g) at (f .ensures .1 .0 k h)) (rw (seen g) at (f .ensures .1 .1 l))))
+    (λ k h. rw (seen g) at (f .ensures .1 .0 k h)) (rw (seen g) at (f .ensures .1 .1 l))))
 
 any-start-requires : tie.Need-any-start-requires
 any-start-requires c κs = (omega arith, small (c .before .before), c .before .before .before .before .before .before .pre .2)
