@@ -11,15 +11,11 @@ use Rattle.bits.specs.Basics.{unless}
 use Rattle.bits.specs.BasicsLaws.{both-true, or-none, unless-none}
 use Rattle.bits.specs.Bits.{bitsOf, putBits}
 use Rattle.bits.specs.Codes.{codeVal, codeLen, goodEntry, goodTable}
+use Rattle.bits.specs.Inner.{Fits, GoodEntry}
 use Rattle.bits.specs.Calls.{Answer, done, refused, unlessRefused, startRefusal, roomRefusal, bitsRefusal, entryRefusal, codeRefusal, tableRefusal, Put}
 use Rattle.bits.specs.declared.svq1_enc.Pushed.the-variants.{Next, Refused}
 
 -- ---- no refusal
--- the bits fit
-pub record Fits (bytes at w : ℕ) : Type 0 where
-  pub bytes-fit : bytes ≤ 2 ^ 28
-  pub bits-fit : at + w ≤ 8 * bytes
-
 pub start-passes : (bytes at : ℕ) → startRefusal bytes at ≡ 0 → Fits bytes at 0
 start-passes bytes at e =
     let two = both-true (leb bytes (2 ^ 28)) (leb at (8 * bytes)) (unless-none (leb bytes (2 ^ 28) && leb at (8 * bytes)) 21 (omega arith) e) in
@@ -39,11 +35,6 @@ unfolding bitsRefusal
 bits-passes bytes at w short p e =
     let two = or-none (unless (leb w 32) 6) (roomRefusal bytes at w short) e in
     (leb-true w 32 (unless-none (leb w 32) 6 (omega arith) (two .0)), room-passes bytes at w short p (two .1))
-
--- the entry is there and good
-pub record GoodEntry (t : List ℕ) (k : ℕ) : Type 0 where
-  pub there : k < length t / 3
-  pub long : codeLen t k ≤ 32
 
 pub entry-passes : (t : List ℕ) (k : ℕ) → entryRefusal t k ≡ 0 → GoodEntry t k
 unfolding entryRefusal

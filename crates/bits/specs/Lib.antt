@@ -7,5 +7,6 @@ pub mod ReadLaws
 pub mod Codes
 pub mod CodesLaws
 pub mod CodeReadLaws
+pub mod Inner
 pub mod Calls
 pub mod CallsLaws

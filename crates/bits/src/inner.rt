@@ -5,6 +5,7 @@ ghost use mathlib.Core.Bool.{true, false};
 ghost use Prim.Native.Nat.{ℕ, _+_, _*_, _/_, _%_, _-_, _^_, _<_, _≤_, min};
 ghost use lib.ListN.{length, take, drop};
 ghost use Rattle.bits.specs.Bits.{msb, valOf, bitsOf, putBits};
+ghost use Rattle.bits.specs.Inner.{Fits, GoodEntry, Wrote, FirstThatBegins};
 ghost use Rattle.bits.specs.Calls.{startRefusal, roomRefusal, bitsRefusal};
 ghost use Rattle.bits.specs.Codes.{begins, code, codesOf, codeLen, codeVal, anyStart, readCode, apart, prefixFree, goodEntry, goodTable};
 use super::svq1_vlc::CodeRead;
@@ -44,9 +45,8 @@ fn part_of(value: u32, down: u32, n: u32) -> u32
 
 // The low `width` bits of `value`, highest first, from bit `at` on; the bits after them in the last byte become 0.
 pub fn put_bits(out: &mut [u8], at: usize, width: u32, value: u32) -> usize
-    requires { ⌜ (width ≤ 32) × (at + width ≤ 8 * length (now out)) × (length (now out) ≤ 2 ^ 28) ⌝ }
-    ensures next { λ r. ⌜ r ≡ at + width ⌝ }
-    ensures bits { λ _. ⌜ bitsOf (now (out .exit)) ≡ putBits (bitsOf (now (out .entry))) at (msb width value) ⌝ }
+    requires { ⌜ (width ≤ 32) × Fits (length (now out)) at width ⌝ }
+    ensures { λ r. ⌜ Wrote (now (out .entry)) at (msb width value) r (now (out .exit)) ⌝ }
 {
     let mut p = at;
     let mut left = width;
@@ -63,7 +63,7 @@ pub fn put_bits(out: &mut [u8], at: usize, width: u32, value: u32) -> usize
 
 // The n bits from bit `at` on, as a number.
 pub fn get_bits(s: &[u8], at: usize, n: u32) -> u32
-    requires { ⌜ (n ≤ 32) × (at + n ≤ 8 * length (now s)) × (length (now s) ≤ 2 ^ 28) ⌝ }
+    requires { ⌜ (n ≤ 32) × Fits (length (now s)) at n ⌝ }
     ensures { λ r. ⌜ r ≡ valOf (take n (drop at (bitsOf (now (s .entry))))) ⌝ }
 {
     let mut acc: u32 = 0;
@@ -113,9 +113,7 @@ pub fn entry_val(t: &[u8], i: usize) -> u64
 // The first entry whose code begins the m bits of w, or the number of entries.
 fn find_code(table: &[u8], w: u64, m: u32) -> usize
     requires { ⌜ (m ≤ 32) × (w < 2 ^ m) × (goodTable (now table) ≡ true) ⌝ }
-    ensures within { λ r. ⌜ r ≤ length (now (table .entry)) / 3 ⌝ }
-    ensures before { λ r. ⌜ ((k : ℕ) → k < r → begins (code (codesOf (now (table .entry))) k) (msb m w) ≡ false) ⌝ }
-    ensures found { λ r. ⌜ (r < length (now (table .entry)) / 3 → begins (code (codesOf (now (table .entry))) r) (msb m w) ≡ true) ⌝ }
+    ensures { λ r. ⌜ FirstThatBegins (codesOf (now (table .entry))) (msb m w) r ⌝ }
 {
     let n = table.len() / 3;
     let mut i = 0;
@@ -146,7 +144,7 @@ fn any_start(table: &[u8], w: u64, m: u32) -> bool
 
 // How many bits there are from bit `at` on, at most 32.
 fn window(s: &[u8], at: usize) -> u32
-    requires { ⌜ (at ≤ 8 * length (now s)) × (length (now s) ≤ 2 ^ 28) ⌝ }
+    requires { ⌜ Fits (length (now s)) at 0 ⌝ }
     ensures { λ r. ⌜ r ≡ min 32 (8 * length (now (s .entry)) - at) ⌝ }
 {
     let left = 8 * s.len() - at;
@@ -155,7 +153,7 @@ fn window(s: &[u8], at: usize) -> u32
 
 // The code of the table that stands at bit `at`.
 pub fn read_code(s: &[u8], at: usize, table: &[u8]) -> CodeRead
-    requires { ⌜ (at ≤ 8 * length (now s)) × (length (now s) ≤ 2 ^ 28) × (goodTable (now table) ≡ true) ⌝ }
+    requires { ⌜ Fits (length (now s)) at 0 × (goodTable (now table) ≡ true) ⌝ }
     ensures { λ r. ⌜ r ≡ readCode (codesOf (now (table .entry))) (bitsOf (now (s .entry))) at ⌝ }
 {
     let m = window(s, at);
@@ -172,9 +170,8 @@ pub fn read_code(s: &[u8], at: usize, table: &[u8]) -> CodeRead
 
 // The code of entry k of the table is written.
 pub fn put_code(out: &mut [u8], at: usize, table: &[u8], k: usize) -> usize
-    requires { ⌜ (k < length (now table) / 3) × (codeLen (now table) k ≤ 32) × (at + codeLen (now table) k ≤ 8 * length (now out)) × (length (now out) ≤ 2 ^ 28) ⌝ }
-    ensures next { λ r. ⌜ r ≡ at + length (code (codesOf (now (table .entry))) k) ⌝ }
-    ensures bits { λ _. ⌜ bitsOf (now (out .exit)) ≡ putBits (bitsOf (now (out .entry))) at (code (codesOf (now (table .entry))) k) ⌝ }
+    requires { ⌜ GoodEntry (now table) k × Fits (length (now out)) at (codeLen (now table) k) ⌝ }
+    ensures { λ r. ⌜ Wrote (now (out .entry)) at (code (codesOf (now (table .entry))) k) r (now (out .exit)) ⌝ }
 {
     let len = entry_len(table, k);
     let val = entry_val(table, k) as u32;

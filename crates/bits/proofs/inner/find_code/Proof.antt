@@ -1,13 +1,14 @@
 use Prim.Native.Nat.{ℕ, _-_, _/_, _≤_, _<_}
 use mathlib.Core.Path.{_≡_, sym, _∙_}
 use mathlib.Core.Bool.{false}
+use mathlib.Core.List.{List}
 use native.Mathlib.Omega.{arith}
 use denote.Ref.{now}
 use lib.ListN.{length}
 use borrow.Author.Count.{below-more}
 use Rattle.bits.specs.Bits.{msb}
 use Rattle.bits.specs.Codes.{begins, codesOf, code}
-use Rattle.bits.specs.CodesLaws.{good-is, code-at}
+use Rattle.bits.specs.CodesLaws.{good-is, code-at, length-codesOf}
 use Rattle.bits.proofs.inner.find_code.Statement.{statement}
 use Rattle.bits.proofs.inner.find_code.Tie as tie
 
@@ -46,7 +47,13 @@ tested c =
     rw (code-at (now (a .table)) (u .loop .i) (omega arith), ← c .before .entry-len .ensures, ← c .before .before .entry-val .ensures) (c .begins-bits .ensures)
 
 returns : tie.Need-returns Inv-loop μ-loop
-returns c = (omega arith, (c .before .before .before .before .before .loop .inv .1, λ _. sym (tested (c .before)) ∙ c .if1 .taken))
+returns c =
+    let u = c .before .before .before .before .before in
+    record {
+      within = rw length-codesOf (omega arith);
+      before = u .loop .inv .1;
+      found = λ _. sym (tested (c .before)) ∙ c .if1 .taken;
+    }
 
 add-i : tie.Need-add-i Inv-loop μ-loop
 add-i c = omega arith
@@ -58,7 +65,13 @@ loop-again : tie.Need-loop-again Inv-loop μ-loop
 loop-again c = (omega arith, below-more _ _ (c .before .before .before .before .before .loop .inv .1) (sym (tested (c .before)) ∙ c .if1 .left))
 
 returns-2 : tie.Need-returns-2 Inv-loop μ-loop
-returns-2 c = (omega arith, (c .before .loop .inv .1, λ h. absurd (omega arith)))
+returns-2 c =
+    let t : List ℕ = now (c .before .before .before .args .table) in
+    record {
+      within = rw length-codesOf (omega arith);
+      before = c .before .loop .inv .1;
+      found = λ h. absurd (omega (arith, length-codesOf t));
+    }
 
 pub find-code-spec : {M : Type 1} → statement M
 find-code-spec =

@@ -7,7 +7,7 @@ use denote.Ref.{now}
 use lib.ListN.{length}
 use lib.Pow.{pow-pos}
 use Rattle.bits.specs.Bits.{msb, bitsOf, putBits}
-use Rattle.bits.specs.BitsLaws.{put-more, put-first, put-last, length-bitsOf}
+use Rattle.bits.specs.BitsLaws.{put-more, put-first, put-last, length-msb, length-bitsOf}
 use Rattle.bits.proofs.inner.put_bits.Statement.{statement}
 use Rattle.bits.proofs.inner.put_bits.Tie as tie
 
@@ -76,7 +76,10 @@ same-length c = c .before .loop .inv .2
 returns : tie.Need-returns Inv-loop μ-loop
 returns c =
     let a = c .before .before .before .args in
-    (omega arith, c .before .loop .inv .3 ∙ put-last _ (a .at) (a .width) _ (a .value) (c .loop-test .left))
+    record {
+      behind = rw length-msb (omega arith);
+      bits = c .before .loop .inv .3 ∙ put-last _ (a .at) (a .width) _ (a .value) (c .loop-test .left);
+    }
 
 pub put-bits-spec : {M : Type 1} → statement M
 put-bits-spec =

@@ -2,7 +2,6 @@ use Prim.Native.Nat.{ℕ, _+_, _*_}
 use native.Mathlib.Omega.{arith}
 use denote.Ref.{now}
 use borrow.Author.Needs.{needs}
-use Rattle.bits.specs.BitsLaws.{length-msb}
 use Rattle.bits.specs.CodesLaws.{code-at}
 use Rattle.bits.proofs.inner.put_code.Statement.{statement}
 use Rattle.bits.proofs.inner.put_code.Tie as tie
@@ -30,7 +29,7 @@ returns c =
     let v = c .before .before .before .before in
     let s = v .before .before .before .before in
     let p = c .before .before .put-bits in
-    rw (code-at (now (s .args .table)) (s .args .k) (s .pre .0), length-msb, ← v .before .entry-len .ensures, ← v .entry-val .ensures) (p .ensures .0, p .ensures .1)
+    rw (code-at (now (s .args .table)) (s .args .k) (s .pre .0 .there), ← v .before .entry-len .ensures, ← v .entry-val .ensures) (p .ensures)
 
 pub put-code-spec : {M : Type 1} → statement M
 put-code-spec =

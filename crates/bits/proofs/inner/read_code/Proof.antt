@@ -42,8 +42,8 @@ none c =
     let s = c .before .before .before .before .before .before in
     let t : List ℕ = now (s .args .table) in
     let f = c .before .find-code in
-    rw (seen (c .before .before)) (read-none (codesOf t) (bitsOf (now (s .args .s))) (s .args .at) 32 (code-fits t (s .pre .2))
-    (λ k h. rw (seen (c .before .before)) at (f .ensures .1 .0 k (omega (arith, length-codesOf t)))))
+    rw (seen (c .before .before)) (read-none (codesOf t) (bitsOf (now (s .args .s))) (s .args .at) 32 (code-fits t (s .pre .1))
+    (λ k h. rw (seen (c .before .before)) at (f .ensures .before k (omega (arith, length-codesOf t)))))
 
 window-requires : tie.Need-window-requires
 window-requires c κs = search needs
@@ -55,7 +55,7 @@ cast-w : tie.Need-cast-w
 cast-w c = search needs
 
 find-code-requires : tie.Need-find-code-requires
-find-code-requires c κs = (omega arith, small c, c .before .before .before .before .pre .2)
+find-code-requires c κs = (omega arith, small c, c .before .before .before .before .pre .1)
 
 entry-len-requires : tie.Need-entry-len-requires
 entry-len-requires c κs = search needs
@@ -75,11 +75,11 @@ returns c =
     let g = c .before .before .before in
     let l : i < length t / 3 = omega arith in
     let n : length (code (codesOf t) i) ≡ c .entry-len .result = rw (code-at t i l, length-msb) (sym (c .entry-len .ensures)) in
-    rw (← n) (sym (read-found (codesOf t) (bitsOf (now (s .args .s))) (s .args .at) 32 (code-fits t (s .pre .2)) i (rw (length-codesOf t) l)
-    (λ k h. rw (seen g) at (f .ensures .1 .0 k h)) (rw (seen g) at (f .ensures .1 .1 l))))
+    rw (← n) (sym (read-found (codesOf t) (bitsOf (now (s .args .s))) (s .args .at) 32 (code-fits t (s .pre .1)) i (rw (length-codesOf t) l)
+    (λ k h. rw (seen g) at (f .ensures .before k h)) (rw (seen g) at (f .ensures .found (rw (length-codesOf t) l)))))
 
 any-start-requires : tie.Need-any-start-requires
-any-start-requires c κs = (omega arith, small (c .before .before), c .before .before .before .before .before .before .pre .2)
+any-start-requires c κs = (omega arith, small (c .before .before), c .before .before .before .before .before .before .pre .1)
 
 returns-2 : tie.Need-returns-2
 returns-2 c = sym (rw (none (c .before .before), ← c .before .any-start .ensures, c .if2 .taken))

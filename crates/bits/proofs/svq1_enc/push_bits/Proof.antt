@@ -1,11 +1,8 @@
-use Prim.Native.Nat.{_+_}
-use mathlib.Core.Path.{_≡_, sym, _∙_}
+use mathlib.Core.Path.{sym, _∙_}
 use native.Mathlib.Omega.{arith}
 use denote.Ref.{now}
 use lib.ListN.{length}
 use borrow.Author.Needs.{needs}
-use Rattle.bits.specs.Bits.{msb}
-use Rattle.bits.specs.BitsLaws.{length-msb}
 use Rattle.bits.specs.CallsLaws.{bits-passes, put-refused, put-done}
 use Rattle.bits.proofs.svq1_enc.push_bits.Statement.{statement}
 use Rattle.bits.proofs.svq1_enc.push_bits.Tie as tie
@@ -21,7 +18,7 @@ put-bits-requires c κs =
     let q = c .before in
     let a = q .before .before .before .args in
     let f = bits-passes (length (now (a .out))) (a .at) (a .width) 22 (omega arith) (sym (q .before .bits-refusal .ensures) ∙ q .if1 .left) in
-    (f .0, f .1 .bits-fit, f .1 .bytes-fit)
+    f
 
 same-length : tie.Need-same-length
 same-length c = search needs
@@ -31,8 +28,7 @@ returns-2 c =
     let p = c .before .before .put-bits in
     let q = c .before .before .before .before in
     let a = q .before .before .before .args in
-    let e : p .result ≡ a .at + length (msb (a .width) (a .value)) = rw length-msb (p .ensures .0) in
-    put-done _ _ _ _ _ _ (sym (q .before .bits-refusal .ensures) ∙ q .if1 .left) e (p .ensures .1)
+    put-done _ _ _ _ _ _ (sym (q .before .bits-refusal .ensures) ∙ q .if1 .left) (p .ensures .behind) (p .ensures .bits)
 
 pub push-bits-spec : {M : Type 1} → statement M
 push-bits-spec =

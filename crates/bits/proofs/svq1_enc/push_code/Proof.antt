@@ -17,7 +17,7 @@ put-code-requires c κs =
     let q = c .before in
     let a = q .before .before .before .before .args in
     let f = code-passes (length (now (a .out))) (a .at) (now (a .table)) (a .position) (sym (q .before .code-refusal .ensures) ∙ q .if1 .left) in
-    (f .0 .there, f .0 .long, f .1 .bits-fit, f .1 .bytes-fit)
+    f
 
 same-length : tie.Need-same-length
 same-length c = search needs
@@ -26,7 +26,7 @@ returns-2 : tie.Need-returns-2
 returns-2 c =
     let p = c .before .before .put-code in
     let q = c .before .before .before .before in
-    put-done _ _ _ _ _ _ (sym (q .before .code-refusal .ensures) ∙ q .if1 .left) (p .ensures .0) (p .ensures .1)
+    put-done _ _ _ _ _ _ (sym (q .before .code-refusal .ensures) ∙ q .if1 .left) (p .ensures .behind) (p .ensures .bits)
 
 pub push-code-spec : {M : Type 1} → statement M
 push-code-spec =

@@ -19,7 +19,7 @@ get-bits-requires : tie.Need-get-bits-requires
 get-bits-requires c κs =
     let a = c .before .before .before .args in
     let f = bits-passes (length (now (a .s))) (a .at) (a .width) 24 (omega arith) (sym (c .before .bits-refusal .ensures) ∙ c .if1 .left) in
-    (f .0, f .1 .bits-fit, f .1 .bytes-fit)
+    f
 
 add-t8 : tie.Need-add-t8
 add-t8 c =

@@ -1,5 +1,4 @@
 use mathlib.Core.Path.{sym, ap, _∙_}
-use native.Mathlib.Omega.{arith}
 use denote.Ref.{now}
 use lib.ListN.{length}
 use borrow.Author.Needs.{needs}
@@ -34,7 +33,7 @@ read-code-requires c κs =
     let q = u in
     let a = q .before .before .before .before .args in
     let f = start-passes (length (now (a .s))) (a .at) (sym (c .before .start-refusal .ensures) ∙ c .if2 .left) in
-    (omega (arith, f .bits-fit), f .bytes-fit, table-passes (now (a .table)) (sym (q .before .table-refusal .ensures) ∙ q .if1 .left))
+    (f, table-passes (now (a .table)) (sym (q .before .table-refusal .ensures) ∙ q .if1 .left))
 
 answered-requires : tie.Need-answered-requires
 answered-requires c κs = search needs
