@@ -81,9 +81,10 @@ totalLine bits error = lineOf ((116 ∷ 111 ∷ 116 ∷ 97 ∷ 108 ∷ []) ∷ d
 abbrev pub listedError : Weight → ℕ
 listedError w = w .err
 
-module _ (g : Given) (t : Task) where
+-- a plane listed as it is written from bit 0 into an output, given as its bits
+module _ (g : Given) (t : Task) (out : List ℕ) where
   abbrev pub stateAt : ℕ → Writing
-  stateAt k = writingAt g t (bitsOf (replicate outputBytes 0)) 0 (noSlices g) k
+  stateAt k = writingAt g t out 0 (noSlices g) k
 
   -- row, column, mode, bits, error of macroblock k; rows and columns count macroblocks
   unfoldable pub macroblockLine : ℕ → List ℕ
@@ -98,11 +99,15 @@ module _ (g : Given) (t : Task) where
   linesTo zero = []
   linesTo (suc n) = linesTo n ++ macroblockLine n
 
-  -- a plane of this size always fits (a macroblock has at most 3,135 bits), so an early end never prints; it would print its refusal
-  unfoldable pub planeText : List ℕ
-  planeText =
-      let e = writePlane g t (bitsOf (replicate outputBytes 0)) 0 (noSlices g) in
+  -- the macroblocks and the total; an early end would print its refusal
+  unfoldable pub textInto : List ℕ
+  textInto =
+      let e = writePlane g t out 0 (noSlices g) in
       pick (eqb (e .refusal) 0) (linesTo (count g) ++ totalLine (e .state .bits) (e .state .error)) (refusedText (e .refusal))
+
+-- the program's output has 65,536 bytes; a plane of its sizes always fits (99 macroblocks of at most 3,135 bits)
+unfoldable pub planeText : Given → Task → List ℕ
+planeText g t = textInto g t (bitsOf (replicate outputBytes 0))
 
 unfoldable pub jobText : Files → Option Job → List ℕ
 jobText f none = refusedText 1

@@ -3,8 +3,11 @@
 use mathlib.Core.Path.{_≡_, refl, ap, _∙_}
 use mathlib.Core.Bool.{true}
 use mathlib.Core.List.{List, [], _∷_}
-use Prim.Native.Nat.{ℕ}
-use lib.ListN.{replicate}
+use Prim.Native.Nat.{ℕ, _≤_}
+use native.Mathlib.Omega.{arith}
+use lib.Dec.{leb}
+use borrow.Author.Tests.{le-leb}
+use lib.ListN.{length, replicate, length-replicate}
 use Rattle.bits.specs.Basics.{All}
 use Rattle.book.specs.declared.svq1_vlc.Svq1Half.the-variants.{Intra, Inter}
 use Rattle.motion.specs.Vectors.{zeroMv}
@@ -14,15 +17,16 @@ use Rattle.macroblock.specs.Choice.{Task}
 use Rattle.plane.specs.Plane.{near, Slices}
 use Rattle.tree.specs.TreeBits.{Node, planTree}
 use Rattle.jobs.specs.Job.{Job}
-use Rattle.jobs.specs.Listing.{noSlices}
+use Rattle.jobs.specs.Listing.{noSlices, outputBytes}
 use Rattle.starred.specs.Cards.{flatGiven, flatTask, plane, firstLine, firstText, largestLine, largestText, Holds, cards}
 use Rattle.starred.specs.Flat.{flat, flatPlanning, meanLeaf, oneLeaf, tree-is, leaf-at-32, leaf-at-largest}
 use Rattle.bits.specs.Basics.{every, valuesFrom}
 use Rattle.bits.specs.Bits.{msb, bitsOf, cleared, afterBits, putBits}
+use Rattle.bits.specs.BitsLaws.{length-bitsOf}
 use Rattle.bits.specs.Codes.{codesOf}
 use Rattle.book.specs.House.{logUnder, signedRank, rank, houseFrom, houseBook, houseCodebook}
 use Rattle.jobs.specs.Job.{jobRead, jobIn}
-use Rattle.jobs.specs.Listing.{refusedText, totalLine, macroblockLine, linesTo, planeText}
+use Rattle.jobs.specs.Listing.{refusedText, totalLine, macroblockLine, linesTo, textInto, planeText}
 use Rattle.leaf.specs.Codebook.{rasterOf}
 use Rattle.leaf.specs.Leaf.{sse, seeded, staged, samples, leafShown}
 use Rattle.leaf.specs.LeafBits.{stageBits, leafBits}
@@ -104,14 +108,37 @@ chosen-at-largest : chosen (given largest) (task largest) 0 (around largest) ≡
 unfolding chosen bestOf beats weightOf codesOf msb houseBook houseFrom rank signedRank logUnder vectorBits motionBits choiceBits nodeBits emit treeBits leafBits stageBits shown treeShown rebuilt paintAt paint blockOf gather place placeUnder shownAt leafShown staged samples seeded saturate baseline movedBlock valuesFrom halfSample sampleAt referenceBlock part sse paddedSource target nearOf neighbourAt predicted median
 chosen-at-largest = rw (tried-are largest (tree-is Intra largest (leaf-at-largest Intra)) (tree-is Inter largest (leaf-at-largest Inter)))
 
--- what is written and listed for a plane of one macroblock, once the choice is known
+-- what they weigh
+weight-at-32 : weightOf (given 32) (task 32) 0 (around 32) (coded still tree) ≡ record { bits = 22; err = 0 }
+unfolding weightOf codesOf msb houseBook houseFrom rank signedRank logUnder vectorBits motionBits choiceBits nodeBits emit treeBits leafBits stageBits shown treeShown rebuilt paintAt paint blockOf gather place placeUnder shownAt leafShown staged samples seeded saturate baseline movedBlock valuesFrom halfSample sampleAt referenceBlock part sse paddedSource target
+weight-at-32 = refl
+
+weight-at-largest : weightOf (given largest) (task largest) 0 (around largest) skipped ≡ record { bits = 1; err = 2560000 }
+unfolding weightOf codesOf msb houseBook houseFrom rank signedRank logUnder vectorBits motionBits choiceBits nodeBits emit treeBits leafBits stageBits shown treeShown rebuilt paintAt paint blockOf gather place placeUnder shownAt leafShown staged samples seeded saturate baseline movedBlock valuesFrom halfSample sampleAt referenceBlock part sse paddedSource target
+weight-at-largest = refl
+
+-- what is listed for a plane of one macroblock: of the output only its length matters
+text-at-32 : (out : List ℕ) → leb 22 (length out) ≡ true → textInto (given 32) (task 32) out ≡ firstText
+unfolding textInto linesTo macroblockLine totalLine lineOf joined decimal digitsBefore writePlane run after written
+text-at-32 out h = rw (chosen-at-32, weight-at-32, h)
+
+text-at-largest : (out : List ℕ) → leb 1 (length out) ≡ true → textInto (given largest) (task largest) out ≡ largestText
+unfolding textInto linesTo macroblockLine totalLine lineOf joined decimal digitsBefore writePlane run after written
+text-at-largest out h = rw (chosen-at-largest, weight-at-largest, h)
+
+-- the program's output is long enough
+room : (n : ℕ) → n ≤ 524288 → leb n (length (bitsOf (replicate outputBytes 0))) ≡ true
+room n h =
+    le-leb n (length (bitsOf (replicate outputBytes 0)))
+    (omega (arith, length-bitsOf (replicate outputBytes 0), length-replicate {A = ℕ} outputBytes 0))
+
 first-card : Holds (plane firstLine (job 32) 100 0 (0x21 ∷ 0x01 ∷ 0x94 ∷ []) firstText)
-unfolding jobIn jobRead linesOf fieldsOf pieces allEnded numberUpTo isNumber valueFrom every writePlane run after written weightOf putBits afterBits cleared bitsOf planeText linesTo macroblockLine totalLine lineOf joined decimal digitsBefore codesOf msb houseBook houseFrom rank signedRank logUnder vectorBits motionBits choiceBits nodeBits emit treeBits leafBits stageBits shown treeShown rebuilt paintAt paint blockOf gather place placeUnder shownAt leafShown staged samples seeded saturate baseline movedBlock valuesFrom halfSample sampleAt referenceBlock part sse paddedSource target
-first-card = (refl, rw chosen-at-32, rw chosen-at-32)
+unfolding jobIn jobRead linesOf fieldsOf pieces allEnded numberUpTo isNumber valueFrom every writePlane run after written weightOf putBits afterBits cleared bitsOf planeText codesOf msb houseBook houseFrom rank signedRank logUnder vectorBits motionBits choiceBits nodeBits emit treeBits leafBits stageBits shown treeShown rebuilt paintAt paint blockOf gather place placeUnder shownAt leafShown staged samples seeded saturate baseline movedBlock valuesFrom halfSample sampleAt referenceBlock part sse paddedSource target
+first-card = (refl, rw chosen-at-32, text-at-32 (bitsOf (replicate outputBytes 0)) (room 22 (omega arith)))
 
 largest-card : Holds (plane largestLine (job largest) 100 0 (0x80 ∷ []) largestText)
-unfolding jobIn jobRead linesOf fieldsOf pieces allEnded numberUpTo isNumber valueFrom every writePlane run after written weightOf putBits afterBits cleared bitsOf planeText linesTo macroblockLine totalLine lineOf joined decimal digitsBefore codesOf msb houseBook houseFrom rank signedRank logUnder vectorBits motionBits choiceBits nodeBits emit treeBits leafBits stageBits shown treeShown rebuilt paintAt paint blockOf gather place placeUnder shownAt leafShown staged samples seeded saturate baseline movedBlock valuesFrom halfSample sampleAt referenceBlock part sse paddedSource target
-largest-card = (refl, rw chosen-at-largest, rw chosen-at-largest)
+unfolding jobIn jobRead linesOf fieldsOf pieces allEnded numberUpTo isNumber valueFrom every writePlane run after written weightOf putBits afterBits cleared bitsOf planeText codesOf msb houseBook houseFrom rank signedRank logUnder vectorBits motionBits choiceBits nodeBits emit treeBits leafBits stageBits shown treeShown rebuilt paintAt paint blockOf gather place placeUnder shownAt leafShown staged samples seeded saturate baseline movedBlock valuesFrom halfSample sampleAt referenceBlock part sse paddedSource target
+largest-card = (refl, rw chosen-at-largest, text-at-largest (bitsOf (replicate outputBytes 0)) (room 1 (omega arith)))
 
 -- THE CARDS
 pub starred : All Holds cards
