@@ -1,9 +1,10 @@
 -- Words that the definitions of every crate share.
-use Prim.Native.Nat.{ℕ, zero, suc, _+_, _-_}
+use Prim.Native.Nat.{ℕ, zero, suc, _+_, _-_, _<_}
 use lib.IntN.{ℤ, pos, negsuc}
 use mathlib.Core.Bool.{Bool, true, false}
 use mathlib.Core.List.{List, [], _∷_}
 use lib.Dec.{eqb, ltb}
+use lib.ListN.{getD}
 
 -- the first of two values where the test holds, else the second
 abbrev pub pick : {A : Type 0} → Bool → A → A → A
@@ -14,6 +15,10 @@ pick false a b = b
 abbrev pub All : {A : Type 0} → (A → Type 0) → List A → Type 0
 All P [] = Unit
 All P (x ∷ xs) = P x × All P xs
+
+-- every element is a byte, as in any lent byte slice
+abbrev pub Bytes : List ℕ → Type 0
+Bytes xs = (k : ℕ) → getD xs k 0 < 256
 
 -- the test holds for every element
 unfoldable pub every : {A : Type 0} → (A → Bool) → List A → Bool

@@ -4,7 +4,7 @@ use mathlib.Core.Bool.{Bool}
 use mathlib.Core.List.{List}
 use mathlib.Core.Path.{_≡_}
 use lib.ListN.{length, take, drop}
-use Rattle.bits.specs.Basics.{All, sum}
+use Rattle.bits.specs.Basics.{All, Bytes, sum}
 use Rattle.bits.specs.Bits.{bitsOf, putBits}
 use Rattle.bits.specs.Codes.{code}
 use Rattle.leaf.specs.Leaf.{sse}
@@ -80,6 +80,17 @@ module _ (g : Given) (t : Task) (out : List ℕ) (start : ℕ) (a : Slices) wher
     -- 7. squared error plus lambda times bits is never above that of skipping every macroblock
     pub never-above-skipping : final .error + t .lambda * final .bits ≤ sse (paddedSource g t) (g .reference .samples) + t .lambda * (length (code (modeCodes g) 3) * count g)
 
+  -- the lists are byte slices
+  pub record InMemory : Type 0 where
+    pub source : Bytes (t .source)
+    pub reference : Bytes (g .reference .samples)
+    pub book : Bytes (g .book)
+    pub codebook : Bytes (g .codebook)
+    pub output : Bytes out
+    pub recon : Bytes (a .recon)
+    pub vx : Bytes (a .vx)
+    pub vy : Bytes (a .vy)
+
   -- what has to be shown of every plane: one that no refusal meets, with lambda at most 2^48, written to its last macroblock
   abbrev pub Claimed : Type 0
-  Claimed = writeRefusal g t out start a ≡ 0 → t .lambda ≤ largestLambda → writePlane g t (bitsOf out) start a .refusal ≡ 0 → Claim
+  Claimed = InMemory → writeRefusal g t out start a ≡ 0 → t .lambda ≤ largestLambda → writePlane g t (bitsOf out) start a .refusal ≡ 0 → Claim

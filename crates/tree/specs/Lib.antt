@@ -4,3 +4,4 @@ pub mod BlocksLaws
 pub mod Plan
 pub mod PlanLaws
 pub mod TreeBits
+pub mod PlanClaim
