@@ -4,3 +4,5 @@ pub mod Book
 pub mod BookLaws
 pub mod Calls
 pub mod House
+pub mod Trie
+pub mod HouseLaws
