@@ -88,14 +88,7 @@ pub house-passes : bookRefusal houseBook ≡ 0
 house-passes = house-book .passes
 
 -- ---- the codebook
--- the values one behind the other: one more, and each by its place
-pub values-more : (f : ℕ → ℕ) (n j : ℕ) → valuesFrom f (suc n) j ≡ valuesFrom f n j ++ (f (j + n) ∷ [])
-unfolding valuesFrom
-values-more f zero j = rw (add-zero j)
-values-more f (suc n) j =
-    let e : suc j + n ≡ j + suc n = omega arith in
-    ap (λ (l : List ℕ). f j ∷ l) (values-more f n (suc j) ∙ ap (λ (k : ℕ). valuesFrom f n (suc j) ++ (f k ∷ [])) e)
-
+-- the values one behind the other: their number, and each by its place
 pub length-values : (f : ℕ → ℕ) (n j : ℕ) → length (valuesFrom f n j) ≡ n
 unfolding valuesFrom
 length-values f zero j = refl

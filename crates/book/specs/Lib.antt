@@ -6,3 +6,4 @@ pub mod Calls
 pub mod House
 pub mod Trie
 pub mod HouseLaws
+pub mod FillLaws
