@@ -120,7 +120,7 @@ module _ (book : List ℕ) (len : length book ≡ bookBytes) (good : goodTable b
         size = size;
         good = good-take (drop (3 * from) book) n (good-drop book from good);
         count = length-codesOf (entries from n book) ∙ rw size (omega arith);
-        free = rw (← p, ← q) (each-at codeTableSizes book i each h)
+        free = rw (← p, ← q) (each-at codeTableSizes book i each h);
       }
 
   mean-at : (h : Svq1Half) → GoodCodes (means h) (meanTable h book)
@@ -132,7 +132,7 @@ module _ (book : List ℕ) (len : length book ≡ bookBytes) (good : goodTable b
   level-at : (base i d : ℕ) → i < 12 → 836 + 8 * i ≡ base + 8 * d → d ≤ 5 → base + 48 ≤ 932 → GoodCodes 8 (stageTable d (entries base 48 book))
   level-at base i d h p l fits =
       let e : stageTable d (entries base 48 book) ≡ entries (base + 8 * d) 8 book =
-          part-part 24 (3 * (8 * d)) 144 (3 * base) book (omega arith) ∙ ap (λ (n : ℕ). take 24 (drop n book)) {x = 3 * base + 3 * (8 * d)} {y = 3 * (base + 8 * d)} (omega arith) in
+      part-part 24 (3 * (8 * d)) 144 (3 * base) book (omega arith) ∙ ap (λ (n : ℕ). take 24 (drop n book)) {x = 3 * base + 3 * (8 * d)} {y = 3 * (base + 8 * d)} (omega arith) in
       rw e (table-at (4 + i) (base + 8 * d) 8 (omega arith) (stage-start i h ∙ p) (stage-size i h) (omega arith))
 
   stage-at : (h : Svq1Half) (d : ℕ) → d ≤ 5 → GoodCodes 8 (stageTable d (stageFamily h book))
@@ -153,7 +153,7 @@ good-book book e =
       mode = table-at book len good each 0 0 4 (omega arith) refl refl (omega arith);
       vector = table-at book len good each 1 4 64 (omega arith) refl refl (omega arith);
       mean = mean-at book len good each;
-      stage = stage-at book len good each
+      stage = stage-at book len good each;
     }
 
 -- a book and a codebook that pass: the codebook has its size, and the book passes

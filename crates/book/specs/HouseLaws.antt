@@ -77,7 +77,7 @@ by-test t e =
       size = n;
       values = λ p h. rw (zero-add p) at (ruled-at 0 p t (rule .1) (omega arith) .0);
       lengths = λ p h. rw (zero-add p) at (ruled-at 0 p t (rule .1) (omega arith) .1);
-      passes = rw (rule .0, codes .0, each-free codeTableSizes t (codes .1))
+      passes = rw (rule .0, codes .0, each-free codeTableSizes t (codes .1));
     }
 
 pub house-book : HouseBook houseBook

@@ -5,7 +5,6 @@ ghost use Prim.Native.Nat.{_<_, _≤_};
 ghost use lib.ListN.{length, getD};
 ghost use Rattle.bits.specs.Codes.{goodTable};
 ghost use Rattle.book.specs.Book.{bookBytes, codeTableSizes, eachPrefixFree, codesRefusal, bookRefusal, dataRefusal};
-
 use bits::inner;
 
 // Entries of each of the sixteen code tables, in the order in which a book holds them.

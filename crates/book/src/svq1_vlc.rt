@@ -2,7 +2,6 @@
 ghost use mathlib.Core.Path.{_≡_};
 ghost use Rattle.book.specs.Level.{levelNumber};
 ghost use Rattle.book.specs.Calls.{lentFamily, familyPart};
-
 use super::svq1_blocktree::Svq1Level;
 
 // Which half of a family of tables or codebook pages a block uses.

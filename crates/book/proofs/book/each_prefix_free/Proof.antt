@@ -13,7 +13,7 @@ use Rattle.book.proofs.book.each_prefix_free.Statement.{statement}
 use Rattle.book.proofs.book.each_prefix_free.Tie as tie
 
 abbrev Inv-loop : tie.InvT-loop
-Inv-loop book i₀ before₀ i before = 
+Inv-loop book i₀ before₀ i before =
     (i ≤ 16) × (before + total (drop i codeTableSizes) ≡ 932) × (eachPrefixFree codeTableSizes book ≡ eachPrefixFree (drop i codeTableSizes) (drop (3 * before) book))
 
 abbrev μ-loop : tie.MeasureT-loop
