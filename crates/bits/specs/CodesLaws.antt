@@ -9,7 +9,7 @@ use native.Mathlib.Nat.{not-suc-le-zero, le-of-suc-le-suc, mod-eq-of-lt}
 use lib.Dec.{eqb, leb, ltb}
 use lib.Pow.{shr-lt}
 use lib.ListN.{length, take, drop, getD, length-append, drop-of-length-le}
-use lib.Seq.{take-at, drop-cons}
+use lib.Seq.{take-at, take-nil, drop-nil, drop-cons}
 use borrow.Author.Tests.{eqb-true, eq-eqb, eqb-false, ne-eqb, not-true, leb-true, ltb-true}
 use Rattle.bits.specs.BasicsLaws.{both-true, is-false}
 use Rattle.bits.specs.Bits.{msb, valOf}
@@ -187,3 +187,25 @@ pub code-fits : (t : List ℕ) → goodTable t ≡ true → (k : ℕ) → k < le
 code-fits t g k h =
     let l : k < length t / 3 = rw length-codesOf at h in
     rw (code-at t k l, length-msb) (good-is t g .long k l)
+
+-- whole entries taken from either end of a good table are a good table
+pub good-take : (t : List ℕ) (n : ℕ) → goodTable t ≡ true → goodTable (take (3 * n) t) ≡ true
+unfolding goodTable
+good-take t zero e = refl
+good-take [] (suc n) e = rw (take-nil (3 * suc n))
+good-take (h ∷ []) (suc n) e = absurd (true≢false (sym e))
+good-take (h ∷ l ∷ []) (suc n) e = absurd (true≢false (sym e))
+good-take (h ∷ l ∷ m ∷ t) (suc n) e =
+    let two = both-true (goodEntry (h * 256 + l) m) (goodTable t) e in
+    let k : 3 * suc n ≡ suc (suc (suc (3 * n))) = omega arith in
+    rw (k, two .0) (good-take t n (two .1))
+
+pub good-drop : (t : List ℕ) (n : ℕ) → goodTable t ≡ true → goodTable (drop (3 * n) t) ≡ true
+unfolding goodTable
+good-drop t zero e = e
+good-drop [] (suc n) e = rw (drop-nil (3 * suc n))
+good-drop (h ∷ []) (suc n) e = absurd (true≢false (sym e))
+good-drop (h ∷ l ∷ []) (suc n) e = absurd (true≢false (sym e))
+good-drop (h ∷ l ∷ m ∷ t) (suc n) e =
+    let k : 3 * suc n ≡ suc (suc (suc (3 * n))) = omega arith in
+    rw k (good-drop t n (both-true (goodEntry (h * 256 + l) m) (goodTable t) e .1))
