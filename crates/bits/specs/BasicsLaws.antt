@@ -1,11 +1,13 @@
 -- Laws of the words that every crate's definitions share.
-use Prim.Native.Nat.{ℕ, _<_}
-use mathlib.Core.Path.{_≡_, refl, sym}
+use Prim.Native.Nat.{ℕ, zero, suc, _+_, _<_}
+use mathlib.Core.Path.{_≡_, refl, sym, ap, _∙_}
 use mathlib.Core.Bool.{Bool, true, false, _&&_, _||_, true≢false}
 use native.Mathlib.Omega.{arith}
+use native.Mathlib.Nat.{add-zero}
 use lib.Dec.{eqb}
+use lib.ListN.{length, getD}
 use borrow.Author.Tests.{eq-eqb, ne-eqb, eqb-true, eqb-false}
-use Rattle.bits.specs.Basics.{orElse, unless}
+use Rattle.bits.specs.Basics.{orElse, unless, valuesFrom}
 
 pub both-true : (a b : Bool) → (a && b) ≡ true → (a ≡ true) × (b ≡ true)
 both-true true b e = (refl, e)
@@ -40,3 +42,17 @@ or-none a b h = go (eqb a 0) refl
 pub unless-none : (b : Bool) (n : ℕ) → 0 < n → unless b n ≡ 0 → b ≡ true
 unless-none true n h e = refl
 unless-none false n h e = absurd (omega arith)
+
+-- ---- values by number
+pub length-list : {A : Type 0} (f : ℕ → A) (n j : ℕ) → length (valuesFrom f n j) ≡ n
+unfolding valuesFrom
+length-list f zero j = refl
+length-list f (suc n) j = ap suc (length-list f n (suc j))
+
+pub list-at : {A : Type 0} (f : ℕ → A) (n j i : ℕ) (z : A) → i < n → getD (valuesFrom f n j) i z ≡ f (j + i)
+unfolding valuesFrom
+list-at f zero j i z h = absurd (omega arith)
+list-at f (suc n) j zero z h = ap f (sym (add-zero j))
+list-at f (suc n) j (suc i) z h =
+    let e : suc j + i ≡ j + suc i = omega arith in
+    list-at f n (suc j) i z (omega arith) ∙ ap f e

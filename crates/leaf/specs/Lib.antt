@@ -1,8 +1,9 @@
--- The definitions that the contracts of this crate cite.
+-- The definitions that the contracts of this crate cite; the laws that callers cite stand in the files named `..Laws`.
 pub mod Codebook
 pub mod Mean
 pub mod MeanLaws
 pub mod Leaf
-pub mod LeafLaws
 pub mod LeafBits
+pub mod LeafBitsLaws
+pub mod LeafLaws
 pub mod LeafCall
