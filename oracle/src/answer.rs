@@ -9,6 +9,8 @@ use crate::svq1_enc_inter::{
     Recorder, Svq1InterParams, call_encode_inter_plane, recorded_inter_plane,
 };
 use crate::svq1_plane::{Svq1PlaneCanvas, decode_inter_plane};
+use crate::svq1_vlc::MAX_CODE_LENGTH;
+use crate::tables;
 
 /// Mode names by position in the mode table.
 pub const MODES: [&str; 4] = ["INTER", "INTER_4MV", "INTRA", "SKIP"];
@@ -54,7 +56,9 @@ pub fn answer(job: &Job) -> Answer {
 
     check_lengths(&record, bit_count);
     check_errors(&record, job, &source);
-    gather(record, job, bit_count, bits)
+    let answer = gather(record, job, bit_count, bits);
+    check_decoder(job, &answer);
+    answer
 }
 
 /// The plane that the original's own decoder makes of `bits`, with the
@@ -65,7 +69,7 @@ pub fn decode(job: &Job, bits: &[u8], end: usize) -> Result<(Vec<u8>, usize), Er
     Ok((plane.samples, reader.position()))
 }
 
-pub fn canvas(job: &Job) -> Svq1PlaneCanvas {
+fn canvas(job: &Job) -> Svq1PlaneCanvas {
     let mut canvas = Svq1PlaneCanvas::new(job.width, job.height);
     canvas.samples.copy_from_slice(&job.reference);
     canvas
@@ -96,13 +100,23 @@ fn check_errors(record: &Recorder, job: &Job, source: &Svq1PlaneRef<'_>) {
     for (index, block) in record.blocks.iter().enumerate() {
         let (row, column) = (index / job.columns(), index % job.columns());
         let target = source.block(column * 16, row * 16, 16, 16);
-        let distance: u64 = target
-            .iter()
-            .zip(&block.samples)
+        let pairs = target.iter().zip(&block.samples);
+        let distance: u64 = pairs
             .map(|(&wanted, &got)| u64::from(wanted.abs_diff(got)).pow(2))
             .sum();
         assert_eq!(block.error, distance, "stated error is not the distance");
     }
+}
+
+/// The original's own decoder must take the same bits and show the same
+/// samples. It accepts no longer codes than `MAX_CODE_LENGTH`.
+fn check_decoder(job: &Job, answer: &Answer) {
+    if tables::longest() > MAX_CODE_LENGTH {
+        return;
+    }
+    let (samples, taken) = decode(job, &answer.bits, answer.bit_count).expect("readable bits");
+    assert_eq!(taken, answer.bit_count, "bits the decoder took");
+    assert_eq!(samples, answer.reconstruction, "samples the decoder made");
 }
 
 fn gather(record: Recorder, job: &Job, bit_count: usize, bits: Vec<u8>) -> Answer {

@@ -173,8 +173,7 @@ fn is_prefix_free(codes: &[(u16, u8)]) -> bool {
     let begins = |short: (u16, u8), long: (u16, u8)| {
         short.1 <= long.1 && u64::from(long.0) >> (long.1 - short.1) == u64::from(short.0)
     };
-    (0..codes.len())
-        .all(|i| (0..codes.len()).all(|j| i == j || !begins(codes[i], codes[j])))
+    (0..codes.len()).all(|i| (0..codes.len()).all(|j| i == j || !begins(codes[i], codes[j])))
 }
 
 /// The house rule's k for an entry.

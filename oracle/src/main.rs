@@ -4,6 +4,10 @@
 mod answer;
 mod book;
 mod bytes;
+mod calls;
+mod cards;
+mod differences;
+mod fixed;
 mod job;
 mod make;
 mod random;
@@ -52,9 +56,16 @@ use std::process::ExitCode;
 
 const USAGE: &str = "usage:
   svq1_oracle run FOLDER          one job from files
+  svq1_oracle house FOLDER        the house book and codebook as files
   svq1_oracle gen SEED N FOLDER   N random jobs as files
   svq1_oracle stream SEED N       N random jobs as a batch, to standard output
-  svq1_oracle batch               a batch from standard input, answers to standard output";
+  svq1_oracle batch               a batch from standard input, answers to standard output
+  svq1_oracle fixed               the fixed list, to standard output
+  svq1_oracle call NAME SEED N [text]
+                                  N random calls of one function, with answers
+  svq1_oracle read FOLDER         the original's decoder on a folder's out.bits
+  svq1_oracle cards               document 01's bench cards
+  svq1_oracle differences         the inputs of docs/DIFFERENCES.md";
 
 fn main() -> ExitCode {
     let arguments: Vec<String> = std::env::args().skip(1).collect();
@@ -71,11 +82,23 @@ fn main() -> ExitCode {
 fn dispatch(words: &[&str]) -> Result<(), String> {
     match *words {
         ["run", folder] => stream::run(Path::new(folder)),
+        ["house", folder] => stream::house(Path::new(folder)),
         ["gen", seed, count, folder] => {
             stream::gen_files(number(seed)?, number(count)?, Path::new(folder))
         }
         ["stream", seed, count] => stream::gen_stream(number(seed)?, number(count)?),
         ["batch"] => stream::batch(),
+        ["fixed"] => fixed::fixed(),
+        ["read", folder] => stream::read(Path::new(folder)),
+        ["cards"] => cards::cards(),
+        ["differences"] => differences::differences(),
+        ["difference", name] => differences::difference(name),
+        ["call", name, seed, count] => {
+            calls::calls(name, number(seed)?, number(count)?, false)
+        }
+        ["call", name, seed, count, "text"] => {
+            calls::calls(name, number(seed)?, number(count)?, true)
+        }
         _ => Err(USAGE.into()),
     }
 }

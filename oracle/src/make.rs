@@ -17,16 +17,21 @@ pub fn any_book(random: &mut Random) -> Book {
     }
 }
 
+/// Random codes, the longest of them of `longest` bits.
 pub fn random_book(random: &mut Random, longest: u32) -> Book {
-    let mut entries = Vec::with_capacity(BOOK_ENTRIES);
-    for table in TABLES {
-        for _ in 0..table.size() / table.code_size() {
-            entries.extend(random_code(random, table.code_size(), longest));
+    loop {
+        let mut entries = Vec::with_capacity(BOOK_ENTRIES);
+        for table in TABLES {
+            for _ in 0..table.size() / table.code_size() {
+                entries.extend(random_code(random, table.code_size(), longest));
+            }
+        }
+        let book = Book { entries };
+        assert!(book.is_sound());
+        if u32::from(book.longest()) == longest {
+            return book;
         }
     }
-    let book = Book { entries };
-    assert!(book.is_sound());
-    book
 }
 
 /// `count` prefix-free codes in random order. Values stay below 2^16, so a
@@ -67,8 +72,8 @@ impl Node {
     }
 }
 
-/// Puts `count` codes below `node`. The greater the slant, the more often
-/// one code is split off from the rest, which makes long codes.
+/// Puts `count` codes below `node`. The greater the slant, the longer the
+/// codes.
 fn grow(
     random: &mut Random,
     node: Node,
@@ -85,7 +90,7 @@ fn grow(
     }
     let low = count.saturating_sub(one.room(longest));
     let high = count.min(zero.room(longest));
-    let wanted = split(random, count, slant);
+    let wanted = split(random, node, count, slant);
     let zeros = wanted.clamp(low, high);
     if zeros > 0 {
         grow(random, zero, zeros, longest, slant, codes);
@@ -95,14 +100,17 @@ fn grow(
     }
 }
 
-fn split(random: &mut Random, count: usize, slant: usize) -> usize {
+/// How many of `count` codes to put below a further 0.
+fn split(random: &mut Random, node: Node, count: usize, slant: usize) -> usize {
     if random.one_in(12) {
-        return random.below(count + 1);
+        random.below(count + 1)
+    } else if random.below(4) >= slant {
+        count / 2
+    } else if node.value == 0 && random.one_in(2) {
+        count
+    } else {
+        count - 1
     }
-    if random.below(4) < slant {
-        return count - 1;
-    }
-    count / 2
 }
 
 // ---- codebooks ----
@@ -148,13 +156,15 @@ const CONTENTS: [Content; 6] = [
     Content::Patched,
 ];
 
+/// Contents in which a movement shows.
+const MOVING: [Content; 3] = [Content::Noisy, Content::Grainy, Content::Patched];
+
 pub fn clamp(value: i64) -> u8 {
     value.clamp(0, 255) as u8
 }
 
 /// A plane of samples of one kind of content.
-fn picture(random: &mut Random, width: usize, height: usize) -> Vec<u8> {
-    let content = random.pick(&CONTENTS);
+fn picture(random: &mut Random, content: Content, width: usize, height: usize) -> Vec<u8> {
     let base = random.between(0, 255);
     let (across, down) = (random.between(-160, 160), random.between(-160, 160));
     let grain = random.between(1, 24);
@@ -207,17 +217,15 @@ impl Canvas<'_> {
 
 /// The reference moved by a vector for each 8×8 or 16×16 block, lightened
 /// or darkened and with some noise.
-fn moved(random: &mut Random, job: &Job) -> Vec<u8> {
+fn moved(random: &mut Random, job: &Job, light: i64, noise: i64) -> Vec<u8> {
     let canvas = Canvas {
         samples: &job.reference,
         stride: job.stride(),
         rows: job.rows(),
     };
     let reach = random.pick(&[2, 6, 16, 34]);
-    let jitter = random.pick(&[0, 0, 2, 6]);
+    let jitter = random.pick(&[0, 1, 3, 8]);
     let side = random.pick(&[8, 16]);
-    let noise = random.pick(&[0, 0, 1, 6]);
-    let light = random.pick(&[0, 0, 0, -3, 40, -200, 200]);
     let base = (random.between(-reach, reach), random.between(-reach, reach));
     let vectors: Vec<(i64, i64)> = (0..64)
         .map(|_| {
@@ -298,13 +306,34 @@ fn bare(random: &mut Random, width: usize, height: usize) -> Job {
 
 /// A job of the given size.
 pub fn job_of_size(random: &mut Random, width: usize, height: usize) -> Job {
+    if random.one_in(3) {
+        return moved_job(random, width, height);
+    }
     let mut job = bare(random, width, height);
-    job.reference = picture(random, padded(width), padded(height));
-    job.source = match random.below(8) {
-        0..=4 => moved(random, &job),
-        5 => unmoved(&job),
-        _ => picture(random, width, height),
+    let content = random.pick(&CONTENTS);
+    job.reference = picture(random, content, padded(width), padded(height));
+    job.source = match random.below(6) {
+        0..=2 => {
+            let light = random.pick(&[0, 3, -40, 200, -200]);
+            let noise = random.pick(&[0, 1, 6]);
+            moved(random, &job, light, noise)
+        }
+        3 => unmoved(&job),
+        _ => {
+            let content = random.pick(&CONTENTS);
+            picture(random, content, width, height)
+        }
     };
+    job
+}
+
+/// A job whose source is its reference moved, and little else.
+pub fn moved_job(random: &mut Random, width: usize, height: usize) -> Job {
+    let mut job = bare(random, width, height);
+    let content = random.pick(&MOVING);
+    job.reference = picture(random, content, padded(width), padded(height));
+    let noise = random.pick(&[0, 0, 2]);
+    job.source = moved(random, &job, 0, noise);
     job
 }
 

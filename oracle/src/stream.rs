@@ -4,8 +4,8 @@ use std::fs;
 use std::io::{Read, Write, stdin, stdout};
 use std::path::Path;
 
-use crate::answer::{Answer, answer};
-use crate::book::{BOOK_BYTES, Book, CODEBOOK_BYTES};
+use crate::answer::{answer, decode};
+use crate::book::{BOOK_BYTES, Book, CODEBOOK_BYTES, house_codebook};
 use crate::bytes::Source;
 use crate::job::{Job, read_bytes, read_text, write};
 use crate::make::{any_book, any_codebook, any_job};
@@ -24,6 +24,17 @@ pub fn run(folder: &Path) -> Result<(), String> {
     write(&folder.join("out.txt"), listing.as_bytes())
 }
 
+/// Reads a folder's out.bits with the original's decoder and writes the
+/// samples to read.recon.
+pub fn read(folder: &Path) -> Result<(), String> {
+    let job = load_files(folder)?;
+    let bits = read_bytes(&folder.join("out.bits"))?;
+    let (samples, taken) =
+        decode(&job, &bits, 8 * bits.len()).map_err(|error| format!("{error:?}"))?;
+    println!("{taken} bits");
+    write(&folder.join("read.recon"), &samples)
+}
+
 /// Loads a folder's tables and gives its job.
 pub fn load_files(folder: &Path) -> Result<Job, String> {
     let book = Book::parse(&read_text(&folder.join("book.txt"))?)?;
@@ -38,6 +49,17 @@ pub fn load_files(folder: &Path) -> Result<Job, String> {
     Job::read_files(folder)
 }
 
+/// Writes the house book and codebook as files.
+pub fn house(folder: &Path) -> Result<(), String> {
+    write_tables(folder, &Book::house().lines(), &house_codebook())
+}
+
+fn write_tables(folder: &Path, lines: &[String], codebook: &[i8]) -> Result<(), String> {
+    fs::create_dir_all(folder).map_err(|error| error.to_string())?;
+    write(&folder.join("book.txt"), lines.concat().as_bytes())?;
+    write(&folder.join("codebook.bin"), &unsigned(codebook))
+}
+
 /// Writes random jobs, each in a folder of its own, named by its number.
 pub fn gen_files(seed: u64, count: u64, folder: &Path) -> Result<(), String> {
     for index in 0..count {
@@ -45,12 +67,10 @@ pub fn gen_files(seed: u64, count: u64, folder: &Path) -> Result<(), String> {
         let book = any_book(&mut random);
         let codebook = any_codebook(&mut random);
         let job = any_job(&mut random);
-        let place = folder.join(index.to_string());
-        fs::create_dir_all(&place).map_err(|error| error.to_string())?;
         let mut lines = book.lines();
         random.shuffle(&mut lines);
-        write(&place.join("book.txt"), lines.concat().as_bytes())?;
-        write(&place.join("codebook.bin"), &unsigned(&codebook))?;
+        let place = folder.join(index.to_string());
+        write_tables(&place, &lines, &codebook)?;
         job.write_files(&place)?;
     }
     Ok(())
@@ -77,8 +97,7 @@ pub fn batch() -> Result<(), String> {
     let mut from = Source::new(bytes);
     load_head(&mut from)?;
     while let Some(job) = Job::read(&mut from) {
-        let answer: Answer = answer(&job);
-        emit(&answer.to_bytes())?;
+        emit(&answer(&job).to_bytes())?;
     }
     Ok(())
 }
@@ -90,15 +109,15 @@ pub fn head(book: &Book, codebook: &[i8]) -> Vec<u8> {
 
 fn load_head(from: &mut Source) -> Result<(), String> {
     let book = from.take(BOOK_BYTES).ok_or("the batch has no book")?;
-    let codebook = from.take(CODEBOOK_BYTES).ok_or("the batch has no codebook")?;
+    let codebook = from
+        .take(CODEBOOK_BYTES)
+        .ok_or("the batch has no codebook")?;
     tables::load(&Book::from_bytes(&book), &signed(&codebook));
     Ok(())
 }
 
 pub fn emit(bytes: &[u8]) -> Result<(), String> {
-    stdout()
-        .write_all(bytes)
-        .map_err(|error| error.to_string())
+    stdout().write_all(bytes).map_err(|error| error.to_string())
 }
 
 pub fn signed(bytes: &[u8]) -> Vec<i8> {

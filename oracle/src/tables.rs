@@ -61,10 +61,18 @@ impl<T> Deref for Lent<T> {
     }
 }
 
+static LONGEST: OnceLock<u8> = OnceLock::new();
+
 /// Loads the book and the codebook for the rest of the process.
 pub fn load(book: &Book, codebook: &[i8]) {
     load_codes(book);
     load_codebook(codebook);
+    LONGEST.set(book.longest()).expect("loaded twice");
+}
+
+/// Length of the loaded book's longest code.
+pub fn longest() -> u8 {
+    *LONGEST.get().expect("tables are not loaded")
 }
 
 fn load_codes(book: &Book) {
