@@ -17,6 +17,7 @@ use crate::svq1_enc_inter::{
 use crate::svq1_enc_leaf::search_leaf;
 use crate::svq1_mc::Svq1ReferencePlane;
 use crate::svq1_motion_predictor::Svq1Mv;
+use crate::svq1_mv_cache::Svq1MvCache;
 use crate::svq1_plane::Svq1PlaneCanvas;
 use crate::svq1_vlc::Svq1Half;
 use crate::tables;
@@ -27,7 +28,7 @@ struct Case {
     run: fn() -> String,
 }
 
-const CASES: [Case; 22] = [
+const CASES: [Case; 25] = [
     case("search-none", Book::house, || search_at(0)),
     case("search-none-code", Book::house, || {
         call_mv_component_bits(32).to_string()
@@ -89,7 +90,14 @@ const CASES: [Case; 22] = [
     case("leaf-length", Book::house, || {
         leaf(Svq1Half::Inter, 9, 6, true)
     }),
+    case("leaf-clamped-once", Book::house, || {
+        let target = [255, 0, 0, 0, 0, 0, 0, 0];
+        let leaf = search_leaf(Svq1Level::L0, Svq1Half::Intra, &target, &[0; 8], 6, false);
+        format!("{:?}", leaf.recon)
+    }),
     case("search-off-grid", Book::house, search_off_grid),
+    case("neighbours-of-third", Book::house, || neighbours_of(2)),
+    case("neighbours-of-fourth", Book::house, || neighbours_of(3)),
 ];
 
 const fn case(name: &'static str, book: fn() -> Book, run: fn() -> String) -> Case {
@@ -188,7 +196,7 @@ fn write(size: (usize, usize), length: usize, other: (usize, usize)) -> String {
     match call_encode_inter_plane(&mut writer, &source, &reference, &params(&job)) {
         Ok(()) => {
             let count = writer.bits_written();
-            format!("{count} bits, {}", hex(&writer.into_bytes()))
+            format!("{count} bits [{}]", hex(&writer.into_bytes()))
         }
         Err(error) => format!("{error:?}"),
     }
@@ -213,4 +221,22 @@ fn search_off_grid() -> String {
     let window = MvVisibleWindow::for_block(3, 0, 8, 32, 32);
     let found = search_motion_vector(&plane, &[50; 64], 8, 3, 0, Svq1Mv::ZERO, 8, window);
     show(found)
+}
+
+/// The neighbours of an 8×8 block of the only macroblock, after the blocks
+/// before it have got the vectors (1,1), (2,2) and (3,3).
+fn neighbours_of(index: usize) -> String {
+    let mut cache = Svq1MvCache::new(1, 1);
+    for earlier in 0..index {
+        let value = earlier as i32 + 1;
+        cache.store_subblock(0, 0, earlier, Svq1Mv::new(value, value));
+    }
+    let neighbours = cache.inter_4mv_neighbours(0, 0, index);
+    let name = |vector: Option<Svq1Mv>| vector.map_or("none".into(), show);
+    format!(
+        "left {}, top {}, top right {}",
+        name(neighbours.left),
+        name(neighbours.top),
+        name(neighbours.top_right)
+    )
 }
