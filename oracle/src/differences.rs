@@ -34,38 +34,36 @@ const CASES: [Case; 25] = [
         call_mv_component_bits(32).to_string()
     }),
     case("read-vector-clamp", Book::house, || {
-        read(16, &[0x44, 0xA0], 11, |samples| {
-            format!("{:?}", &samples[..16])
-        })
+        read(16, &[0x4A, 0x80], |samples| format!("{:?}", &samples[..16]))
     }),
     case("write-long-code", || with_modes(LONG_MODES), write_still),
     case(
         "read-long-code",
         || with_modes(LONG_MODES),
-        || read_all(16, &[0x00, 0x00, 0x08], 23),
+        || read_all(16, &[0x00, 0x00, 0x08]),
     ),
     case(
         "read-sixteen-bits",
         || with_modes(GAP_MODES),
-        || read_all(16, &[0x80, 0x00, 0x80], 24),
+        || read_all(16, &[0x80, 0x00, 0x80]),
     ),
     case("read-mean-first", Book::house, || {
-        read_all(16, &[0x21, 0x80], 9)
+        read_all(16, &[0x21, 0x80])
     }),
     case("read-mean-then-level", Book::house, || {
-        read_all(16, &[0x21, 0xC0], 10)
+        read_all(16, &[0x21, 0xC0])
     }),
     case(
         "read-no-code",
         || with_modes(SHORT_MODES),
-        || read_all(16, &[0xFF], 8),
+        || read_all(16, &[0xFF]),
     ),
-    case("read-early-end", Book::house, || read_all(32, &[0x80], 1)),
+    case("read-early-end", Book::house, || read_all(144, &[0xFF])),
     case("write-clash", || with_modes(CLASHING_MODES), write_still),
     case(
         "read-clash",
         || with_modes(CLASHING_MODES),
-        || read_all(16, &[0x00], 8),
+        || read_all(16, &[0x00]),
     ),
     case("write-no-length", || with_modes(EMPTY_MODES), write_still),
     case("write-wide", Book::house, || {
@@ -169,17 +167,17 @@ fn job(width: usize, height: usize, source: Vec<u8>, reference: Vec<u8>) -> Job 
 
 /// Reads a plane of one row of macroblocks whose reference is ten times the
 /// column in each sample.
-fn read(width: usize, bits: &[u8], end: usize, show: fn(&[u8]) -> String) -> String {
+fn read(width: usize, bits: &[u8], show: fn(&[u8]) -> String) -> String {
     let row: Vec<u8> = (0..width).map(|x| (10 * x % 256) as u8).collect();
     let job = job(width, 16, Vec::new(), row.repeat(16));
-    match decode(&job, bits, end) {
+    match decode(&job, bits, 8 * bits.len()) {
         Ok((samples, taken)) => format!("{taken} bits, {}", show(&samples)),
         Err(error) => format!("{error:?}"),
     }
 }
 
-fn read_all(width: usize, bits: &[u8], end: usize) -> String {
-    read(width, bits, end, |_| "all macroblocks".into())
+fn read_all(width: usize, bits: &[u8]) -> String {
+    read(width, bits, |_| "all macroblocks".into())
 }
 
 /// Writes a plane of `length` zeros against a canvas of zeros for a plane of
