@@ -28,13 +28,18 @@ struct Case {
     run: fn() -> String,
 }
 
-const CASES: [Case; 25] = [
+const CASES: [Case; 26] = [
     case("search-none", Book::house, || search_at(0)),
     case("search-none-code", Book::house, || {
         call_mv_component_bits(32).to_string()
     }),
     case("read-vector-clamp", Book::house, || {
         read(16, &[0x4A, 0x80], |samples| format!("{:?}", &samples[..16]))
+    }),
+    case("read-predicted", Book::house, || {
+        read(32, &[0x45, 0xAB, 0x40], |samples| {
+            format!("{:?}", &samples[16..32])
+        })
     }),
     case("write-long-code", || with_modes(LONG_MODES), write_still),
     case(

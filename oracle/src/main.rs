@@ -6,10 +6,12 @@ mod book;
 mod bytes;
 mod calls;
 mod cards;
+mod case;
 mod differences;
 mod fixed;
 mod job;
 mod make;
+mod motion_calls;
 mod random;
 mod stream;
 mod tables;
@@ -93,9 +95,7 @@ fn dispatch(words: &[&str]) -> Result<(), String> {
         ["cards"] => cards::cards(),
         ["differences"] => differences::differences(),
         ["difference", name] => differences::difference(name),
-        ["call", name, seed, count] => {
-            calls::calls(name, number(seed)?, number(count)?, false)
-        }
+        ["call", name, seed, count] => calls::calls(name, number(seed)?, number(count)?, false),
         ["call", name, seed, count, "text"] => {
             calls::calls(name, number(seed)?, number(count)?, true)
         }
