@@ -12,10 +12,20 @@ use crate::random::Random;
 use crate::stream::{emit, head, unsigned};
 
 const SEED: u64 = 2026;
-const ONE_BLOCK_SCENES: usize = 34;
-const TWO_BLOCK_SCENES: usize = 22;
-const FOUR_BLOCK_SCENES: usize = 9;
-const LARGE_SCENES: usize = 3;
+const CORNERS: [(usize, usize); 8] = [
+    (1, 1),
+    (1, 16),
+    (16, 1),
+    (16, 16),
+    (17, 1),
+    (1, 17),
+    (17, 17),
+    (48, 40),
+];
+const ONE_BLOCK_SCENES: usize = 30;
+const TWO_BLOCK_SCENES: usize = 21;
+const FOUR_BLOCK_SCENES: usize = 8;
+const LARGE_SCENES: usize = 2;
 const JOBS_IN_A_SCENE: usize = 3;
 
 struct Task {
@@ -81,28 +91,35 @@ fn make() -> List {
         random_codebook(&mut random, |random| random.between(-20, 20) as i8),
     ];
     let mut scenes = vec![card_scene()];
-    let mut add = |count: usize, size: fn(&mut Random) -> (usize, usize)| {
-        for _ in 0..count {
-            let mut random = Random::of(SEED, scenes.len() as u64);
-            let size = size(&mut random);
-            scenes.push(scene(&mut random, size));
-        }
-    };
-    add(ONE_BLOCK_SCENES, |random| {
-        (up_to(random, 16), up_to(random, 16))
-    });
-    add(TWO_BLOCK_SCENES, two_blocks);
-    add(FOUR_BLOCK_SCENES, |random| {
-        (16 + up_to(random, 16), 16 + up_to(random, 16))
-    });
-    add(LARGE_SCENES, |random| {
-        (32 + up_to(random, 16), 16 + up_to(random, 24))
-    });
+    for size in sizes() {
+        let mut random = Random::of(SEED, scenes.len() as u64);
+        scenes.push(scene(&mut random, size));
+    }
     List {
         books,
         codebooks,
         scenes,
     }
+}
+
+/// The sizes of the scenes after the cards.
+fn sizes() -> Vec<(usize, usize)> {
+    let mut random = Random::new(SEED);
+    let mut sizes = CORNERS.to_vec();
+    for _ in 0..ONE_BLOCK_SCENES {
+        sizes.push((up_to(&mut random, 16), up_to(&mut random, 16)));
+    }
+    for _ in 0..TWO_BLOCK_SCENES {
+        let (long, short) = (16 + up_to(&mut random, 16), up_to(&mut random, 16));
+        sizes.push(random.pick(&[(long, short), (short, long)]));
+    }
+    for _ in 0..FOUR_BLOCK_SCENES {
+        sizes.push((16 + up_to(&mut random, 16), 16 + up_to(&mut random, 16)));
+    }
+    for _ in 0..LARGE_SCENES {
+        sizes.push((32 + up_to(&mut random, 16), 16 + up_to(&mut random, 24)));
+    }
+    sizes
 }
 
 /// A size, often the largest.
@@ -112,11 +129,6 @@ fn up_to(random: &mut Random, most: usize) -> usize {
     } else {
         1 + random.below(most)
     }
-}
-
-fn two_blocks(random: &mut Random) -> (usize, usize) {
-    let (long, short) = (16 + up_to(random, 16), up_to(random, 16));
-    random.pick(&[(long, short), (short, long)])
 }
 
 /// Document 01's first two cards, and the first without the flag.
