@@ -12,7 +12,7 @@ use crate::make::{any_book, any_codebook, any_job};
 use crate::random::Random;
 use crate::tables;
 
-/// Answers the job of a folder's five files with four files beside them.
+/// Answers the job of a folder's five files with five more beside them.
 pub fn run(folder: &Path) -> Result<(), String> {
     let job = load_files(folder)?;
     let answer = answer(&job);
