@@ -1,0 +1,108 @@
+//! The oracle: runs the unchanged Rust original and writes what it answers.
+//! README.md beside this folder says what each command does.
+
+mod answer;
+mod book;
+mod bytes;
+mod calls;
+mod cards;
+mod case;
+mod differences;
+mod fixed;
+mod job;
+mod make;
+mod motion_calls;
+mod random;
+mod stream;
+mod tables;
+
+// Shims for the files that the original leans on and that are missing.
+#[allow(dead_code)]
+mod bitreader;
+#[allow(dead_code)]
+mod error;
+#[allow(dead_code)]
+mod header;
+#[allow(dead_code)]
+mod svq1_reconstruct;
+mod svq1_stage_indices;
+
+// The original, copied at build time.
+#[allow(dead_code)]
+mod svq1_blocktree;
+#[allow(dead_code)]
+mod svq1_codebook;
+#[allow(dead_code)]
+mod svq1_enc;
+#[allow(dead_code)]
+mod svq1_enc_inter;
+#[allow(dead_code)]
+mod svq1_enc_leaf;
+#[allow(dead_code)]
+mod svq1_enc_tree;
+#[allow(dead_code)]
+mod svq1_mc;
+#[allow(dead_code)]
+mod svq1_mean;
+#[allow(dead_code)]
+mod svq1_motion_predictor;
+#[allow(dead_code)]
+mod svq1_mv_cache;
+#[allow(dead_code, unexpected_cfgs)]
+mod svq1_plane;
+#[allow(dead_code)]
+mod svq1_vlc;
+
+use std::path::Path;
+use std::process::ExitCode;
+
+const USAGE: &str = "usage:
+  svq1_oracle run FOLDER          one job from files
+  svq1_oracle house FOLDER        the house book and codebook as files
+  svq1_oracle gen SEED N FOLDER   N random jobs as files
+  svq1_oracle stream SEED N       N random jobs as a batch, to standard output
+  svq1_oracle batch               a batch from standard input, answers to standard output
+  svq1_oracle fixed               the fixed list, to standard output
+  svq1_oracle call NAME SEED N [text]
+                                  N random calls of one function, with answers
+  svq1_oracle read FOLDER         the original's decoder on a folder's out.bits
+  svq1_oracle cards               document 01's bench cards
+  svq1_oracle differences         the inputs of docs/DIFFERENCES.md";
+
+fn main() -> ExitCode {
+    let arguments: Vec<String> = std::env::args().skip(1).collect();
+    let words: Vec<&str> = arguments.iter().map(String::as_str).collect();
+    match dispatch(&words) {
+        Ok(()) => ExitCode::SUCCESS,
+        Err(message) => {
+            eprintln!("svq1_oracle: {message}");
+            ExitCode::FAILURE
+        }
+    }
+}
+
+fn dispatch(words: &[&str]) -> Result<(), String> {
+    match *words {
+        ["run", folder] => stream::run(Path::new(folder)),
+        ["house", folder] => stream::house(Path::new(folder)),
+        ["gen", seed, count, folder] => {
+            stream::gen_files(number(seed)?, number(count)?, Path::new(folder))
+        }
+        ["stream", seed, count] => stream::gen_stream(number(seed)?, number(count)?),
+        ["batch"] => stream::batch(),
+        ["fixed"] => fixed::fixed(),
+        ["read", folder] => stream::read(Path::new(folder)),
+        ["cards"] => cards::cards(),
+        ["differences"] => differences::differences(),
+        ["difference", name] => differences::difference(name),
+        ["call", name, seed, count] => calls::calls(name, number(seed)?, number(count)?, false),
+        ["call", name, seed, count, "text"] => {
+            calls::calls(name, number(seed)?, number(count)?, true)
+        }
+        _ => Err(USAGE.into()),
+    }
+}
+
+fn number(word: &str) -> Result<u64, String> {
+    word.parse().map_err(|_| format!("not a number: {word}"))
+}

@@ -1,0 +1,148 @@
+//! Calls of the motion functions on random inputs.
+
+use crate::case::Case;
+use crate::make::clamp;
+use crate::random::Random;
+use crate::svq1_enc_inter::{MvVisibleWindow, search_motion_vector};
+use crate::svq1_mc::{Svq1ReferencePlane, motion_compensate_block};
+use crate::svq1_motion_predictor::{Neighbours, Svq1Mv, final_motion_vector, predict};
+
+fn any_vector(random: &mut Random) -> Svq1Mv {
+    let reach = random.pick(&[3, 12, 31]);
+    let component = |random: &mut Random| match random.below(6) {
+        0 => random.pick(&[-32, 31, 0]),
+        _ => random.between(-reach, reach) as i32,
+    };
+    Svq1Mv::new(component(random), component(random))
+}
+
+pub fn predict_case(random: &mut Random) -> Case {
+    let mut case = Case::default();
+    let mut neighbours = [None; 3];
+    for neighbour in &mut neighbours {
+        let vector = any_vector(random);
+        if random.one_in(3) {
+            case = case.byte(0).vector(Svq1Mv::ZERO);
+        } else {
+            *neighbour = Some(vector);
+            case = case.byte(1).vector(vector);
+        }
+    }
+    let [left, top, top_right] = neighbours;
+    case.vector(predict(Neighbours::new(left, top, top_right)))
+}
+
+pub fn final_case(random: &mut Random) -> Case {
+    let (predictor, difference) = (any_vector(random), any_vector(random));
+    Case::default()
+        .vector(predictor)
+        .vector(difference)
+        .vector(final_motion_vector(predictor, difference.x, difference.y))
+}
+
+struct Canvas {
+    stride: usize,
+    rows: usize,
+    samples: Vec<u8>,
+}
+
+fn any_canvas(random: &mut Random) -> Canvas {
+    let (stride, rows) = (16 + 16 * random.below(4), 16 + 16 * random.below(3));
+    let (base, slope) = (random.between(0, 255), random.between(-9, 9));
+    let noise = random.pick(&[0, 2, 30, 255]);
+    let samples = (0..stride * rows)
+        .map(|place| {
+            let slant = slope * (place % stride + place / stride) as i64;
+            clamp(base + slant + random.between(-noise, noise))
+        })
+        .collect();
+    Canvas {
+        stride,
+        rows,
+        samples,
+    }
+}
+
+impl Canvas {
+    fn plane(&self) -> Svq1ReferencePlane<'_> {
+        Svq1ReferencePlane::new(&self.samples, self.stride, self.rows).expect("whole canvas")
+    }
+
+    /// The block moved by `vector`, put together from 8×8 ones.
+    fn moved(&self, side: usize, left: usize, top: usize, vector: Svq1Mv) -> Vec<u8> {
+        let mut samples = vec![0; side * side];
+        for y in (0..side).step_by(8) {
+            for x in (0..side).step_by(8) {
+                let (column, row) = ((left + x) as i32, (top + y) as i32);
+                let part = motion_compensate_block(&self.plane(), column, row, vector);
+                for place in 0..64 {
+                    samples[(y + place / 8) * side + x + place % 8] = part[place];
+                }
+            }
+        }
+        samples
+    }
+}
+
+pub fn search_case(random: &mut Random) -> Case {
+    let canvas = any_canvas(random);
+    let width = visible(random, canvas.stride);
+    let height = visible(random, canvas.rows);
+    let side = random.pick(&[8, 16]);
+    let left = side * random.below(canvas.stride / side);
+    let top = side * random.below(canvas.rows / side);
+    let predictor = any_vector(random);
+    let radius = random.pick(&[0, 1, 2, 4, 8, 16, 33, 255]);
+    let noise = random.pick(&[0, 0, 3, 255]);
+    let target: Vec<u8> = canvas
+        .moved(side, left, top, any_vector(random))
+        .iter()
+        .map(|&sample| clamp(i64::from(sample) + random.between(-noise, noise)))
+        .collect();
+    let window = MvVisibleWindow::for_block(left, top, side, width, height);
+    let found = search_motion_vector(
+        &canvas.plane(),
+        &target,
+        side,
+        left,
+        top,
+        predictor,
+        radius,
+        window,
+    );
+    Case::default()
+        .number(width as u32, 2)
+        .number(height as u32, 2)
+        .bytes(&canvas.samples)
+        .byte(side)
+        .number(left as u32, 2)
+        .number(top as u32, 2)
+        .vector(predictor)
+        .byte(usize::from(radius))
+        .bytes(&target)
+        .vector(found)
+}
+
+/// A size that rounds up to `padded`.
+fn visible(random: &mut Random, padded: usize) -> usize {
+    if random.one_in(3) {
+        padded - random.below(16)
+    } else {
+        padded
+    }
+}
+
+pub fn compensate_case(random: &mut Random) -> Case {
+    let canvas = any_canvas(random);
+    let left = 8 * random.below(canvas.stride / 8);
+    let top = 8 * random.below(canvas.rows / 8);
+    let vector = any_vector(random);
+    Case::default()
+        .number(canvas.stride as u32, 2)
+        .number(canvas.rows as u32, 2)
+        .bytes(&canvas.samples)
+        .number(left as u32, 2)
+        .number(top as u32, 2)
+        .vector(vector)
+        .bytes(&canvas.moved(8, left, top, vector))
+}
