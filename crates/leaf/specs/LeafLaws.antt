@@ -99,3 +99,86 @@ clamp-back Intra (negsuc m) = refl
 clamp-back Inter (pos m) = rw (le-ltb (min 255 m + 256) 256 (omega arith)) (ap pos (omega arith))
 clamp-back Inter (negsuc m) =
     rw (le-ltb 256 (suc (min 255 m)) (omega arith), lt-ltb (256 - suc (min 255 m)) 256 (omega arith)) (ap negsuc (omega arith))
+
+-- ---- what is chosen may stand at its level
+capped : (d cap : ℕ) → cap ≤ 6 → (capAt d cap ≤ 6) × (4 ≤ d → capAt d cap ≡ 0)
+capped d cap h =
+    elim (decLt d 4)
+    [ yes a ↦ (rw (lt-ltb d 4 a) h, λ b. absurd (omega arith)) | no a ↦ (rw (le-ltb d 4 (omega arith)) (omega arith), λ b. rw (le-ltb d 4 b)) ]
+
+module _ (T : Tables) (vs : Vectors) (d cap : ℕ) (t p : List ℕ) (most : cap ≤ 6) where
+  pub coded-allowed : Allowed T d (codedLeaf (T .half) vs (capAt d cap) t p)
+  unfolding codedLeaf meanOf
+  coded-allowed =
+      let z = rounded (residual t p) (length t) in
+      let m = clampMean (T .half) z in
+      let n = capAt d cap in
+      let c = capped d cap most in
+      let few = stages-few vs t n 0 (seeded m p) in
+      record {
+        place = clamp-place (T .half) z;
+        back = clamp-back (T .half) z;
+        few = omega (arith, c .0);
+        bare = λ b. let e = c .1 b in omega arith;
+        small = stages-small vs t n 0 (seeded m p);
+      }
+
+  pub rule-allowed : (allowSkip : Bool) → (allowSkip ≡ true → T .half ≡ Inter) → Allowed T d (leafRule (T .half) vs (capAt d cap) allowSkip t p)
+  unfolding leafRule
+  rule-allowed true o = go (leb (sse t p) (sse t (leafShown vs p (codedLeaf (T .half) vs (capAt d cap) t p))))
+    where
+      go : (q : Bool) → Allowed T d (pick (true && q) skip (codedLeaf (T .half) vs (capAt d cap) t p))
+      go true = o refl
+      go false = coded-allowed
+  rule-allowed false o = coded-allowed
+
+-- ---- as many samples as the block has, all of them bytes
+-- every vector has n samples
+abbrev pub Sized : Vectors → ℕ → Type 0
+Sized vs n = (s j : ℕ) → length (vs s j) ≡ n
+
+pub vectors-sized : (codebook : List ℕ) (h : Svq1Half) (d : ℕ) → Sized (vectorAt codebook h d) (area d)
+unfolding vectorAt
+vectors-sized codebook h d s j = length-list _ (area d) 0
+
+pub length-plus : (xs ys : List ℤ) → length xs ≡ length ys → length (plus xs ys) ≡ length xs
+unfolding plus
+length-plus [] ys e = refl
+length-plus (x ∷ xs) [] e = absurd (omega arith)
+length-plus (x ∷ xs) (y ∷ ys) e = ap suc (length-plus xs ys (omega arith))
+
+pub length-staged : (vs : Vectors) (n s : ℕ) (z : List ℤ) (js : List ℕ) → Sized vs n → length z ≡ n → length (staged vs s z js) ≡ n
+unfolding staged
+length-staged vs n s z [] f e = e
+length-staged vs n s z (j ∷ js) f e =
+    length-staged vs n (suc s) (plus z (vs s j)) js f (length-plus z (vs s j) (e ∙ sym (f s j)) ∙ e)
+
+pub length-samples : (z : List ℤ) → length (samples z) ≡ length z
+unfolding samples
+length-samples z = length-map z saturate
+
+pub length-seeded : (m : ℤ) (p : List ℕ) → length (seeded m p) ≡ length p
+unfolding seeded
+length-seeded m p = length-map p _
+
+pub length-shown : (vs : Vectors) (p : List ℕ) (l : Leaf) → Sized vs (length p) → length (leafShown vs p l) ≡ length p
+unfolding leafShown
+length-shown vs p skip f = refl
+length-shown vs p (coded m js) f =
+    length-samples (staged vs 0 (seeded m p) js) ∙ length-staged vs (length p) 0 (seeded m p) js f (length-seeded m p)
+
+pub saturate-byte : (z : ℤ) → saturate z < 256
+unfolding saturate
+saturate-byte (pos n) = omega arith
+saturate-byte (negsuc n) = omega arith
+
+pub bytes-samples : (z : List ℤ) → Bytes (samples z)
+unfolding samples
+bytes-samples [] k = omega arith
+bytes-samples (x ∷ z) zero = saturate-byte x
+bytes-samples (x ∷ z) (suc k) = bytes-samples z k
+
+pub bytes-shown : (vs : Vectors) (p : List ℕ) (l : Leaf) → Bytes p → Bytes (leafShown vs p l)
+unfolding leafShown
+bytes-shown vs p skip b = b
+bytes-shown vs p (coded m js) b = bytes-samples (staged vs 0 (seeded m p) js)

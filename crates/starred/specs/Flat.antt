@@ -176,8 +176,7 @@ grow-leaf : (choose : ℕ → Node) (l : Leaf) (n : ℕ) → choose 0 ≡ Ends l
 unfolding grow
 grow-leaf choose l zero e = rw e
 grow-leaf choose l (suc n) e =
-    let k : (suc n - 1) / 2 ≡ n / 2 = omega arith in
-    rw (grow-leaf choose l n e, k, none-split l n (n / 2), eqb·suc-zero n) (ap (λ (t : List Node). Ends l ∷ t) (off-more n))
+    rw (grow-leaf choose l n e, none-split l n (n / 2), eqb·suc-zero n) (ap (λ (t : List Node). Ends l ∷ t) (off-more n))
 
 pub tree-is : (h : Svq1Half) (lambda : ℕ) → splits (λ i. leafWeight h (level i)) lambda 5 0 ≡ false → planTree (flatPlanning h lambda) ≡ oneLeaf meanLeaf 62
 unfolding planTree

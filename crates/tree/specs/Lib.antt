@@ -2,6 +2,12 @@
 pub mod Blocks
 pub mod BlocksLaws
 pub mod Plan
+pub mod RowsLaws
+pub mod GeometryLaws
 pub mod PlanLaws
+pub mod SumLaws
 pub mod TreeBits
+pub mod TreeLaws
+pub mod ChoiceLaws
 pub mod PlanClaim
+pub mod PlanClaimLaws

@@ -16,8 +16,8 @@ module _ (b : BlockIn) (lambda : ℕ) where
     -- its stated bits are those that it emits, its stated error is the squared distance of what it shows
     pub bits : planWeight (planningOf b lambda) .bits ≡ length (treeBits (planningOf b lambda .tables) (planTree (planningOf b lambda)))
     pub error :
-      planWeight (planningOf b lambda) .err
-      ≡ sse (b .target) (treeShown (planningOf b lambda .vectors) (b .level) (b .predictor) (planTree (planningOf b lambda)))
+        planWeight (planningOf b lambda) .err
+        ≡ sse (b .target) (treeShown (planningOf b lambda .vectors) (b .level) (b .predictor) (planTree (planningOf b lambda)))
     -- up to this lambda every other pruning over the same leaf choices costs at least as much
     pub no-pruning-cheaper : lambda ≤ 2 ^ 48 → (cut : ℕ → Bool) → total lambda (planWeight (planningOf b lambda)) ≤ prunedCost (planningOf b lambda) cut
     -- its bits, in front of any others, read as the same tree

@@ -1,5 +1,5 @@
 -- A tree as 63 nodes: the plan's tree, its bits level by level, reading one, and what it shows (document 01, `svq1_enc_tree.rs`, "Reading").
-use Prim.Native.Nat.{ℕ, zero, suc, _+_, _-_, _/_}
+use Prim.Native.Nat.{ℕ, zero, suc, _/_}
 use mathlib.Core.Bool.{Bool, true, false, _||_}
 use mathlib.Core.List.{List, [], _∷_, _++_}
 use lib.Dec.{eqb}
@@ -27,7 +27,8 @@ isSplit (Ends l) = false
 
 -- block i is reached: it is the root, or its parent is split
 abbrev pub reached : ℕ → List Node → ℕ → Bool
-reached r t i = eqb i r || isSplit (getD t ((i - 1) / 2) Off)
+reached r t zero = eqb zero r
+reached r t (suc j) = eqb (suc j) r || isSplit (getD t (j / 2) Off)
 
 -- the first n nodes of the tree that a choice at each block makes
 unfoldable pub grow : ℕ → (ℕ → Node) → ℕ → List Node
