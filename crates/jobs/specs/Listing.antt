@@ -12,11 +12,12 @@ use Rattle.text.specs.Text.{decimal, lineOf}
 use Rattle.book_file.specs.BookFile.{fileRefusal, fileBook}
 use Rattle.motion.specs.Search.{padded16, sizeRefusal, canvasRefusal}
 use Rattle.motion.specs.Compensation.{Canvas}
-use Rattle.tree.specs.Plan.{Weight}
-use Rattle.macroblock.specs.Macroblock.{Given, cols, modeOf}
+use Rattle.macroblock.specs.declared.svq1_enc_inter.Svq1MbMode.{Svq1MbMode}
+use Rattle.macroblock.specs.declared.svq1_enc_inter.Svq1MbMode.the-variants.{Inter, Inter4Mv, Intra, Skip}
+use Rattle.macroblock.specs.Macroblock.{Given, cols}
 use Rattle.macroblock.specs.Choice.{Task}
 use Rattle.plane.specs.Run.{End}
-use Rattle.plane.specs.Plane.{count, Slices, Writing, wrote, wroteWeight, writePlane, writingAt}
+use Rattle.plane.specs.Plane.{count, Slices, Writing, StepStated, stepStated, writePlane, writingAt}
 use Rattle.plane.specs.Calls.{sourceRefusal}
 use Rattle.jobs.specs.Job.{Job, jobIn}
 
@@ -63,11 +64,11 @@ noSlices g = record {
 
 -- ---- text
 -- INTER, INTER_4MV, INTRA, SKIP
-abbrev pub modeName : ℕ → List ℕ
-modeName zero = 73 ∷ 78 ∷ 84 ∷ 69 ∷ 82 ∷ []
-modeName (suc zero) = 73 ∷ 78 ∷ 84 ∷ 69 ∷ 82 ∷ 95 ∷ 52 ∷ 77 ∷ 86 ∷ []
-modeName (suc (suc zero)) = 73 ∷ 78 ∷ 84 ∷ 82 ∷ 65 ∷ []
-modeName (suc (suc (suc n))) = 83 ∷ 75 ∷ 73 ∷ 80 ∷ []
+abbrev pub modeName : Svq1MbMode → List ℕ
+modeName Inter = 73 ∷ 78 ∷ 84 ∷ 69 ∷ 82 ∷ []
+modeName Inter4Mv = 73 ∷ 78 ∷ 84 ∷ 69 ∷ 82 ∷ 95 ∷ 52 ∷ 77 ∷ 86 ∷ []
+modeName Intra = 73 ∷ 78 ∷ 84 ∷ 82 ∷ 65 ∷ []
+modeName Skip = 83 ∷ 75 ∷ 73 ∷ 80 ∷ []
 
 -- `refused,` and the number
 unfoldable pub refusedText : ℕ → List ℕ
@@ -77,10 +78,6 @@ refusedText n = lineOf ((114 ∷ 101 ∷ 102 ∷ 117 ∷ 115 ∷ 101 ∷ 100 ∷
 unfoldable pub totalLine : ℕ → ℕ → List ℕ
 totalLine bits error = lineOf ((116 ∷ 111 ∷ 116 ∷ 97 ∷ 108 ∷ []) ∷ decimal bits ∷ decimal error ∷ [])
 
--- the stated error of macroblock k as the listing gives it, and the total of all
-abbrev pub listedError : Weight → ℕ
-listedError w = w .err
-
 -- a plane listed as it is written from bit 0 into an output, given as its bits
 module _ (g : Given) (t : Task) (out : List ℕ) where
   abbrev pub stateAt : ℕ → Writing
@@ -89,10 +86,10 @@ module _ (g : Given) (t : Task) (out : List ℕ) where
   -- row, column, mode, bits, error of macroblock k; rows and columns count macroblocks
   unfoldable pub macroblockLine : ℕ → List ℕ
   macroblockLine k =
-      let s = stateAt k in
+      let m = stepStated g t k (stateAt k) in
       lineOf (
-      decimal (k / cols g) ∷ decimal (k % cols g) ∷ modeName (modeOf (wrote g t k s)) ∷ decimal (wroteWeight g t k s .bits)
-      ∷ decimal (listedError (wroteWeight g t k s)) ∷ [])
+      decimal (k / cols g) ∷ decimal (k % cols g) ∷ modeName (m .mode) ∷ decimal (m .bits)
+      ∷ decimal (m .error) ∷ [])
 
   -- the lines of the first n macroblocks
   unfoldable pub linesTo : ℕ → List ℕ

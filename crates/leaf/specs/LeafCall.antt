@@ -5,6 +5,7 @@ use mathlib.Core.List.{List}
 use lib.Dec.{eqb, leb, ltb}
 use lib.ListN.{length}
 use Rattle.bits.specs.Basics.{pick, orElse, unless}
+use Rattle.bits.specs.Calls.{Answer, done, unlessRefused}
 use Rattle.book.specs.Book.{tablesOf, dataRefusal}
 use Rattle.book.specs.Level.{area}
 use Rattle.book.specs.declared.svq1_vlc.Svq1Half.{Svq1Half}
@@ -39,14 +40,14 @@ unfoldable pub blockRefusal : BlockIn → ℕ
 blockRefusal b = orElse (dataRefusal (b .book) (b .codebook)) (unless (blockOk b) 8)
 
 -- what an accepted leaf call answers: the leaf, its bits, its error and the samples that it shows
-pub record LeafAnswer : Type 0 where
+pub record LeafChosen : Type 0 where
   pub leaf : Leaf
   pub bits : ℕ
   pub error : ℕ
   pub shown : List ℕ
 
-unfoldable pub leafAnswer : BlockIn → LeafAnswer
-leafAnswer b =
+unfoldable pub leafChosen : BlockIn → LeafChosen
+leafChosen b =
     let h = halfAt (b .half) in
     let vs = vectorAt (b .codebook) h (b .level) in
     let l = leafRule h vs (capAt (b .level) (b .cap)) (b .allowSkip) (b .target) (b .predictor) in
@@ -56,3 +57,7 @@ leafAnswer b =
       error = sse (b .target) (leafShown vs (b .predictor) l);
       shown = leafShown vs (b .predictor) l;
     }
+
+-- the leaf search as a call; it takes no result slice
+unfoldable pub leafAnswer : BlockIn → Answer LeafChosen
+leafAnswer b = unlessRefused (blockRefusal b) (done (leafChosen b))

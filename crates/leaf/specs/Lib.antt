@@ -1,5 +1,6 @@
 -- The definitions that the contracts of this crate cite; the laws that callers cite stand in the files named `..Laws`.
 pub mod Codebook
+pub mod CodebookLaws
 pub mod Mean
 pub mod MeanLaws
 pub mod Leaf

@@ -17,6 +17,9 @@ use Rattle.motion.specs.Compensation.{Canvas, movedSample, movedBlock}
 use Rattle.motion.specs.Grid.{part}
 use Rattle.motion.specs.Search.{blocksAlong}
 use Rattle.tree.specs.TreeBits.{Node, treeBits, treeShown}
+use Rattle.macroblock.specs.Mode.{modePosition}
+use Rattle.macroblock.specs.declared.svq1_enc_inter.Svq1MbMode.{Svq1MbMode}
+use Rattle.macroblock.specs.declared.svq1_enc_inter.Svq1MbMode.the-variants as Mode
 
 -- what writer and reader are both given: the visible size, the reference, the book and the codebook
 pub record Given : Type 0 where
@@ -43,14 +46,14 @@ pub data Choice : Type 0 where
   skipped : Choice
   coded : Motion → List Node → Choice
 
--- the mode table's positions: 0 INTER, 1 INTER_4MV, 2 INTRA, 3 SKIP
-abbrev pub motionMode : Motion → ℕ
-motionMode still = 2
-motionMode (single v) = 0
-motionMode (four a b c d) = 1
+-- the mode that a choice is written as
+abbrev pub motionMode : Motion → Svq1MbMode
+motionMode still = Mode.Intra
+motionMode (single v) = Mode.Inter
+motionMode (four a b c d) = Mode.Inter4Mv
 
-abbrev pub modeOf : Choice → ℕ
-modeOf skipped = 3
+abbrev pub modeOf : Choice → Svq1MbMode
+modeOf skipped = Mode.Skip
 modeOf (coded m t) = motionMode m
 
 -- INTRA trees use the intra half, the others the inter half
@@ -111,8 +114,11 @@ motionBits g n (single v) = vectorBits g (forOne n) v
 motionBits g n (four a b c d) =
     vectorBits g (forFirst n) a ++ (vectorBits g (forSecond n a) b ++ (vectorBits g (forThird n a b) c ++ vectorBits g (forFourth a b c) d))
 
+-- the code of a mode
+abbrev pub modeBits : Given → Svq1MbMode → List ℕ
+modeBits g m = code (modeCodes g) (modePosition m)
+
 -- mode, vector differences, tree; SKIP has only its mode
 unfoldable pub choiceBits : Given → Near → Choice → List ℕ
-choiceBits g n skipped = code (modeCodes g) 3
-choiceBits g n (coded m t) =
-    code (modeCodes g) (motionMode m) ++ (motionBits g n m ++ treeBits (tablesOf (g .book) (halfOf m)) t)
+choiceBits g n skipped = modeBits g Mode.Skip
+choiceBits g n (coded m t) = modeBits g (motionMode m) ++ (motionBits g n m ++ treeBits (tablesOf (g .book) (halfOf m)) t)

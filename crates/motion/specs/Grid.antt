@@ -1,4 +1,4 @@
--- A plane as a grid of macroblocks: which macroblock an entry of a slice belongs to, a macroblock's entries, and writing them.
+-- A plane as a grid of macroblocks: which macroblock an entry of a slice belongs to, a macroblock's entries, and writing them (document 01, the last sentence of `svq1_mv_cache.rs`, and "gathering it by plane").
 -- One form serves samples (16 a side) and block vectors (2 a side).
 use Prim.Native.Nat.{ℕ, suc, _+_, _*_, _/_, _%_}
 use mathlib.Core.List.{List, [], _∷_}

@@ -1,6 +1,8 @@
--- The definitions that the contracts of this crate cite.
+-- The definitions that the contracts of this crate cite; the laws that callers cite stand in the files named `..Laws`.
 pub mod Vectors
+pub mod VectorsLaws
 pub mod Neighbours
 pub mod Grid
+pub mod GridLaws
 pub mod Compensation
 pub mod Search

@@ -5,7 +5,7 @@ use mathlib.Core.List.{List}
 use lib.Dec.{ltb}
 use lib.ListN.{getD}
 use lib.IntN.{ℤ, pos, negsuc, _+ℤ_}
-use Rattle.bits.specs.Basics.{pick, signedOf}
+use Rattle.bits.specs.Basics.{pick, natural, signedOf}
 use Rattle.motion.specs.declared.svq1_motion_predictor.Svq1Mv.{Svq1Mv}
 use Rattle.motion.specs.declared.svq1_motion_predictor.Neighbour.{Neighbour}
 use Rattle.motion.specs.declared.svq1_motion_predictor.Neighbour.the-variants.{Absent, Present}
@@ -16,10 +16,6 @@ abbrev pub within : ℤ → ℕ → Bool
 within (pos k) n = ltb k n
 within (negsuc k) n = false
 
-abbrev pub indexOf : ℤ → ℕ
-indexOf (pos k) = k
-indexOf (negsuc k) = 0
-
 -- a plane of cols × rows macroblocks: the vector at an 8×8 row and column stands at row × twice the columns + column, a two's complement byte in each slice
 abbrev pub storedAt : ℕ → List ℕ → List ℕ → ℕ → ℕ → Svq1Mv
 storedAt cols vx vy row col = record { x = signedOf (getD vx (row * (2 * cols) + col) 0); y = signedOf (getD vy (row * (2 * cols) + col) 0) }
@@ -27,7 +23,7 @@ storedAt cols vx vy row col = record { x = signedOf (getD vx (row * (2 * cols) +
 -- the neighbour there; off the plane it is absent
 unfoldable pub neighbourAt : ℕ → ℕ → List ℕ → List ℕ → ℤ → ℤ → Neighbour
 neighbourAt cols rows vx vy row col =
-    pick (within row (2 * rows) && within col (2 * cols)) (Present (storedAt cols vx vy (indexOf row) (indexOf col))) Absent
+    pick (within row (2 * rows) && within col (2 * cols)) (Present (storedAt cols vx vy (natural row) (natural col))) Absent
 
 -- the seven neighbours outside a macroblock that predictions use; its first 8×8 row and column are r and c
 pub record Near : Type 0 where

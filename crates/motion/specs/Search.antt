@@ -8,6 +8,7 @@ use lib.ListN.{length}
 use lib.IntN.{ℤ, pos, subℕ, _+ℤ_}
 use lib.Signed.{ltZ, leZ, shrZ}
 use Rattle.bits.specs.Basics.{pick, gap, orElse, unless}
+use Rattle.bits.specs.Calls.{Answer, done, refused, unlessRefused}
 use Rattle.motion.specs.declared.svq1_motion_predictor.Svq1Mv.{Svq1Mv}
 use Rattle.motion.specs.Vectors.{zeroMv, inRange, codable}
 use Rattle.motion.specs.Compensation.{Canvas, movedBlock}
@@ -123,19 +124,23 @@ canvasRefusal w h c =
     orElse (unless (eqb (c .stride) (padded16 w) && eqb (c .rows) (padded16 h)) 3) (unless (eqb (length (c .samples)) (c .stride * c .rows)) 4)
 
 -- 9: side not 8 or 16, place off that grid or canvas, target length not side squared, predictor outside -32..31
-unfoldable pub blockOk : Search → Bool
-blockOk g =
+unfoldable pub searchOk : Search → Bool
+searchOk g =
     ((eqb (g .side) 8 || eqb (g .side) 16) && (eqb (g .x % g .side) 0 && eqb (g .y % g .side) 0))
     && ((ltb (g .x) (g .reference .stride) && ltb (g .y) (g .reference .rows))
     && (eqb (length (g .target)) (g .side * g .side) && (inRange (g .predictor .x) && inRange (g .predictor .y))))
 
--- of a search call that finds nothing to refuse in what came in: 0, or 23 where no vector tried is codable and in the window
-abbrev pub foundRefusal : Option Svq1Mv → ℕ
-foundRefusal none = 23
-foundRefusal (some v) = 0
-
+-- for what came in; 0 for none
 unfoldable pub searchRefusal : Search → ℕ
 searchRefusal g =
     orElse (sizeRefusal (g .width) (g .height))
-    (orElse (canvasRefusal (g .width) (g .height) (g .reference))
-    (orElse (unless (blockOk g) 9) (foundRefusal (searched g))))
+    (orElse (canvasRefusal (g .width) (g .height) (g .reference)) (unless (searchOk g) 9))
+
+-- 23: no vector tried is codable and in the window
+abbrev pub foundAnswer : Option Svq1Mv → Answer Svq1Mv
+foundAnswer none = refused 23
+foundAnswer (some v) = done v
+
+-- the search as a call
+unfoldable pub searchAnswer : Search → Answer Svq1Mv
+searchAnswer g = unlessRefused (searchRefusal g) (foundAnswer (searched g))

@@ -1,5 +1,5 @@
 -- The plane calls: their refusals in order, their answers, and every byte they leave (document 01, "Refused for what came in", "Refused for the state met").
-use Prim.Native.Nat.{ℕ, _+_, _*_, _^_}
+use Prim.Native.Nat.{ℕ, _*_}
 use mathlib.Core.Bool.{Bool, true, false, _&&_}
 use mathlib.Core.List.{List}
 use mathlib.Core.Path.{_≡_}
@@ -7,6 +7,7 @@ use lib.Dec.{eqb, leb}
 use lib.ListN.{length}
 use Rattle.bits.specs.Basics.{pick, orElse, unless}
 use Rattle.bits.specs.Bits.{bitsOf}
+use Rattle.bits.specs.Calls.{startRefusal}
 use Rattle.book.specs.Book.{dataRefusal}
 use Rattle.motion.specs.Search.{sizeRefusal, canvasRefusal}
 use Rattle.macroblock.specs.Macroblock.{Given}
@@ -23,22 +24,14 @@ unfoldable pub slicesRefusal : Given → Slices → ℕ
 slicesRefusal g s =
     unless ((leb (4 * count g) (length (s .vx)) && leb (4 * count g) (length (s .vy))) && eqb (length (s .recon)) (g .reference .stride * g .reference .rows)) 20
 
--- the longest bit string, in bytes
-abbrev pub longestString : ℕ
-longestString = 2 ^ 28
-
--- 21: bit string above 2^28 bytes, or start bit beyond it
-unfoldable pub startRefusal : List ℕ → ℕ → ℕ
-startRefusal bytes start = unless (leb (length bytes) longestString && leb start (8 * length bytes)) 21
-
--- of the writer, lowest number first, 20 and 21 behind 1 to 9; 0 for none
+-- of the writer, lowest number first, 20 and 21 (the bit string above 2^28 bytes, or the start bit beyond it) behind 1 to 9; 0 for none
 unfoldable pub writeRefusal : Given → Task → List ℕ → ℕ → Slices → ℕ
 writeRefusal g t out start s =
     orElse (sizeRefusal (g .width) (g .height))
     (orElse (sourceRefusal g t)
     (orElse (canvasRefusal (g .width) (g .height) (g .reference))
     (orElse (dataRefusal (g .book) (g .codebook))
-    (orElse (slicesRefusal g s) (startRefusal out start)))))
+    (orElse (slicesRefusal g s) (startRefusal (length out) start)))))
 
 -- of the reader
 unfoldable pub readRefusal : Given → List ℕ → ℕ → Slices → ℕ
@@ -46,7 +39,7 @@ readRefusal g bytes start s =
     orElse (sizeRefusal (g .width) (g .height))
     (orElse (canvasRefusal (g .width) (g .height) (g .reference))
     (orElse (dataRefusal (g .book) (g .codebook))
-    (orElse (slicesRefusal g s) (startRefusal bytes start))))
+    (orElse (slicesRefusal g s) (startRefusal (length bytes) start))))
 
 -- what a plane call answers: the refusal, 0 for none; the macroblocks done, which with 10, 11, 22 and 24 is the index of the one refused; the next bit; and the writer's totals, which are 0 in the reader
 pub record PlaneAnswer : Type 0 where
@@ -63,8 +56,8 @@ refusedAnswer n = record { refusal = n; done = 0; next = 0; bits = 0; error = 0 
 abbrev pub writtenAnswer : End Writing → PlaneAnswer
 writtenAnswer e = record { refusal = e .refusal; done = e .done; next = e .state .next; bits = e .state .bits; error = e .state .error }
 
-abbrev pub readAnswer : End ReadingState → PlaneAnswer
-readAnswer e = record { refusal = e .refusal; done = e .done; next = e .state .next; bits = 0; error = 0 }
+abbrev pub endAnswer : End ReadingState → PlaneAnswer
+endAnswer e = record { refusal = e .refusal; done = e .done; next = e .state .next; bits = 0; error = 0 }
 
 -- ---- the writer as a call: what it answers, the output's bits and the slices that it leaves; a refused call leaves all as it was
 unfoldable pub writeAnswer : Given → Task → List ℕ → ℕ → Slices → PlaneAnswer
@@ -80,7 +73,7 @@ unfoldable pub writeSlices : Given → Task → List ℕ → ℕ → Slices → 
 writeSlices g t out start s = pick (eqb (writeRefusal g t out start s) 0) (writePlane g t (bitsOf out) start s .state .slices) s
 
 -- what a call of the writer meets: r is its answer, out', recon', vx' and vy' what it leaves
-pub record Wrote (g : Given) (t : Task) (out : List ℕ) (start : ℕ) (s : Slices) (r : PlaneAnswer) (out' recon' vx' vy' : List ℕ) : Type 0 where
+pub record PlaneWritten (g : Given) (t : Task) (out : List ℕ) (start : ℕ) (s : Slices) (r : PlaneAnswer) (out' recon' vx' vy' : List ℕ) : Type 0 where
   pub answer : r ≡ writeAnswer g t out start s
   pub left-out : bitsOf out' ≡ writeOut g t out start s
   pub left-recon : recon' ≡ writeSlices g t out start s .recon
@@ -91,12 +84,12 @@ pub record Wrote (g : Given) (t : Task) (out : List ℕ) (start : ℕ) (s : Slic
 unfoldable pub readPlaneAnswer : Given → List ℕ → ℕ → Slices → PlaneAnswer
 readPlaneAnswer g bytes start s =
     let n = readRefusal g bytes start s in
-    pick (eqb n 0) (readAnswer (readPlane g (bitsOf bytes) start s)) (refusedAnswer n)
+    pick (eqb n 0) (endAnswer (readPlane g (bitsOf bytes) start s)) (refusedAnswer n)
 
 unfoldable pub readSlices : Given → List ℕ → ℕ → Slices → Slices
 readSlices g bytes start s = pick (eqb (readRefusal g bytes start s) 0) (readPlane g (bitsOf bytes) start s .state .slices) s
 
-pub record Read (g : Given) (bytes : List ℕ) (start : ℕ) (s : Slices) (r : PlaneAnswer) (recon' vx' vy' : List ℕ) : Type 0 where
+pub record PlaneRead (g : Given) (bytes : List ℕ) (start : ℕ) (s : Slices) (r : PlaneAnswer) (recon' vx' vy' : List ℕ) : Type 0 where
   pub answer : r ≡ readPlaneAnswer g bytes start s
   pub left-recon : recon' ≡ readSlices g bytes start s .recon
   pub left-vx : vx' ≡ readSlices g bytes start s .vx

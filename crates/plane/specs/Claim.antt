@@ -6,19 +6,16 @@ use mathlib.Core.Path.{_≡_}
 use lib.ListN.{length, take, drop}
 use Rattle.bits.specs.Basics.{All, Bytes, sum}
 use Rattle.bits.specs.Bits.{bitsOf, putBits}
-use Rattle.bits.specs.Codes.{code}
 use Rattle.leaf.specs.Leaf.{sse}
 use Rattle.motion.specs.Grid.{part}
-use Rattle.tree.specs.Plan.{Weight, Planning, total, planWeight, prunedCost}
-use Rattle.macroblock.specs.Macroblock.{Given, cols, Choice, modeCodes}
+use Rattle.tree.specs.Plan.{Weight, total, prunedCost}
+use Rattle.tree.specs.PlanClaim.{largestLambda, planCost}
+use Rattle.macroblock.specs.declared.svq1_enc_inter.Svq1MbMode.the-variants.{Skip}
+use Rattle.macroblock.specs.Macroblock.{Given, cols, Choice, modeBits}
 use Rattle.macroblock.specs.Choice.{Task, paddedSource, target, motionsTried, planningFor, tried, weightOf}
 use Rattle.plane.specs.Run.{End}
 use Rattle.plane.specs.Plane.{count, Slices, near, Writing, wrote, wroteWeight, wroteBits, writePlane, writingAt, ReadingState, readUpTo, readPlane}
-use Rattle.plane.specs.Calls.{writeRefusal, slicesRefusal}
-
--- lambda up to here
-abbrev pub largestLambda : ℕ
-largestLambda = 2 ^ 48
+use Rattle.plane.specs.Calls.{writeRefusal, readRefusal, slicesRefusal}
 
 -- macroblock k, written in state s, leads to state u: it appends exactly the bits that it states
 pub record Appended (g : Given) (t : Task) (k : ℕ) (s u : Writing) : Type 0 where
@@ -28,21 +25,18 @@ pub record Appended (g : Given) (t : Task) (k : ℕ) (s u : Writing) : Type 0 wh
   pub bits : u .bits ≡ s .bits + wroteWeight g t k s .bits
   pub error : u .error ≡ s .error + wroteWeight g t k s .err
 
--- reading bits from bit start into any slices d that pass 20 takes for each macroblock the bits that the writer appended, and ends as the writer ended, in state e; `s k` is the writer's state before macroblock k
-pub record ReadBack (g : Given) (bits : List ℕ) (start : ℕ) (d : Slices) (s : ℕ → Writing) (e : Writing) : Type 0 where
-  pub goes-on : (k : ℕ) → k ≤ count g → readUpTo g bits start d k .refusal ≡ 0
-  pub reads : (k : ℕ) → k ≤ count g → readUpTo g bits start d k .done ≡ k
-  pub same-bit : (k : ℕ) → k ≤ count g → readUpTo g bits start d k .state .next ≡ s k .next
-  pub ends : readPlane g bits start d .state .next ≡ e .next
-  pub recon : readPlane g bits start d .state .slices .recon ≡ e .slices .recon
-  pub vx : take (4 * count g) (readPlane g bits start d .state .slices .vx) ≡ take (4 * count g) (e .slices .vx)
-  pub vy : take (4 * count g) (readPlane g bits start d .state .slices .vy) ≡ take (4 * count g) (e .slices .vy)
-  pub rest-vx : drop (4 * count g) (readPlane g bits start d .state .slices .vx) ≡ drop (4 * count g) (d .vx)
-  pub rest-vy : drop (4 * count g) (readPlane g bits start d .state .slices .vy) ≡ drop (4 * count g) (d .vy)
-
--- what a plan costs
-abbrev pub planCost : Planning → ℕ
-planCost p = total (p .lambda) (planWeight p)
+-- reading the bytes from bit start into the slices d is not refused, takes for each macroblock the bits that the writer appended, and ends as the writer ended; `s k` is the writer's state before macroblock k
+pub record ReadBack (g : Given) (bytes : List ℕ) (start : ℕ) (d : Slices) (s : ℕ → Writing) : Type 0 where
+  pub accepted : readRefusal g bytes start d ≡ 0
+  pub goes-on : (k : ℕ) → k ≤ count g → readUpTo g (bitsOf bytes) start d k .refusal ≡ 0
+  pub reads : (k : ℕ) → k ≤ count g → readUpTo g (bitsOf bytes) start d k .done ≡ k
+  pub same-bit : (k : ℕ) → k ≤ count g → readUpTo g (bitsOf bytes) start d k .state .next ≡ s k .next
+  pub ends : readPlane g (bitsOf bytes) start d .state .next ≡ s (count g) .next
+  pub recon : readPlane g (bitsOf bytes) start d .state .slices .recon ≡ s (count g) .slices .recon
+  pub vx : take (4 * count g) (readPlane g (bitsOf bytes) start d .state .slices .vx) ≡ take (4 * count g) (s (count g) .slices .vx)
+  pub vy : take (4 * count g) (readPlane g (bitsOf bytes) start d .state .slices .vy) ≡ take (4 * count g) (s (count g) .slices .vy)
+  pub rest-vx : drop (4 * count g) (readPlane g (bitsOf bytes) start d .state .slices .vx) ≡ drop (4 * count g) (d .vx)
+  pub rest-vy : drop (4 * count g) (readPlane g (bitsOf bytes) start d .state .slices .vy) ≡ drop (4 * count g) (d .vy)
 
 -- a plane written from bit start of the bytes out, with the result slices a: the state before macroblock k, and the state at the end
 module _ (g : Given) (t : Task) (out : List ℕ) (start : ℕ) (a : Slices) where
@@ -56,7 +50,7 @@ module _ (g : Given) (t : Task) (out : List ℕ) (start : ℕ) (a : Slices) wher
   abbrev pub costOf : ℕ → Choice → ℕ
   costOf k c = total (t .lambda) (weightOf g t k (near g (stateAt k .slices) k) c)
 
-  -- the seven sentences of demand 3, in its order
+  -- the seven sentences of demand 3, numbered as there
   pub record Claim : Type 0 where
     -- the run reaches the last macroblock with these states
     pub reaches : writePlane g t (bitsOf out) start a ≡ record { refusal = 0; done = count g; state = final }
@@ -71,25 +65,19 @@ module _ (g : Given) (t : Task) (out : List ℕ) (start : ℕ) (a : Slices) wher
     -- what lies behind the block vectors stays
     pub rest-vx : drop (4 * count g) (final .slices .vx) ≡ drop (4 * count g) (a .vx)
     pub rest-vy : drop (4 * count g) (final .slices .vy) ≡ drop (4 * count g) (a .vy)
-    -- 4. the reader takes exactly those bits and ends with the writer's next bit, reconstruction and block vectors
-    pub read-back : (d : Slices) → slicesRefusal g d ≡ 0 → ReadBack g (final .out) start d stateAt final
+    -- 4. the reader, given the bytes that hold that output and any slices that pass 20, takes exactly those bits and ends with the writer's next bit, reconstruction and block vectors
+    pub read-back : (bytes : List ℕ) (d : Slices) → bitsOf bytes ≡ final .out → slicesRefusal g d ≡ 0 → ReadBack g bytes start d stateAt
     -- 5. in each plan every other pruning over the same leaf choices costs at least as much
     pub no-pruning-cheaper : (k : ℕ) → k < count g → All (λ m. (cut : ℕ → Bool) → planCost (planningFor g t k m) ≤ prunedCost (planningFor g t k m) cut) (motionsTried g t k (near g (stateAt k .slices) k))
     -- 6. no mode tried costs less than the one written
     pub no-mode-cheaper : (k : ℕ) → k < count g → All (λ c. costOf k (wrote g t k (stateAt k)) ≤ costOf k c) (tried g t k (near g (stateAt k .slices) k))
     -- 7. squared error plus lambda times bits is never above that of skipping every macroblock
-    pub never-above-skipping : final .error + t .lambda * final .bits ≤ sse (paddedSource g t) (g .reference .samples) + t .lambda * (length (code (modeCodes g) 3) * count g)
+    pub never-above-skipping : final .error + t .lambda * final .bits ≤ sse (paddedSource g t) (g .reference .samples) + t .lambda * (length (modeBits g Skip) * count g)
 
-  -- the lists are byte slices
+  -- source and reference are byte slices
   pub record InMemory : Type 0 where
     pub source : Bytes (t .source)
     pub reference : Bytes (g .reference .samples)
-    pub book : Bytes (g .book)
-    pub codebook : Bytes (g .codebook)
-    pub output : Bytes out
-    pub recon : Bytes (a .recon)
-    pub vx : Bytes (a .vx)
-    pub vy : Bytes (a .vy)
 
   -- what has to be shown of every plane: one that no refusal meets, with lambda at most 2^48, written to its last macroblock
   abbrev pub Claimed : Type 0

@@ -13,14 +13,15 @@ use Rattle.motion.specs.declared.svq1_motion_predictor.Svq1Mv.{Svq1Mv}
 use Rattle.motion.specs.Neighbours.{Near, nearOf}
 use Rattle.motion.specs.Grid.{putPart}
 use Rattle.tree.specs.Plan.{Weight}
-use Rattle.macroblock.specs.Macroblock.{Given, cols, rows, Choice, vectorsOf, shown, choiceBits}
+use Rattle.macroblock.specs.declared.svq1_enc_inter.Svq1MbMode.{Svq1MbMode}
+use Rattle.macroblock.specs.Macroblock.{Given, cols, rows, Choice, modeOf, vectorsOf, shown, choiceBits}
 use Rattle.macroblock.specs.Choice.{Task, weightOf, chosen}
 use Rattle.macroblock.specs.Reading.{readMacroblock}
 use Rattle.plane.specs.Run.{Step, on, stop, End, run, after}
 
 -- the macroblocks of a plane
 abbrev pub count : Given → ℕ
-count g = cols g * rows g
+count g = rows g * cols g
 
 -- the result slices that writer and reader share: the reconstruction, and the block vectors' x and y
 pub record Slices : Type 0 where
@@ -58,6 +59,15 @@ wroteWeight g t k s = weightOf g t k (near g (s .slices) k) (wrote g t k s)
 
 abbrev pub wroteBits : Given → Task → ℕ → Writing → List ℕ
 wroteBits g t k s = choiceBits g (near g (s .slices) k) (wrote g t k s)
+
+-- what a macroblock's step states: its mode, bits and error
+pub record StepStated : Type 0 where
+  pub mode : Svq1MbMode
+  pub bits : ℕ
+  pub error : ℕ
+
+abbrev pub stepStated : Given → Task → ℕ → Writing → StepStated
+stepStated g t k s = record { mode = modeOf (wrote g t k s); bits = wroteWeight g t k s .bits; error = wroteWeight g t k s .err }
 
 -- it fits
 abbrev pub fits : Given → Task → ℕ → Writing → Bool

@@ -1,4 +1,4 @@
--- A run over macroblocks that may end early, over any state and any step.
+-- A run over macroblocks that may end early, over any state and any step (document 00, demand 1: earlier macroblocks are kept, the rest is untouched).
 use Prim.Native.Nat.{ℕ, zero, suc}
 use mathlib.Core.Bool.{Bool}
 use Rattle.bits.specs.Basics.{pick}

@@ -17,7 +17,8 @@ use Rattle.motion.specs.declared.svq1_motion_predictor.Neighbour.{Neighbour}
 use Rattle.motion.specs.declared.svq1_motion_predictor.Neighbour.the-variants.{Absent, Present}
 use Rattle.motion.specs.Vectors.{predicted}
 use Rattle.motion.specs.Compensation.{mean2, mean4}
-use Rattle.motion.specs.Search.{Search, padded16, searched}
+use Rattle.bits.specs.Calls.{done}
+use Rattle.motion.specs.Search.{Search, padded16, searchAnswer}
 use Rattle.macroblock.specs.Macroblock.{Given}
 use Rattle.macroblock.specs.Choice.{Task}
 use Rattle.plane.specs.Plane.{Writing, writePlane}
@@ -41,13 +42,13 @@ flatGiven j reference = record {
 abbrev pub flatTask : Job → ℕ → Task
 flatTask j source = record { source = replicate (j .width * j .height) source; lambda = j .lambda; radius = j .radius; allowFour = j .allowFour }
 
--- a search of a block in a flat square plane whose samples, and the target's, are all 0
+-- a search of a block in a flat square plane whose samples, and the target's, are all 100
 abbrev pub flatSearch : ℕ → ℕ → ℕ → ℕ → ℕ → Svq1Mv → Search
 flatSearch size radius side x y p = record {
-  reference = record { samples = replicate (padded16 size * padded16 size) 0; stride = padded16 size; rows = padded16 size };
+  reference = record { samples = replicate (padded16 size * padded16 size) 100; stride = padded16 size; rows = padded16 size };
   width = size;
   height = size;
-  target = replicate (side * side) 0;
+  target = replicate (side * side) 100;
   side = side;
   x = x;
   y = y;
@@ -81,7 +82,7 @@ Holds (predictor l t r v) = predicted l t r ≡ v
 Holds (raster level byte place) = rasterOf level byte ≡ place
 Holds (two a b m) = mean2 a b ≡ m
 Holds (four a b c d m) = mean4 a b c d ≡ m
-Holds (search size radius side x y p v) = searched (flatSearch size radius side x y p) ≡ some v
+Holds (search size radius side x y p v) = searchAnswer (flatSearch size radius side x y p) ≡ done v
 
 -- `16,16,32,8,1` and the line with lambda 2^64-1, each with its line feed
 abbrev pub firstLine : List ℕ

@@ -36,7 +36,7 @@ use Rattle.macroblock.specs.Macroblock.{referenceBlock, baseline, shown, vector
 use Rattle.motion.specs.Compensation.{sampleAt, halfSample, movedBlock}
 use Rattle.motion.specs.Grid.{owner, placeIn, part, putFrom, putPart}
 use Rattle.motion.specs.Neighbours.{neighbourAt, nearOf}
-use Rattle.motion.specs.Search.{inWindow, allowed, sad, errorOf, consider, fullAt, rowTo, rowsTo, fullSearch, aroundTo, searchBest, searched}
+use Rattle.motion.specs.Search.{inWindow, allowed, sad, errorOf, consider, fullAt, rowTo, rowsTo, fullSearch, aroundTo, searchBest, searched, searchOk, searchRefusal, searchAnswer}
 use Rattle.motion.specs.Vectors.{median, predicted, codable}
 use Rattle.plane.specs.Plane.{laid, written, writePlane}
 use Rattle.plane.specs.Run.{run, after}
@@ -142,5 +142,5 @@ largest-card = (refl, rw chosen-at-largest, text-at-largest (bitsOf (replicate o
 
 -- THE CARDS
 pub starred : All Holds cards
-unfolding meanOf rounded clampMean predicted median rasterOf valuesFrom searched searchBest fullSearch rowsTo rowTo aroundTo consider allowed codable inWindow fullAt errorOf sad movedBlock halfSample sampleAt
+unfolding meanOf rounded clampMean predicted median rasterOf valuesFrom searchAnswer searchRefusal searchOk searched searchBest fullSearch rowsTo rowTo aroundTo consider allowed codable inWindow fullAt errorOf sad movedBlock halfSample sampleAt
 starred = (first-card, (largest-card, (refl, (refl, (refl, (refl, (refl, (refl, (refl, (refl, (refl, (refl, (refl, tt)))))))))))))

@@ -37,18 +37,22 @@ joined a b = record { bits = a .bits + b .bits + 1; err = a .err + b .err }
 abbrev pub flagged : Weight → Weight
 flagged a = record { bits = a .bits + 1; err = a .err }
 
+-- the first costs strictly less
+abbrev pub cheaper : ℕ → Weight → Weight → Bool
+cheaper lambda a b = ltb (cost lambda a) (cost lambda b)
+
 -- what the plan of block i, of level d, weighs, given what each block weighs as a leaf: a split wins only if strictly cheaper
 unfoldable pub planned : (ℕ → Weight) → ℕ → ℕ → ℕ → Weight
 planned leaf lambda zero i = leaf i
 planned leaf lambda (suc d) i =
     let parts = joined (planned leaf lambda d (left i)) (planned leaf lambda d (right i)) in
-    pick (ltb (cost lambda parts) (cost lambda (flagged (leaf i)))) parts (flagged (leaf i))
+    pick (cheaper lambda parts (flagged (leaf i))) parts (flagged (leaf i))
 
 -- whether the plan splits block i of level d
 unfoldable pub splits : (ℕ → Weight) → ℕ → ℕ → ℕ → Bool
 splits leaf lambda zero i = false
 splits leaf lambda (suc d) i =
-    ltb (cost lambda (joined (planned leaf lambda d (left i)) (planned leaf lambda d (right i)))) (cost lambda (flagged (leaf i)))
+    cheaper lambda (joined (planned leaf lambda d (left i)) (planned leaf lambda d (right i))) (flagged (leaf i))
 
 -- what any pruning weighs: it starts at block i, and `cut` says of each block that it reaches whether it is split; L0 never is
 unfoldable pub pruned : (ℕ → Weight) → (ℕ → Bool) → ℕ → ℕ → Weight

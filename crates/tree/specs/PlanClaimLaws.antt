@@ -32,7 +32,7 @@ use Rattle.tree.specs.PlanLaws.{Under, optimal, room, own-plan, splits-z
 use Rattle.tree.specs.TreeBits.{Node, Off, Split, Ends, planTree, treeBits, readTree, treeShown, planningOf}
 use Rattle.tree.specs.TreeLaws.{Stands, tree-read}
 use Rattle.tree.specs.ChoiceLaws.{choice, tree, bits-are, shown-are}
-use Rattle.tree.specs.PlanClaim.{PlanClaim, PlanClaimed}
+use Rattle.tree.specs.PlanClaim.{largestLambda, planCost, PlanClaim, PlanClaimed}
 
 -- what a plan may assume: tables that read back, vectors of their levels' sizes, a block and a predictor of bytes
 pub record Planned (g : Planning) : Type 0 where
@@ -135,10 +135,14 @@ module _ (g : Planning) (p : Planned g) where
       let e = error-is s n (planSplits g) show lens (g .target) (p .target-long) (weightAt g) (λ i h. errs i) (g .level) (root g) (p .five) (ok-root .0 .0) (ok-root .0 .1) (ok-root .1) in
       sym (ap (λ (w : Weight). w .err) own) ∙ e ∙ rw (first-whole (g .level) (g .target) (p .five) (p .target-long), plan-shows)
 
-  pub plan-cheapest : g .lambda ≤ 2 ^ 48 → (cut : ℕ → Bool) → total (g .lambda) (planWeight g) ≤ prunedCost g cut
+  least : g .lambda ≤ largestLambda → (cut : ℕ → Bool) → total (g .lambda) (planWeight g) ≤ prunedCost g cut
   unfolding planWeight prunedCost
-  plan-cheapest h cut =
+  least h cut =
       optimal (weightAt g) (g .lambda) 88 (2 ^ 24) Ok ok-parts small cut (g .level) (root g) ok-root (room (g .lambda) (g .level) h (p .five))
+
+  pub plan-cheapest : g .lambda ≤ largestLambda → (cut : ℕ → Bool) → planCost g ≤ prunedCost g cut
+  unfolding planCost
+  plan-cheapest h cut = rw (← plan-error, ← plan-bits) (least h cut)
 
   pub plan-reads : (rest : List ℕ) → readTree (g .tables) (g .level) (treeBits (g .tables) (planTree g) ++ rest) ≡ got (planTree g) rest
   unfolding planTree
@@ -180,7 +184,7 @@ call-planned b lambda bt bp e =
 
 -- the claim about plans
 pub plan-claimed : (b : BlockIn) (lambda : ℕ) → PlanClaimed b lambda
-plan-claimed b lambda bt bp bb bc e =
+plan-claimed b lambda bt bp e =
     let g = planningOf b lambda in
     let p = call-planned b lambda bt bp e in
     record { bits = plan-bits g p; error = plan-error g p; no-pruning-cheaper = plan-cheapest g p; reads = plan-reads g p }

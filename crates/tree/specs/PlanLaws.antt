@@ -67,17 +67,17 @@ exact : (lambda b e : ℕ) (w : Weight) → Under b e w → e + lambda * b < 2 ^
 exact lambda b e w u h = omega (arith, mul-le-mul-left lambda (u .0))
 
 -- the split where it is strictly cheaper, else the leaf
-abbrev cheaper : ℕ → Weight → Weight → Weight
-cheaper lambda s l = pick (ltb (cost lambda s) (cost lambda l)) s l
+abbrev better : ℕ → Weight → Weight → Weight
+better lambda s l = pick (ltb (cost lambda s) (cost lambda l)) s l
 
 -- one step: of a block whose parts weigh pl and pr in the plan, ql and qr in the pruning
 step : (lambda b e : ℕ) (pl pr ql qr o : Weight) → Under b e (joined pl pr) → Under b e (flagged o) → e + lambda * b < 2 ^ 64
     → total lambda pl ≤ total lambda ql → total lambda pr ≤ total lambda qr
-    → (t : Bool) → total lambda (cheaper lambda (joined pl pr) (flagged o)) ≤ total lambda (pick t (joined ql qr) (flagged o))
+    → (t : Bool) → total lambda (better lambda (joined pl pr) (flagged o)) ≤ total lambda (pick t (joined ql qr) (flagged o))
 step lambda b e pl pr ql qr o us uo h hl hr = elim [ true ↦ le-trans (two .0) (simp mul-add (omega arith)) | false ↦ two .1 ]
   where
-    two : (total lambda (cheaper lambda (joined pl pr) (flagged o)) ≤ total lambda (joined pl pr))
-        × (total lambda (cheaper lambda (joined pl pr) (flagged o)) ≤ total lambda (flagged o))
+    two : (total lambda (better lambda (joined pl pr) (flagged o)) ≤ total lambda (joined pl pr))
+        × (total lambda (better lambda (joined pl pr) (flagged o)) ≤ total lambda (flagged o))
     two = least lambda (joined pl pr) (flagged o) _ refl (exact lambda b e (joined pl pr) us h) (exact lambda b e (flagged o) uo h)
 
 under-more : (b e d : ℕ) (w : Weight) → Under b e w → Under (most-bits b d) (most-err e d) w

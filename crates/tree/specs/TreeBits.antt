@@ -5,13 +5,14 @@ use mathlib.Core.List.{List, [], _∷_, _++_}
 use lib.Dec.{eqb}
 use lib.ListN.{length, getD, replicate}
 use Rattle.bits.specs.Basics.{pick}
+use Rattle.bits.specs.Calls.{Answer, done, unlessRefused}
 use Rattle.bits.specs.Codes.{Got, got, bad, then}
 use Rattle.book.specs.Book.{Tables, tablesOf}
 use Rattle.book.specs.Level.{width, area}
 use Rattle.leaf.specs.Codebook.{vectorAt}
 use Rattle.leaf.specs.Leaf.{Leaf, Vectors}
 use Rattle.leaf.specs.LeafBits.{leafBits, readLeaf}
-use Rattle.leaf.specs.LeafCall.{BlockIn, halfAt}
+use Rattle.leaf.specs.LeafCall.{BlockIn, halfAt, blockRefusal}
 use Rattle.tree.specs.Blocks.{blockCount, level, first, rebuilt}
 use Rattle.tree.specs.Plan.{Weight, Planning, stride, root, leafAt, shownAt, planSplits, planWeight}
 
@@ -90,7 +91,7 @@ unfoldable pub treeShown : (ℕ → Vectors) → ℕ → List ℕ → List Node 
 treeShown vectors d predictor t =
     rebuilt (width d) (λ i. isSplit (getD t i Off)) (λ i. nodeShows (shownAt vectors (width d) predictor) i (getD t i Off)) d (first d) (replicate (area d) 0)
 
--- ---- a plan as a call (refusals as `blockRefusal` says): its tree, its bits, its error, the samples that it shows
+-- ---- a plan as a call: its tree, its bits and error, the samples that it shows; it takes no result slice
 abbrev pub planningOf : BlockIn → ℕ → Planning
 planningOf b lambda = record {
   tables = tablesOf (b .book) (halfAt (b .half));
@@ -103,12 +104,15 @@ planningOf b lambda = record {
   predictor = b .predictor;
 }
 
-pub record PlanAnswer : Type 0 where
+pub record PlanMade : Type 0 where
   pub tree : List Node
   pub weight : Weight
   pub shown : List ℕ
 
-unfoldable pub planAnswer : BlockIn → ℕ → PlanAnswer
-planAnswer b lambda =
+unfoldable pub planMade : BlockIn → ℕ → PlanMade
+planMade b lambda =
     let g = planningOf b lambda in
     record { tree = planTree g; weight = planWeight g; shown = treeShown (g .vectors) (g .level) (g .predictor) (planTree g) }
+
+unfoldable pub planAnswer : BlockIn → ℕ → Answer PlanMade
+planAnswer b lambda = unlessRefused (blockRefusal b) (done (planMade b lambda))
