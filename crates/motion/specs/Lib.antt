@@ -5,4 +5,6 @@ pub mod Neighbours
 pub mod Grid
 pub mod GridLaws
 pub mod Compensation
+pub mod CompensationLaws
 pub mod Search
+pub mod SearchLaws

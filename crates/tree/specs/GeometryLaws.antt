@@ -16,7 +16,7 @@ use Rattle.leaf.specs.Leaf.{sse}
 use Rattle.tree.specs.Blocks.{blockCount, left, right, level, first, gather, paint, step, placeUnder, place, blockOf, paintAt, rebuilt}
 use Rattle.tree.specs.BlocksLaws.{suc-level, suc-row, level-part, level-le}
 use Rattle.tree.specs.Plan.{Weight, pruned, joined, flagged}
-use Rattle.tree.specs.RowsLaws.{weave, Inside, sse-append, sse-weave, gather-add, gather-weave, length-gather, length-weave, gather-whole, paint-add, paint-weave, paint-whole, bytes-gather, sse-most}
+use Rattle.tree.specs.RowsLaws.{weave, Inside, sse-append, sse-weave, gather-add, gather-weave, length-gather, length-weave, gather-whole, paint-add, paint-weave, paint-whole, bytes-gather, bytes-both, bytes-weave, sse-most}
 
 -- the samples of a block from those of its two parts of level d
 abbrev pub join : ℕ → List ℕ → List ℕ → List ℕ
@@ -124,6 +124,22 @@ distance-parts s d i a b e f same h =
 pick-length : (c : Bool) (x y : List ℕ) (n : ℕ) → length x ≡ n → length y ≡ n → length (pick c x y) ≡ n
 pick-length true x y n a b = a
 pick-length false x y n a b = b
+
+-- what shows bytes at every block shows bytes
+bytes-pick : (q : Bool) (x y : List ℕ) → Bytes x → Bytes y → Bytes (pick q x y)
+bytes-pick true x y a b = a
+bytes-pick false x y a b = b
+
+pub bytes-shown : (cut : ℕ → Bool) (show : ℕ → List ℕ) → ((i : ℕ) → Bytes (show i)) → (d i : ℕ) → Bytes (shown cut show d i)
+unfolding shown
+bytes-shown cut show b zero i = b i
+bytes-shown cut show b (suc d) i =
+    let l = shown cut show d (left i) in
+    let r = shown cut show d (right i) in
+    let bl = bytes-shown cut show b d (left i) in
+    let br = bytes-shown cut show b d (right i) in
+    bytes-pick (cut i) (join d l r) (show i)
+    (bytes-pick (square (suc d)) (l ++ r) (weave (height d) (width d) l r) (bytes-both l r bl br) (bytes-weave (height d) (width d) l r bl br)) (b i)
 
 -- in a plane of n samples and stride s, where of every block that lies in it as many samples are shown as it has
 module _ (s n : ℕ) (cut : ℕ → Bool) (show : ℕ → List ℕ) (len : (i : ℕ) → i < blockCount → In s (level i) i n → length (show i) ≡ area (level i)) where

@@ -26,9 +26,9 @@ use Rattle.leaf.specs.LeafLaws as leaf-laws
 use Rattle.tree.specs.Blocks.{blockCount, left, right, level, first, blockOf, gather}
 use Rattle.tree.specs.BlocksLaws.{level-0, level-le, At, at-parts}
 use Rattle.tree.specs.RowsLaws.{bytes-gather}
-use Rattle.tree.specs.GeometryLaws.{In, at-first, in-first, in-parts, first-whole, length-block, error-most, error-is, shown, length-shown}
+use Rattle.tree.specs.GeometryLaws.{In, at-first, in-first, in-parts, first-whole, length-block, error-most, error-is, shown, length-shown, bytes-shown}
 use Rattle.tree.specs.Plan.{Weight, Planning, total, pruned, stride, root, leafAt, shownAt, weightAt, planWeight, planSplits, prunedCost}
-use Rattle.tree.specs.PlanLaws.{Under, optimal, room, own-plan, splits-zero}
+use Rattle.tree.specs.PlanLaws.{Under, most-bits, planned-under, optimal, room, own-plan, splits-zero}
 use Rattle.tree.specs.TreeBits.{Node, Off, Split, Ends, planTree, treeBits, readTree, treeShown, planningOf}
 use Rattle.tree.specs.TreeLaws.{Stands, tree-read}
 use Rattle.tree.specs.ChoiceLaws.{choice, tree, bits-are, shown-are}
@@ -143,6 +143,18 @@ module _ (g : Planning) (p : Planned g) where
   pub plan-cheapest : g .lambda ≤ largestLambda → (cut : ℕ → Bool) → planCost g ≤ prunedCost g cut
   unfolding planCost
   plan-cheapest h cut = rw (← plan-error, ← plan-bits) (least h cut)
+
+  -- at most 2,847 bits for a macroblock
+  pub plan-short : length (treeBits (g .tables) (planTree g)) ≤ most-bits 88 (g .level)
+  unfolding planWeight
+  plan-short = rw (← plan-bits) (planned-under (weightAt g) (g .lambda) 88 (2 ^ 24) Ok ok-parts small (g .level) (root g) ok-root .0)
+
+  -- it shows as many samples as the block has, all of them bytes
+  pub plan-long : length (treeShown (g .vectors) (g .level) (g .predictor) (planTree g)) ≡ area (g .level)
+  plan-long = ap length plan-shows ∙ length-shown s n (planSplits g) show lens (g .level) (root g) (p .five) (ok-root .0 .0) (ok-root .0 .1) (ok-root .1)
+
+  pub plan-bytes : Bytes (treeShown (g .vectors) (g .level) (g .predictor) (planTree g))
+  plan-bytes = rw plan-shows (bytes-shown (planSplits g) show bytes-show (g .level) (root g))
 
   pub plan-reads : (rest : List ℕ) → readTree (g .tables) (g .level) (treeBits (g .tables) (planTree g) ++ rest) ≡ got (planTree g) rest
   unfolding planTree

@@ -236,6 +236,18 @@ gathered s (suc h) w at m b = bytes-append (take w (drop at m)) _ (bytes-take w 
 pub bytes-gather : (s h w at : ℕ) (m : List ℕ) → Bytes m → Bytes (gather s h w at m)
 bytes-gather s h w at m b = at-bytes (gather s h w at m) (gathered s h w at m (all-bytes m b))
 
+pub bytes-both : (xs ys : List ℕ) → Bytes xs → Bytes ys → Bytes (xs ++ ys)
+bytes-both xs ys h k = at-bytes (xs ++ ys) (bytes-append xs ys (all-bytes xs h) (all-bytes ys k))
+
+woven : (h w : ℕ) (l r : List ℕ) → AllBytes l → AllBytes r → AllBytes (weave h w l r)
+unfolding weave
+woven zero w l r a b = tt
+woven (suc h) w l r a b =
+    bytes-append (take w l) _ (bytes-take w l a) (bytes-append (take w r) _ (bytes-take w r b) (woven h w (drop w l) (drop w r) (bytes-drop w l a) (bytes-drop w r b)))
+
+pub bytes-weave : (h w : ℕ) (l r : List ℕ) → Bytes l → Bytes r → Bytes (weave h w l r)
+bytes-weave h w l r a b = at-bytes (weave h w l r) (woven h w l r (all-bytes l a) (all-bytes r b))
+
 gap-most : (x y : ℕ) → x < 256 → y < 256 → gap x y * gap x y ≤ 65025
 gap-most x y a b = let h : gap x y ≤ 255 = omega arith in mul-le-mul h h
 
