@@ -33,7 +33,7 @@ pub record GoodTables (T : Tables) : Type 0 where
   pub mean-long : (k : ℕ) → length (code (T .mean) k) ≤ 32
 
 -- a code of a good table, or nothing past its end
-code-most : (t : List ℕ) → goodTable t ≡ true → (k : ℕ) → length (code (codesOf t) k) ≤ 32
+pub code-most : (t : List ℕ) → goodTable t ≡ true → (k : ℕ) → length (code (codesOf t) k) ≤ 32
 code-most t e k =
     elim (decLt k (length (codesOf t)))
     [ yes h ↦ code-fits t e k h | no h ↦ rw (List·getD-eq-default (codesOf t) [] {n = k} (omega arith)) (omega arith) ]

@@ -3,3 +3,4 @@ pub mod Mode
 pub mod Macroblock
 pub mod Choice
 pub mod Reading
+pub mod MacroblockLaws

@@ -1,0 +1,359 @@
+-- Laws of one macroblock: every mode tried is read back from its bits, shows a block of bytes and saturates no cost; none is cheaper than the one chosen.
+-- Assumes nothing.
+use mathlib.Core.Path.{_≡_, refl, sym, ap, _∙_}
+use mathlib.Core.Bool.{Bool, true, false, _&&_, _||_}
+use mathlib.Core.List.{List, [], _∷_, _++_, append-assoc, map}
+use mathlib.Core.Option.{Option, none, some}
+use Prim.Native.Nat.{ℕ, zero, suc, _+_, _-_, _*_, _/_, _%_, _^_, _≤_, _<_, min}
+use native.Mathlib.Omega.{arith}
+use native.Mathlib.Nat.{mul-le-mul, le-refl, le-of-eq, le-of-lt, le-trans}
+use lib.Dec.{eqb, leb, ltb}
+use borrow.Author.Tests.{ltb-true, ltb-false, eqb-true}
+use lib.IntN.{_-ℤ_}
+use lib.ListN.{length, getD, replicate, length-append, length-replicate}
+use Rattle.bits.specs.Basics.{pick, All, Bytes}
+use Rattle.bits.specs.BasicsLaws.{both-true, length-list}
+use Rattle.bits.specs.Codes.{code, codesOf, Got, got, then}
+use Rattle.bits.specs.CodeReadLaws.{take-code}
+use Rattle.book.specs.Book.{tablesOf, modeTable, vectorTable, bookRefusal}
+use Rattle.book.specs.BookLaws.{GoodBook, good-book}
+use Rattle.book.specs.declared.svq1_vlc.Svq1Half.{Svq1Half}
+use Rattle.book.specs.declared.svq1_vlc.Svq1Half.the-variants.{Intra, Inter}
+use Rattle.leaf.specs.Codebook.{vectorAt}
+use Rattle.leaf.specs.Leaf.{sse}
+use Rattle.leaf.specs.LeafBitsLaws.{code-most, good-tables}
+use Rattle.leaf.specs.LeafLaws.{vectors-sized}
+use Rattle.motion.specs.declared.svq1_motion_predictor.Svq1Mv.{Svq1Mv}
+use Rattle.motion.specs.Vectors.{zeroMv, placeOf}
+use Rattle.motion.specs.VectorsLaws.{Codable, Inside, place-lt, final-back, codable-inside, zero-inside}
+use Rattle.motion.specs.Neighbours.{Near, forOne, forFirst, forSecond, forThird, forFourth}
+use Rattle.motion.specs.Grid.{part}
+use Rattle.motion.specs.GridLaws.{length-part}
+use Rattle.motion.specs.Compensation.{Canvas, movedSample}
+use Rattle.motion.specs.CompensationLaws.{bytes-list, moved-byte, bytes-moved, length-moved}
+use Rattle.motion.specs.Search.{Search, searched}
+use Rattle.motion.specs.SearchLaws.{searched-codable}
+use Rattle.tree.specs.RowsLaws.{sse-most}
+use Rattle.tree.specs.Plan.{Weight, Planning, total, cost, prunedCost}
+use Rattle.tree.specs.PlanClaim.{largestLambda, planCost}
+use Rattle.tree.specs.PlanClaimLaws.{Planned, plan-short, plan-long, plan-bytes, plan-cheapest, plan-reads}
+use Rattle.tree.specs.TreeBits.{Node, planTree, treeBits, treeShown, readTree}
+use Rattle.macroblock.specs.declared.svq1_enc_inter.Svq1MbMode.{Svq1MbMode}
+use Rattle.macroblock.specs.declared.svq1_enc_inter.Svq1MbMode.the-variants as Mode
+use Rattle.macroblock.specs.Mode.{modePosition}
+use Rattle.macroblock.specs.Macroblock.{Given, cols, rows, Motion, still, single, four, Choice, skipped, coded, motionMode, halfOf, vectorsOf, leftOf, topOf, referenceBlock, vectorFor, baseline, shown, modeCodes, vectorCodes, vectorBits, motionBits, modeBits, choiceBits}
+use Rattle.macroblock.specs.Choice.{Task, paddedSource, target, searchFor, blockSearchFor, ifFound, singleTried, fourTried, motionsTried, skipsLeaves, planningFor, tried, weightOf, beats, bestOf, bestFrom, chosen}
+use Rattle.macroblock.specs.Reading.{readVector, readCoded, readBehind, readMacroblock}
+
+-- ---- a block of 256 bytes
+pub record Block (x : List ℕ) : Type 0 where
+  pub size : length x ≡ 256
+  pub bytes : Bytes x
+
+pub near-24 : (x y : List ℕ) → Block x → Block y → sse x y < 2 ^ 24
+near-24 x y hx hy = omega (arith, sse-most x y (hx .bytes) (hy .bytes), hy .size)
+
+-- what is known of the input of a plane that is not refused
+pub record Fine (g : Given) (t : Task) : Type 0 where
+  pub book : bookRefusal (g .book) ≡ 0
+  pub source-bytes : Bytes (t .source)
+  pub reference-bytes : Bytes (g .reference .samples)
+
+all-append : {A : Type 0} (P : A → Type 0) (xs ys : List A) → All P xs → All P ys → All P (xs ++ ys)
+all-append P [] ys h k = k
+all-append P (x ∷ xs) ys h k = (h .0, all-append P xs ys (h .1) k)
+
+all-map : {A B : Type 0} (P : A → Type 0) (Q : B → Type 0) (f : A → B) (xs : List A) → ((x : A) → P x → Q (f x)) → All P xs → All Q (map f xs)
+all-map P Q f [] h k = tt
+all-map P Q f (x ∷ xs) h k = (h x (k .0), all-map P Q f xs h (k .1))
+
+zeros : (n : ℕ) → Bytes (replicate n 0)
+zeros zero k = omega arith
+zeros (suc n) zero = omega arith
+zeros (suc n) (suc k) = zeros n k
+
+-- each vector is codable against its predictor
+abbrev pub Codables : Near → Motion → Type 0
+Codables n still = Unit
+Codables n (single v) = Codable (forOne n) v
+Codables n (four a b c d) = Codable (forFirst n) a × Codable (forSecond n a) b × Codable (forThird n a b) c × Codable (forFourth a b c) d
+
+module _ (g : Given) (t : Task) (ok : Fine g t) where
+  good : GoodBook (g .book)
+  good = good-book (g .book) (ok .book)
+
+  -- ---- blocks
+  part-block : (k : ℕ) (xs : List ℕ) → Bytes xs → Block (part 16 (cols g) k xs)
+  unfolding part
+  part-block k xs b = record { size = length-list _ 256 0; bytes = bytes-list _ (λ j. b _) 256 0 }
+
+  pub target-block : (k : ℕ) → Block (target g t k)
+  unfolding target paddedSource
+  target-block k = part-block k (paddedSource g t) (bytes-list _ (λ j. ok .source-bytes _) _ 0)
+
+  pub reference-block : (k : ℕ) → Block (referenceBlock g k)
+  unfolding referenceBlock
+  reference-block k = part-block k (g .reference .samples) (ok .reference-bytes)
+
+  pub baseline-block : (k : ℕ) (m : Motion) → Block (baseline g k m)
+  unfolding baseline
+  baseline-block k still = record { size = length-replicate {A = ℕ} 256 0; bytes = zeros 256 }
+  baseline-block k (single v) = record {
+    size = length-moved (g .reference) 16 (leftOf g k) (topOf g k) v;
+    bytes = bytes-moved (g .reference) (ok .reference-bytes) 16 (leftOf g k) (topOf g k) v;
+  }
+  baseline-block k (four a b c d) = record {
+    size = length-list _ 256 0;
+    bytes = bytes-list _ (λ j. moved-byte (g .reference) (ok .reference-bytes) 16 (leftOf g k) (topOf g k) (vectorFor a b c d j) j) 256 0;
+  }
+
+  inter-skips : (h : Svq1Half) → skipsLeaves h ≡ true → h ≡ Inter
+  inter-skips Intra e = let z : _≡_ {A = ℕ} 0 1 = cc in absurd (omega arith)
+  inter-skips Inter e = refl
+
+  -- ---- the plan for a motion
+  pub planned-for : (k : ℕ) (m : Motion) → Planned (planningFor g t k m)
+  unfolding planningFor
+  planned-for k m = record {
+    tables = good-tables (g .book) (halfOf m) (ok .book);
+    sized = vectors-sized (g .codebook) (halfOf m);
+    few = omega arith;
+    inter = inter-skips (halfOf m);
+    five = omega arith;
+    target-long = target-block k .size;
+    predictor-long = baseline-block k m .size;
+    target-bytes = target-block k .bytes;
+    predictor-bytes = baseline-block k m .bytes;
+  }
+
+  abbrev pub treeFor : ℕ → Motion → List Node
+  treeFor k m = planTree (planningFor g t k m)
+
+  -- ---- reading back, in front of anything
+  vector-read : (p v : Svq1Mv) (r : List ℕ) → Codable p v → readVector g p (vectorBits g p v ++ r) ≡ got v r
+  unfolding readVector vectorBits
+  vector-read p v r c =
+      let dx = placeOf (v .x -ℤ p .x) in
+      let dy = placeOf (v .y -ℤ p .y) in
+      let hx : dx < length (vectorCodes g) = rw (good .vector .count) (place-lt (v .x -ℤ p .x) (c .dx-in)) in
+      let hy : dy < length (vectorCodes g) = rw (good .vector .count) (place-lt (v .y -ℤ p .y) (c .dy-in)) in
+      rw (append-assoc, take-code (vectorCodes g) dx (code (vectorCodes g) dy ++ r) (good .vector .free) hx, take-code (vectorCodes g) dy r (good .vector .free) hy)
+      (ap (λ (w : Svq1Mv). got w r) (final-back p v c))
+
+  -- the differences behind a mode
+  motion-read : (n : Near) (m : Motion) (r : List ℕ) → Codables n m → readBehind g n (modePosition (motionMode m)) (motionBits g n m ++ r) ≡ readCoded g m r
+  unfolding readBehind motionBits
+  motion-read n still r c = refl
+  motion-read n (single v) r c = rw (vector-read (forOne n) v r c)
+  motion-read n (four v1 v2 v3 v4) r c =
+      let w2 = vectorBits g (forSecond n v1) v2 in
+      let w3 = vectorBits g (forThird n v1 v2) v3 in
+      let w4 = vectorBits g (forFourth v1 v2 v3) v4 in
+      simp append-assoc (rw (
+        vector-read (forFirst n) v1 (w2 ++ (w3 ++ (w4 ++ r))) (c .0),
+        vector-read (forSecond n v1) v2 (w3 ++ (w4 ++ r)) (c .1),
+        vector-read (forThird n v1 v2) v3 (w4 ++ r) (c .2),
+        vector-read (forFourth v1 v2 v3) v4 r (c .3),
+      ))
+
+  position-lt : (m : Svq1MbMode) → modePosition m < 4
+  position-lt Mode.Inter = omega arith
+  position-lt Mode.Inter4Mv = omega arith
+  position-lt Mode.Intra = omega arith
+  position-lt Mode.Skip = omega arith
+
+  mode-read : (n : Near) (m : Svq1MbMode) (r : List ℕ) → readMacroblock g n (modeBits g m ++ r) ≡ readBehind g n (modePosition m) r
+  unfolding readMacroblock
+  mode-read n m r = rw (take-code (modeCodes g) (modePosition m) r (good .mode .free) (rw (good .mode .count) (position-lt m)))
+
+  tree-read : (k : ℕ) (m : Motion) (r : List ℕ) → readCoded g m (treeBits (tablesOf (g .book) (halfOf m)) (treeFor k m) ++ r) ≡ got (coded m (treeFor k m)) r
+  unfolding readCoded planningFor
+  tree-read k m r = rw (plan-reads (planningFor g t k m) (planned-for k m) r)
+
+  -- ---- lengths and costs
+  vector-short : (p v : Svq1Mv) → length (vectorBits g p v) ≤ 64
+  unfolding vectorBits
+  vector-short p v =
+      simp length-append
+      (omega (arith, code-most (vectorTable (g .book)) (good .vector .good) (placeOf (v .x -ℤ p .x)), code-most (vectorTable (g .book)) (good .vector .good) (placeOf (v .y -ℤ p .y))))
+
+  motion-short : (n : Near) (m : Motion) → length (motionBits g n m) ≤ 256
+  unfolding motionBits
+  motion-short n still = omega arith
+  motion-short n (single v) = omega (arith, vector-short (forOne n) v)
+  motion-short n (four v1 v2 v3 v4) =
+      simp length-append
+      (omega (arith, vector-short (forFirst n) v1, vector-short (forSecond n v1) v2, vector-short (forThird n v1 v2) v3, vector-short (forFourth v1 v2 v3) v4))
+
+  mode-short : (m : Svq1MbMode) → length (modeBits g m) ≤ 32
+  mode-short m = code-most (modeTable (g .book)) (good .mode .good) (modePosition m)
+
+  tree-short : (k : ℕ) (m : Motion) → length (treeBits (tablesOf (g .book) (halfOf m)) (treeFor k m)) ≤ 2847
+  unfolding planningFor
+  tree-short k m = plan-short (planningFor g t k m) (planned-for k m)
+
+  -- the most bits of a macroblock, under any good book
+  abbrev pub mostBits : ℕ
+  mostBits = 3135
+
+  -- ---- what holds of every choice tried
+  pub record Good (k : ℕ) (n : Near) (c : Choice) : Type 0 where
+    pub reads : (r : List ℕ) → readMacroblock g n (choiceBits g n c ++ r) ≡ got c r
+    pub short : length (choiceBits g n c) ≤ mostBits
+    pub block : Block (shown g k c)
+    pub inside : All Inside (vectorsOf c)
+
+  skip-read : (n : Near) (r : List ℕ) → readBehind g n 3 r ≡ got skipped r
+  unfolding readBehind
+  skip-read n r = refl
+
+  good-skip : (k : ℕ) (n : Near) → Good k n skipped
+  unfolding choiceBits shown
+  good-skip k n = record {
+    reads = λ r. mode-read n Mode.Skip r ∙ skip-read n r;
+    short = omega (arith, mode-short Mode.Skip);
+    block = reference-block k;
+    inside = (zero-inside, (zero-inside, (zero-inside, (zero-inside, tt))));
+  }
+
+  motion-inside : (n : Near) (m : Motion) (u : List Node) → Codables n m → All Inside (vectorsOf (coded m u))
+  motion-inside n still u c = (zero-inside, (zero-inside, (zero-inside, (zero-inside, tt))))
+  motion-inside n (single v) u c = let i = codable-inside (forOne n) v c in (i, (i, (i, (i, tt))))
+  motion-inside n (four v1 v2 v3 v4) u c =
+      (codable-inside _ v1 (c .0), (codable-inside _ v2 (c .1), (codable-inside _ v3 (c .2), (codable-inside _ v4 (c .3), tt))))
+
+  tree-block : (k : ℕ) (m : Motion) → Block (treeShown (vectorAt (g .codebook) (halfOf m)) 5 (baseline g k m) (treeFor k m))
+  unfolding planningFor
+  tree-block k m = record { size = plan-long (planningFor g t k m) (planned-for k m); bytes = plan-bytes (planningFor g t k m) (planned-for k m) }
+
+  good-coded : (k : ℕ) (n : Near) (m : Motion) → Codables n m → Good k n (coded m (treeFor k m))
+  unfolding choiceBits shown
+  good-coded k n m c =
+      let bits = treeBits (tablesOf (g .book) (halfOf m)) (treeFor k m) in
+      record {
+        reads = λ r.
+            simp append-assoc
+            (mode-read n (motionMode m) (motionBits g n m ++ (bits ++ r)) ∙ motion-read n m (bits ++ r) c ∙ tree-read k m r);
+        short = simp length-append (omega (arith, mode-short (motionMode m), motion-short n m, tree-short k m));
+        block = tree-block k m;
+        inside = motion-inside n m (treeFor k m) c;
+      }
+
+  -- ---- every motion tried is codable
+  found-all : (n : Near) (f : Option Svq1Mv) (h : Svq1Mv → List Motion) → ((v : Svq1Mv) → f ≡ some v → All (Codables n) (h v)) → All (Codables n) (ifFound f h)
+  found-all n none h k = tt
+  found-all n (some v) h k = k v refl
+
+  single-codable : (k : ℕ) (n : Near) → All (Codables n) (singleTried g t k n)
+  unfolding singleTried
+  single-codable k n = found-all n (searched (searchFor g t k (forOne n))) _ (λ v e. (searched-codable (searchFor g t k (forOne n)) v e, tt))
+
+  four-codable : (k : ℕ) (n : Near) → All (Codables n) (fourTried g t k n)
+  unfolding fourTried
+  four-codable k n =
+      found-all n (searched (blockSearchFor g t k 0 (forFirst n))) _ (λ a ea.
+      found-all n (searched (blockSearchFor g t k 1 (forSecond n a))) _ (λ b eb.
+      found-all n (searched (blockSearchFor g t k 2 (forThird n a b))) _ (λ c ec.
+      found-all n (searched (blockSearchFor g t k 3 (forFourth a b c))) _ (λ d ed.
+      ((searched-codable _ a ea, searched-codable _ b eb, searched-codable _ c ec, searched-codable _ d ed), tt)))))
+
+  flag-codable : (k : ℕ) (n : Near) (f : Bool) → All (Codables n) (pick f (fourTried g t k n) [])
+  flag-codable k n true = four-codable k n
+  flag-codable k n false = tt
+
+  pub motions-codable : (k : ℕ) (n : Near) → All (Codables n) (motionsTried g t k n)
+  unfolding motionsTried
+  motions-codable k n = all-append (Codables n) (singleTried g t k n) _ (single-codable k n) (tt, flag-codable k n (t .allowFour))
+
+  pub tried-good : (k : ℕ) (n : Near) → All (Good k n) (tried g t k n)
+  unfolding tried
+  tried-good k n =
+      (good-skip k n, all-map (Codables n) (Good k n) (λ m. coded m (treeFor k m)) (motionsTried g t k n) (good-coded k n) (motions-codable k n))
+
+  -- ---- the choice
+  pick-one : (P : Choice → Type 0) (q : Bool) (c d : Choice) → P c → P d → P (pick q d c)
+  pick-one P true c d hc hd = hd
+  pick-one P false c d hc hd = hc
+
+  best-one : (P : Choice → Type 0) (k : ℕ) (n : Near) (c : Choice) (ds : List Choice) → P c → All P ds → P (bestOf g t k n c ds)
+  unfolding bestOf
+  best-one P k n c [] hc hr = hc
+  best-one P k n c (d ∷ ds) hc hr =
+      best-one P k n (pick (beats g t k n d c) d c) ds (pick-one P (beats g t k n d c) c d hc (hr .0)) (hr .1)
+
+  chosen-one : (P : Choice → Type 0) (k : ℕ) (n : Near) → All P (tried g t k n) → P (chosen g t k n)
+  unfolding chosen tried
+  chosen-one P k n h = best-one P k n skipped (map (λ m. coded m (treeFor k m)) (motionsTried g t k n)) (h .0) (h .1)
+
+  -- what is written has all of it
+  pub chosen-good : (k : ℕ) (n : Near) → Good k n (chosen g t k n)
+  chosen-good k n = chosen-one (Good k n) k n (tried-good k n)
+
+  abbrev pub costOf : ℕ → Near → Choice → ℕ
+  costOf k n c = cost (t .lambda) (weightOf g t k n c)
+
+  and-left : (f h : Bool) → f && h ≡ true → f ≡ true
+  and-left f h e = both-true f h e .0
+
+  beats-is : (a b : ℕ) (p : Bool) (q : Bool) → ltb a b || (eqb a b && p) ≡ q → (q ≡ true → a ≤ b) × (q ≡ false → b ≤ a)
+  beats-is a b p q e = go (ltb a b) (eqb a b) refl refl e
+    where
+      go : (l s : Bool) → ltb a b ≡ l → eqb a b ≡ s → l || (s && p) ≡ q → (q ≡ true → a ≤ b) × (q ≡ false → b ≤ a)
+      go true s el es e = ((λ h. le-of-lt (ltb-true a b el)), (λ h. let z : _≡_ {A = ℕ} 0 1 = cc in absurd (omega arith)))
+      go false true el es e = ((λ h. le-of-eq (eqb-true a b es)), (λ h. ltb-false a b el))
+      go false false el es e = ((λ h. let z : _≡_ {A = ℕ} 0 1 = cc in absurd (omega arith)), (λ h. ltb-false a b el))
+
+  prefer-least : (k : ℕ) (n : Near) (c d : Choice) (q : Bool) → beats g t k n d c ≡ q
+      → (costOf k n (pick q d c) ≤ costOf k n c) × (costOf k n (pick q d c) ≤ costOf k n d)
+  unfolding beats
+  prefer-least k n c d q e =
+      let two = beats-is (costOf k n d) (costOf k n c) (ltb (weightOf g t k n d .bits) (weightOf g t k n c .bits)) q e in
+      go q two
+    where
+      go : (q : Bool) → (q ≡ true → costOf k n d ≤ costOf k n c) × (q ≡ false → costOf k n c ≤ costOf k n d)
+          → (costOf k n (pick q d c) ≤ costOf k n c) × (costOf k n (pick q d c) ≤ costOf k n d)
+      go true h = (h .0 refl, le-refl (costOf k n d))
+      go false h = (le-refl (costOf k n c), h .1 refl)
+
+  best-least : (k : ℕ) (n : Near) (c : Choice) (ds : List Choice)
+      → (costOf k n (bestOf g t k n c ds) ≤ costOf k n c) × All (λ d. costOf k n (bestOf g t k n c ds) ≤ costOf k n d) ds
+  unfolding bestOf
+  best-least k n c [] = (le-refl (costOf k n c), tt)
+  best-least k n c (d ∷ ds) =
+      let two = prefer-least k n c d (beats g t k n d c) refl in
+      let rest = best-least k n (pick (beats g t k n d c) d c) ds in
+      (le-trans (rest .0) (two .0), (le-trans (rest .0) (two .1), rest .1))
+
+  chosen-cost : (k : ℕ) (n : Near) → All (λ d. costOf k n (chosen g t k n) ≤ costOf k n d) (tried g t k n)
+  unfolding chosen tried
+  chosen-cost k n = best-least k n skipped (map (λ m. coded m (treeFor k m)) (motionsTried g t k n))
+
+  -- ---- at this lambda nothing saturates
+  module _ (low : t .lambda ≤ largestLambda) where
+    plain : (k : ℕ) (n : Near) (c : Choice) → Good k n c → costOf k n c ≡ total (t .lambda) (weightOf g t k n c)
+    unfolding weightOf
+    plain k n c h =
+        let e = near-24 (target g t k) (shown g k c) (target-block k) (h .block) in
+        let l : t .lambda * length (choiceBits g n c) ≤ 2 ^ 48 * 3135 = mul-le-mul low (h .short) in
+        omega arith
+
+    all-both : (P Q R : Choice → Type 0) (cs : List Choice) → ((c : Choice) → P c → Q c → R c) → All P cs → All Q cs → All R cs
+    all-both P Q R [] f h k = tt
+    all-both P Q R (c ∷ cs) f h k = (f c (h .0) (k .0), all-both P Q R cs f (h .1) (k .1))
+
+    -- no mode tried costs less than the one written
+    pub chosen-least : (k : ℕ) (n : Near)
+        → All (λ c. total (t .lambda) (weightOf g t k n (chosen g t k n)) ≤ total (t .lambda) (weightOf g t k n c)) (tried g t k n)
+    chosen-least k n =
+        let e = plain k n (chosen g t k n) (chosen-good k n) in
+        all-both (λ c. costOf k n (chosen g t k n) ≤ costOf k n c) (Good k n)
+        (λ c. total (t .lambda) (weightOf g t k n (chosen g t k n)) ≤ total (t .lambda) (weightOf g t k n c)) (tried g t k n)
+        (λ c l h. rw (e, plain k n c h) at l) (chosen-cost k n) (tried-good k n)
+
+    at-lambda : (k : ℕ) (m : Motion) → planningFor g t k m .lambda ≤ largestLambda
+    unfolding planningFor
+    at-lambda k m = low
+
+    -- no pruning of a plan costs less than the plan
+    pub unpruned : (k : ℕ) (m : Motion) (cut : ℕ → Bool) → planCost (planningFor g t k m) ≤ prunedCost (planningFor g t k m) cut
+    unpruned k m cut = plan-cheapest (planningFor g t k m) (planned-for k m) (at-lambda k m) cut
