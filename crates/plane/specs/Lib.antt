@@ -1,5 +1,7 @@
--- The definitions that the contracts of this crate cite.
+-- The definitions that the contracts of this crate cite; the laws that callers cite stand in the files named `..Laws`.
 pub mod Run
+pub mod RunLaws
 pub mod Plane
 pub mod Calls
 pub mod Claim
+pub mod SumLaws
