@@ -7,3 +7,4 @@ pub mod Grid
 pub mod GridLaws
 pub mod Compensation
 pub mod Search
+pub mod SearchLaws
