@@ -32,7 +32,7 @@ use Rattle.motion.specs.GridLaws.{length-part}
 use Rattle.motion.specs.Compensation.{Canvas, movedSample}
 use Rattle.motion.specs.CompensationLaws.{bytes-list, moved-byte, bytes-moved, length-moved}
 use Rattle.motion.specs.Search.{Search, searched}
-use Rattle.motion.specs.SearchLaws.{searched-codable}
+use Rattle.motion.specs.SearchLaws.{found}
 use Rattle.tree.specs.RowsLaws.{sse-most}
 use Rattle.tree.specs.Plan.{Weight, Planning, total, cost, prunedCost}
 use Rattle.tree.specs.PlanClaim.{largestLambda, planCost}
@@ -246,7 +246,7 @@ module _ (g : Given) (t : Task) (ok : Fine g t) where
 
   single-codable : (k : ℕ) (n : Near) → All (Codables n) (singleTried g t k n)
   unfolding singleTried
-  single-codable k n = found-all n (searched (searchFor g t k (forOne n))) _ (λ v e. (searched-codable (searchFor g t k (forOne n)) v e, tt))
+  single-codable k n = found-all n (searched (searchFor g t k (forOne n))) _ (λ v e. (found (searchFor g t k (forOne n)) v e .codes, tt))
 
   four-codable : (k : ℕ) (n : Near) → All (Codables n) (fourTried g t k n)
   unfolding fourTried
@@ -255,7 +255,7 @@ module _ (g : Given) (t : Task) (ok : Fine g t) where
       found-all n (searched (blockSearchFor g t k 1 (forSecond n a))) _ (λ b eb.
       found-all n (searched (blockSearchFor g t k 2 (forThird n a b))) _ (λ c ec.
       found-all n (searched (blockSearchFor g t k 3 (forFourth a b c))) _ (λ d ed.
-      ((searched-codable _ a ea, searched-codable _ b eb, searched-codable _ c ec, searched-codable _ d ed), tt)))))
+      ((found _ a ea .codes, found _ b eb .codes, found _ c ec .codes, found _ d ed .codes), tt)))))
 
   flag-codable : (k : ℕ) (n : Near) (f : Bool) → All (Codables n) (pick f (fourTried g t k n) [])
   flag-codable k n true = four-codable k n

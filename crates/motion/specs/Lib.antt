@@ -2,6 +2,7 @@
 pub mod Vectors
 pub mod VectorsLaws
 pub mod Neighbours
+pub mod NeighboursLaws
 pub mod Grid
 pub mod GridLaws
 pub mod Compensation

@@ -1,79 +1,79 @@
--- Laws of the search: what it finds is codable and in the window.
+-- Laws of the search that upper layers cite: what is found is codable against its predictor and lies in the window.
 -- Assumes nothing.
-use mathlib.Core.Path.{_≡_, refl, sym}
+use mathlib.Core.Path.{_≡_, refl}
+use Prim.Native.Nat.{ℕ, zero, suc, _+_, _*_}
+use native.Mathlib.Omega.{arith}
 use mathlib.Core.Bool.{Bool, true, false, _&&_}
 use mathlib.Core.Option.{Option, none, some}
-use Prim.Native.Nat.{ℕ, zero, suc, _+_, _*_, _/_, _%_}
-use native.Mathlib.Omega.{arith}
 use lib.Dec.{eqb}
-use lib.IntN.{ℤ, subℕ, _+ℤ_}
+use lib.IntN.{ℤ}
 use Rattle.bits.specs.Basics.{pick}
 use Rattle.bits.specs.BasicsLaws.{both-true}
 use Rattle.motion.specs.declared.svq1_motion_predictor.Svq1Mv.{Svq1Mv}
 use Rattle.motion.specs.Vectors.{zeroMv, codable}
 use Rattle.motion.specs.VectorsLaws.{Codable, is-codable}
-use Rattle.motion.specs.Search.{Search, inWindow, allowed, errorOf, Best, nothing, best, lowers, consider, fullAt, rowTo, rowsTo, fullSearch, centre, aroundTo, searchBest, vectorOf, searched}
+use Rattle.motion.specs.Search.{Search, inWindow, allowed, errorOf, Best, nothing, best, lowers, consider, rowTo, rowsTo, fullSearch, centre, aroundTo, searchBest, vectorOf, searched}
 
--- the best so far, if any, may be tried
-abbrev pub Tried : Search → Best → Type 0
-Tried g nothing = Unit
-Tried g (best v e) = allowed g v ≡ true
+-- what has been found so far was allowed
+abbrev Kept : Search → Best → Type 0
+Kept g nothing = Unit
+Kept g (best v e) = allowed g v ≡ true
 
 module _ (g : Search) where
-  considered : (v : Svq1Mv) (f : Best) → Tried g f → Tried g (consider g v f)
+  kept-pick : (a l : Bool) (v : Svq1Mv) (e : ℕ) (f : Best) → allowed g v ≡ a → Kept g f → Kept g (pick (a && l) (best v e) f)
+  kept-pick true true v e f h k = h
+  kept-pick true false v e f h k = k
+  kept-pick false l v e f h k = k
+
+  kept-one : (v : Svq1Mv) (f : Best) → Kept g f → Kept g (consider g v f)
   unfolding consider
-  considered v f h = go (allowed g v) (lowers (errorOf g v) f) refl
-    where
-      go : (a b : Bool) → allowed g v ≡ a → Tried g (pick (a && b) (best v (errorOf g v)) f)
-      go true true e = e
-      go true false e = h
-      go false b e = h
+  kept-one v f k = kept-pick (allowed g v) (lowers (errorOf g v) f) v (errorOf g v) f refl k
 
-  row-tried : (y : ℤ) (f : Best) (n : ℕ) → Tried g f → Tried g (rowTo g y f n)
+  kept-row : (n : ℕ) (y : ℤ) (f : Best) → Kept g f → Kept g (rowTo g y f n)
   unfolding rowTo
-  row-tried y f zero h = h
-  row-tried y f (suc n) h = considered (record { x = fullAt (g .predictor .x) (g .radius) n; y = y }) (rowTo g y f n) (row-tried y f n h)
+  kept-row zero y f k = k
+  kept-row (suc n) y f k = kept-one _ (rowTo g y f n) (kept-row n y f k)
 
-  rows-tried : (f : Best) (n : ℕ) → Tried g f → Tried g (rowsTo g f n)
+  kept-rows : (n : ℕ) (f : Best) → Kept g f → Kept g (rowsTo g f n)
   unfolding rowsTo
-  rows-tried f zero h = h
-  rows-tried f (suc n) h = row-tried (fullAt (g .predictor .y) (g .radius) n) (rowsTo g f n) (2 * g .radius + 1) (rows-tried f n h)
+  kept-rows zero f k = k
+  kept-rows (suc n) f k = kept-row (2 * g .radius + 1) _ (rowsTo g f n) (kept-rows n f k)
 
-  around-tried : (v : Svq1Mv) (f : Best) (n : ℕ) → Tried g f → Tried g (aroundTo g v f n)
+  kept-around : (n : ℕ) (v : Svq1Mv) (f : Best) → Kept g f → Kept g (aroundTo g v f n)
   unfolding aroundTo
-  around-tried v f zero h = h
-  around-tried v f (suc n) h = go (eqb n 4) (around-tried v f n h)
+  kept-around zero v f k = k
+  kept-around (suc n) v f k = by (eqb n 4) (aroundTo g v f n) _ (kept-around n v f k) (kept-one _ (aroundTo g v f n) (kept-around n v f k))
     where
-      go : (q : Bool) → Tried g (aroundTo g v f n)
-          → Tried g (pick q (aroundTo g v f n) (consider g (record { x = v .x +ℤ subℕ (n % 3) 1; y = v .y +ℤ subℕ (n / 3) 1 }) (aroundTo g v f n)))
-      go true k = k
-      go false k = considered (record { x = v .x +ℤ subℕ (n % 3) 1; y = v .y +ℤ subℕ (n / 3) 1 }) (aroundTo g v f n) k
+      by : (t : Bool) (a b : Best) → Kept g a → Kept g b → Kept g (pick t a b)
+      by true a b h k = h
+      by false a b h k = k
 
-  best-tried : Tried g (searchBest g)
+  kept-best : Kept g (searchBest g)
   unfolding searchBest fullSearch
-  best-tried =
-      let f = rowsTo g (consider g zeroMv nothing) (2 * g .radius + 1) in
-      around-tried (centre f) f 9 (rows-tried (consider g zeroMv nothing) (2 * g .radius + 1) (considered zeroMv nothing tt))
+  kept-best = kept-around 9 (centre (fullSearch g)) (fullSearch g) (kept-rows (2 * g .radius + 1) (consider g zeroMv nothing) (kept-one zeroMv nothing tt))
 
-  found : (f : Best) (v : Svq1Mv) → Tried g f → vectorOf f ≡ some v → allowed g v ≡ true
-  found nothing v h e = let z : true ≡ false = cc in absurd (never z)
-    where
-      never : true ≡ false → ⊥
-      never z = let q : _≡_ {A = ℕ} 0 1 = cc in omega arith
-  found (best w e) v h q = let same : w ≡ v = cc in rw same at h
+  kept-vector : (f : Best) (v : Svq1Mv) → Kept g f → vectorOf f ≡ some v → allowed g v ≡ true
+  kept-vector nothing v k e = let z : _≡_ {A = ℕ} 0 1 = cc in absurd (omega arith)
+  kept-vector (best u n) v k e = let q : u ≡ v = cc in rw q at k
 
-  -- a vector that the search answers may be tried
-  pub searched-allowed : (v : Svq1Mv) → searched g ≡ some v → allowed g v ≡ true
+  pub found-allowed : (v : Svq1Mv) → searched g ≡ some v → allowed g v ≡ true
   unfolding searched
-  searched-allowed v e = found (searchBest g) v best-tried e
+  found-allowed v e = kept-vector (searchBest g) v kept-best e
 
-  -- so its components and differences are in -32..31
-  pub searched-codable : (v : Svq1Mv) → searched g ≡ some v → Codable (g .predictor) v
-  unfolding allowed
-  searched-codable v e =
-      let two =
-      both-true (codable (g .predictor .x) (v .x) && inWindow (g .side) (g .x) (g .width) (v .x))
-      (codable (g .predictor .y) (v .y) && inWindow (g .side) (g .y) (g .height) (v .y)) (searched-allowed v e) in
-      let x = both-true (codable (g .predictor .x) (v .x)) (inWindow (g .side) (g .x) (g .width) (v .x)) (two .0) in
-      let y = both-true (codable (g .predictor .y) (v .y)) (inWindow (g .side) (g .y) (g .height) (v .y)) (two .1) in
-      is-codable (g .predictor) v (x .0) (y .0)
+-- codable, and in the window on each axis
+pub record Allowed (g : Search) (v : Svq1Mv) : Type 0 where
+  pub codes : Codable (g .predictor) v
+  pub across : inWindow (g .side) (g .x) (g .width) (v .x) ≡ true
+  pub down : inWindow (g .side) (g .y) (g .height) (v .y) ≡ true
+
+pub is-allowed : (g : Search) (v : Svq1Mv) → allowed g v ≡ true → Allowed g v
+unfolding allowed
+is-allowed g v e =
+    let b = both-true (codable (g .predictor .x) (v .x) && inWindow (g .side) (g .x) (g .width) (v .x)) _ e in
+    let x = both-true (codable (g .predictor .x) (v .x)) _ (b .0) in
+    let y = both-true (codable (g .predictor .y) (v .y)) _ (b .1) in
+    record { codes = is-codable (g .predictor) v (x .0) (y .0); across = x .1; down = y .1 }
+
+-- a found vector is both
+pub found : (g : Search) (v : Svq1Mv) → searched g ≡ some v → Allowed g v
+found g v e = is-allowed g v (found-allowed g v e)
