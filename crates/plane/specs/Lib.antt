@@ -5,3 +5,5 @@ pub mod Plane
 pub mod Calls
 pub mod Claim
 pub mod SumLaws
+pub mod SlicesLaws
+pub mod ClaimLaws
