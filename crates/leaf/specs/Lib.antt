@@ -8,3 +8,6 @@ pub mod LeafBits
 pub mod LeafBitsLaws
 pub mod LeafLaws
 pub mod LeafCall
+pub mod Raised
+pub mod RaisedLaws
+pub mod StagesLaws

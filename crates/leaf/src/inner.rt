@@ -1,0 +1,255 @@
+// Functions that only the crates of this repository call. Most have a `requires`: the caller, proved too, meets it.
+// The leaf search keeps each sum as an unsigned 16-bit number, the sum plus a bias: 256 for the mean and 128 more for each stage.
+ghost use mathlib.Core.Path.{_≡_};
+ghost use Prim.Native.Nat.{ℕ, _+_, _-_, _*_, _<_, _≤_, min};
+ghost use lib.ListN.{length, take, drop, getD};
+ghost use lib.IntN.{subℕ};
+ghost use Rattle.bits.specs.Basics.{gap};
+ghost use Rattle.leaf.specs.Mean.{residual, meanOf, saturate};
+ghost use Rattle.leaf.specs.Leaf.{sse, plus, samples, seeded, argmin};
+ghost use Rattle.leaf.specs.Raised.{less, sqd, vectorError, Below, Stage, total, plusN, Searched};
+use book::svq1_vlc::Svq1Half;
+
+// What `a` is above `b`, or 0.
+fn above(a: u16, b: u16) -> u16
+    ensures { λ r. ⌜ r ≡ a - b ⌝ }
+{
+    if b < a { a - b } else { 0 }
+}
+
+// The sample that a sum shows.
+fn shown(a: u16, bias: u16) -> u16
+    ensures { λ r. ⌜ r ≡ min 255 (a - bias) ⌝ }
+{
+    let d = above(a, bias);
+    if d < 255 { d } else { 255 }
+}
+
+// The distance of two samples.
+fn distance(t: u8, c: u16) -> u16
+    ensures { λ r. ⌜ r ≡ gap t c ⌝ }
+{
+    let x = t as u16;
+    if x < c { c - x } else { x - c }
+}
+
+// The squared error of one sum against the sample `t`.
+fn error_at(t: u8, a: u16, bias: u16) -> u16
+    ensures { λ r. ⌜ r ≡ sqd t (saturate (subℕ a bias)) ⌝ }
+    ensures { λ r. ⌜ r ≤ 65025 ⌝ }
+{
+    let d = distance(t, shown(a, bias));
+    d * d
+}
+
+// The squared error of the sums `a` against `t`. Two 16-bit totals, of the low and the high bytes, cannot overflow for 256 samples.
+fn block_sse(t: &[u8], a: &[u16], bias: u16) -> u32
+    requires { ⌜ (length (now t) ≤ 256) × (length (now a) ≡ length (now t)) ⌝ }
+    ensures { λ r. ⌜ r ≡ sse (now (t .entry)) (samples (less bias (now (a .entry)))) ⌝ }
+{
+    let mut low: u16 = 0;
+    let mut high: u16 = 0;
+    let mut i = 0;
+    while i < t.len() {
+        let e = error_at(t[i], a[i], bias);
+        low += e % 256;
+        high += e / 256;
+        i += 1;
+    }
+    (low as u32) + (high as u32) * 256
+}
+
+fn wide(x: u8) -> u16
+    ensures { λ r. ⌜ (r ≡ x) × (r ≤ 255) ⌝ }
+{
+    x as u16
+}
+
+// The squared error of the sums `a` with the vector `w` added. A sum is kept plus `bias` - 128, and `w`'s samples plus 128.
+fn vector_sse(t: &[u8], a: &[u16], w: &[u8], bias: u16) -> u32
+    requires { ⌜ (length (now t) ≤ 256) × (length (now a) ≡ length (now t)) × (length (now w) ≡ length (now t)) × Below 4095 (now a) × (128 ≤ bias) ⌝ }
+    ensures { λ r. ⌜ r ≡ sse (now (t .entry)) (samples (plus (less (bias - 128) (now (a .entry))) (less 128 (now (w .entry))))) ⌝ }
+{
+    let mut low: u16 = 0;
+    let mut high: u16 = 0;
+    let mut i = 0;
+    while i < t.len() {
+        let e = error_at(t[i], a[i] + wide(w[i]), bias);
+        low += e % 256;
+        high += e / 256;
+        i += 1;
+    }
+    (low as u32) + (high as u32) * 256
+}
+
+pub struct Best {
+    pub index: usize,
+    pub error: u32,
+}
+
+// The error that the j-th of the sixteen vectors from `base` on leaves.
+fn vector_error(t: &[u8], a: &[u16], book: &[u8], base: usize, bias: u16, j: usize) -> u32
+    requires { ⌜ Stage (now t) (now a) (now book) base bias ⌝ }
+    requires { ⌜ j < 16 ⌝ }
+    ensures { λ r. ⌜ r ≡ vectorError (now (t .entry)) (less bias (now (a .entry))) (now (book .entry)) base j ⌝ }
+{
+    let n = t.len();
+    let at = base + n * j;
+    let end = at + n;
+    vector_sse(t, a, &book[at..end], bias + 128)
+}
+
+// The first of the sixteen vectors from `base` on that leaves the least error, and that error.
+fn best_vector(t: &[u8], a: &[u16], book: &[u8], base: usize, bias: u16) -> Best
+    requires { ⌜ Stage (now t) (now a) (now book) base bias ⌝ }
+    ensures { λ r. ⌜ r .index ≡ argmin (vectorError (now (t .entry)) (less bias (now (a .entry))) (now (book .entry)) base) 15 ⌝ }
+    ensures { λ r. ⌜ r .error ≡ vectorError (now (t .entry)) (less bias (now (a .entry))) (now (book .entry)) base (r .index) ⌝ }
+    ensures { λ r. ⌜ r .index < 16 ⌝ }
+{
+    let mut error = vector_error(t, a, book, base, bias, 0);
+    let mut index = 0;
+    let mut j = 1;
+    while j < 16 {
+        let e = vector_error(t, a, book, base, bias, j);
+        if e < error {
+            error = e;
+            index = j;
+        }
+        j += 1;
+    }
+    Best { index, error }
+}
+
+// The sum of a block's samples.
+fn sum_of(t: &[u8]) -> u32
+    requires { ⌜ length (now t) ≤ 256 ⌝ }
+    ensures { λ r. ⌜ r ≡ total (now (t .entry)) ⌝ }
+    ensures { λ r. ⌜ r ≤ 65280 ⌝ }
+{
+    let mut sum: u32 = 0;
+    let mut i = 0;
+    while i < t.len() {
+        sum += wide(t[i]) as u32;
+        i += 1;
+    }
+    sum
+}
+
+// The mean, kept plus 256, of n residuals whose targets sum to `st` and predictors to `sp`.
+fn mean_of_sums(half: Svq1Half, st: u32, sp: u32, n: u32) -> u16
+    requires { ⌜ (st ≤ 65280) × (sp ≤ 65280) × (n ≤ 256) × (1 ≤ n) ⌝ }
+    ensures { λ r. ⌜ subℕ r 256 ≡ meanOf half (subℕ st sp) n ⌝ }
+    ensures { λ r. ⌜ r ≤ 511 ⌝ }
+{
+    if sp <= st {
+        let q = (st - sp + n / 2) / n;
+        if q < 255 { 256 + (q as u16) } else { 511 }
+    } else {
+        match half {
+            Svq1Half::Intra => 256,
+            Svq1Half::Inter => {
+                let q = (sp - st + n / 2) / n;
+                if q < 256 { 256 - (q as u16) } else { 0 }
+            }
+        }
+    }
+}
+
+// The mean of a block's residual, kept plus 256.
+fn residual_mean(half: Svq1Half, t: &[u8], p: &[u8]) -> u16
+    requires { ⌜ (length (now t) ≤ 256) × (1 ≤ length (now t)) × (length (now p) ≡ length (now t)) ⌝ }
+    ensures { λ r. ⌜ subℕ r 256 ≡ meanOf half (residual (now (t .entry)) (now (p .entry))) (length (now (t .entry))) ⌝ }
+    ensures { λ r. ⌜ r ≤ 511 ⌝ }
+{
+    let n = t.len() as u32;
+    mean_of_sums(half, sum_of(t), sum_of(p), n)
+}
+
+// The vector `w` added to `a`.
+fn add_vector(a: &mut [u16], w: &[u8])
+    requires { ⌜ (length (now w) ≡ length (now a)) × Below 4095 (now a) ⌝ }
+    ensures { λ _. ⌜ now (a .exit) ≡ plusN (now (a .entry)) (now (w .entry)) ⌝ }
+    ensures { λ _. ⌜ ((i : ℕ) → getD (now (a .exit)) i 0 ≤ getD (now (a .entry)) i 0 + 255) ⌝ }
+{
+    let mut i = 0;
+    while i < a.len() {
+        a[i] = a[i] + wide(w[i]);
+        i += 1;
+    }
+}
+
+// The j-th of the sixteen vectors from `base` on added to `a`.
+fn add_stage(a: &mut [u16], book: &[u8], base: usize, j: usize)
+    requires { ⌜ (base + length (now a) * 16 ≤ length (now book)) × (j < 16) × Below 4095 (now a) ⌝ }
+    ensures { λ _. ⌜ now (a .exit) ≡ plusN (now (a .entry)) (take (length (now (a .entry))) (drop (base + length (now (a .entry)) * j) (now (book .entry)))) ⌝ }
+    ensures { λ _. ⌜ ((i : ℕ) → getD (now (a .exit)) i 0 ≤ getD (now (a .entry)) i 0 + 255) ⌝ }
+{
+    let n = a.len();
+    let at = base + n * j;
+    let end = at + n;
+    add_vector(a, &book[at..end]);
+}
+
+pub struct Stages {
+    pub count: usize,
+    pub error: u32,
+    pub index: [u8; 6],
+}
+
+// Up to `cap` stages, each the best vector where that leaves strictly less error. `a` ends with their vectors added.
+fn search_stages(
+    t: &[u8],
+    a: &mut [u16],
+    book: &[u8],
+    base: usize,
+    bias: u16,
+    cap: usize,
+    error: u32,
+) -> Stages
+    requires { ⌜ (length (now t) ≤ 256) × (length (now a) ≡ length (now t)) × Below 1000 (now a) × (bias ≤ 1000) ⌝ }
+    requires { ⌜ (cap ≤ 6) × (base + length (now t) * 96 ≤ length (now book)) × (error ≡ sse (now t) (samples (less bias (now a)))) ⌝ }
+    ensures { λ r. ⌜ Searched (now (t .entry)) (now (book .entry)) base cap bias (now (a .entry)) (now (a .exit)) (r .count) (r .error) (r .index) ⌝ }
+{
+    let n = t.len();
+    let mut index = [0u8; 6];
+    let mut count = 0;
+    let mut at = base;
+    let mut plus = bias;
+    let mut least = error;
+    while count < cap {
+        let best = best_vector(t, a, book, at, plus);
+        let e = best.error;
+        let j = best.index;
+        if least <= e {
+            return Stages {
+                count,
+                error: least,
+                index,
+            };
+        }
+        add_stage(a, book, at, j);
+        index[count] = j as u8;
+        count += 1;
+        at += n * 16;
+        plus += 128;
+        least = e;
+    }
+    Stages {
+        count,
+        error: least,
+        index,
+    }
+}
+
+// The sums before any stage: the predictor and the mean, which is kept plus 256.
+fn seed(a: &mut [u16], p: &[u8], mean: u16)
+    requires { ⌜ (length (now p) ≡ length (now a)) × (mean ≤ 511) ⌝ }
+    ensures { λ _. ⌜ less 256 (now (a .exit)) ≡ seeded (subℕ mean 256) (now (p .entry)) ⌝ }
+    ensures { λ _. ⌜ Below 1000 (now (a .exit)) ⌝ }
+{
+    let mut i = 0;
+    while i < a.len() {
+        a[i] = wide(p[i]) + mean;
+        i += 1;
+    }
+}
