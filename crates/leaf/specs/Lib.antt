@@ -11,3 +11,6 @@ pub mod LeafCall
 pub mod Raised
 pub mod RaisedLaws
 pub mod StagesLaws
+pub mod SignedLaws
+pub mod Inner
+pub mod InnerLaws

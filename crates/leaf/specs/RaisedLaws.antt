@@ -10,7 +10,7 @@ use native.Mathlib.Decide.{decLe}
 use native.Mathlib.Numerals.{add-one}
 use borrow.Author.Tests.{lt-ltb, le-ltb}
 use lib.IntN.{ℤ, pos, negsuc, subℕ, _+ℤ_, negℤ}
-use lib.ListN.{length, take, drop, getD, set}
+use lib.ListN.{length, take, drop, getD, set, length-map}
 use lib.Seq.{take-length, drop-cons, drop-length, take-suc-set, drop-set-lt, drop-drop, getD-drop}
 use Rattle.bits.specs.Basics.{gap, Bytes}
 use Rattle.book.specs.declared.svq1_vlc.Svq1Half.{Svq1Half}
@@ -310,3 +310,21 @@ samples-bytes (x ∷ p) b =
     let h : x < 256 = b 0 in
     let e : saturate (subℕ (x + 256) 256) ≡ x = saturate-less (x + 256) 256 ∙ omega arith in
     rw e (ap (λ (l : List ℕ). x ∷ l) (samples-bytes p (λ k. b (suc k))))
+
+-- ---- blocks of samples
+pub plain-step : (t p : List ℕ) (i : ℕ) → i < length t → length p ≡ length t
+    → sse (drop i t) (drop i p) ≡ gap (getD t i 0) (getD p i 0) * gap (getD t i 0) (getD p i 0) + sse (drop (i + 1) t) (drop (i + 1) p)
+unfolding sse
+plain-step t p i h e =
+    let h₁ : i < length p = omega arith in
+    simp (add-one, drop-cons t i 0 h, drop-cons p i 0 h₁)
+
+pub length-shown-sums : (b : ℕ) (a : List ℕ) → length (samples (less b a)) ≡ length a
+unfolding samples less
+length-shown-sums b a = length-map (map (λ x. subℕ x b) a) saturate ∙ length-map a (λ x. subℕ x b)
+
+pub samples-at : (b : ℕ) (a : List ℕ) (i : ℕ) → i < length a → getD (samples (less b a)) i 0 ≡ min 255 (getD a i 0 - b)
+unfolding samples less
+samples-at b [] i h = absurd (omega arith)
+samples-at b (x ∷ a) zero h = saturate-less x b
+samples-at b (x ∷ a) (suc i) h = samples-at b a i (omega arith)

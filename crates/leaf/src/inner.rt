@@ -8,6 +8,9 @@ ghost use Rattle.bits.specs.Basics.{gap};
 ghost use Rattle.leaf.specs.Mean.{residual, meanOf, saturate};
 ghost use Rattle.leaf.specs.Leaf.{sse, plus, samples, seeded, argmin};
 ghost use Rattle.leaf.specs.Raised.{less, sqd, vectorError, Below, Stage, total, plusN, Searched};
+ghost use Rattle.leaf.specs.Inner.{Ready, Coding, Chosen};
+use super::svq1_enc_leaf::LeafChoice;
+use super::svq1_enc_leaf::LeafCode;
 use book::svq1_vlc::Svq1Half;
 
 // What `a` is above `b`, or 0.
@@ -252,4 +255,137 @@ fn seed(a: &mut [u16], p: &[u8], mean: u16)
         a[i] = wide(p[i]) + mean;
         i += 1;
     }
+}
+
+// The signed mean of one kept plus 256.
+fn signed_mean(m: u16) -> i16
+    requires { ⌜ m ≤ 511 ⌝ }
+    ensures { λ r. ⌜ r ≡ subℕ m 256 ⌝ }
+{
+    (m as i16) - 256
+}
+
+// The squared distance of two blocks.
+pub fn distance_of(t: &[u8], p: &[u8]) -> u32
+    requires { ⌜ (length (now t) ≤ 256) × (length (now p) ≡ length (now t)) ⌝ }
+    ensures { λ r. ⌜ r ≡ sse (now (t .entry)) (now (p .entry)) ⌝ }
+{
+    let mut low: u16 = 0;
+    let mut high: u16 = 0;
+    let mut i = 0;
+    while i < t.len() {
+        let d = distance(t[i], wide(p[i]));
+        let e = squared(d);
+        low += e % 256;
+        high += e / 256;
+        i += 1;
+    }
+    (low as u32) + (high as u32) * 256
+}
+
+fn squared(d: u16) -> u16
+    requires { ⌜ d ≤ 255 ⌝ }
+    ensures { λ r. ⌜ (r ≡ d * d) × (r ≤ 65025) ⌝ }
+{
+    d * d
+}
+
+// The samples that the sums show.
+fn show(a: &[u16], bias: u16, out: &mut [u8])
+    requires { ⌜ length (now out) ≡ length (now a) ⌝ }
+    ensures { λ _. ⌜ now (out .exit) ≡ samples (less bias (now (a .entry))) ⌝ }
+{
+    let mut i = 0;
+    while i < out.len() {
+        out[i] = narrow(shown(a[i], bias));
+        i += 1;
+    }
+}
+
+fn narrow(x: u16) -> u8
+    requires { ⌜ x ≤ 255 ⌝ }
+    ensures { λ r. ⌜ r ≡ x ⌝ }
+{
+    x as u8
+}
+
+// The block `p` into `out`.
+pub fn copy(p: &[u8], out: &mut [u8])
+    requires { ⌜ length (now out) ≡ length (now p) ⌝ }
+    ensures { λ _. ⌜ now (out .exit) ≡ now (p .entry) ⌝ }
+{
+    let mut i = 0;
+    while i < out.len() {
+        out[i] = p[i];
+        i += 1;
+    }
+}
+
+// The coded leaf of least error; its samples go into `out`, and `a` is scratch. `book` is the raised codebook, and the page begins at `base`.
+fn search_coded(
+    half: Svq1Half,
+    t: &[u8],
+    p: &[u8],
+    a: &mut [u16],
+    out: &mut [u8],
+    book: &[u8],
+    base: usize,
+    cap: usize,
+) -> LeafChoice
+    requires { ⌜ Ready (now t) (now p) (now a) (now out) (now book) base cap ⌝ }
+    ensures { λ r. ⌜ Coding half (now (t .entry)) (now (p .entry)) (now (book .entry)) base cap (r .code) (r .stages) (r .error) (now (out .exit)) ⌝ }
+{
+    let mean = residual_mean(half, t, p);
+    seed(a, p, mean);
+    let first = block_sse(t, a, 256);
+    let s = search_stages(t, a, book, base, 256, cap, first);
+    let count = s.count;
+    let stages = s.index;
+    show(a, bias_of(count), out);
+    LeafChoice {
+        code: LeafCode::Coded {
+            mean: signed_mean(mean),
+            count: count as u8,
+        },
+        stages,
+        error: s.error,
+    }
+}
+
+// The bias of sums with this many stages added.
+fn bias_of(count: usize) -> u16
+    requires { ⌜ count ≤ 6 ⌝ }
+    ensures { λ r. ⌜ r ≡ 256 + 128 * count ⌝ }
+{
+    256 + 128 * (count as u16)
+}
+
+// One leaf by the leaf rules; its samples go into `out`, and `a` is scratch.
+pub fn choose_leaf(
+    half: Svq1Half,
+    t: &[u8],
+    p: &[u8],
+    a: &mut [u16],
+    out: &mut [u8],
+    book: &[u8],
+    base: usize,
+    cap: usize,
+    skip: bool,
+) -> LeafChoice
+    requires { ⌜ Ready (now t) (now p) (now a) (now out) (now book) base cap ⌝ }
+    ensures { λ r. ⌜ Chosen half (now (t .entry)) (now (p .entry)) (now (book .entry)) base cap skip (r .code) (r .stages) (r .error) (now (out .exit)) ⌝ }
+{
+    let coded = search_coded(half, t, p, a, out, book, base, cap);
+    if skip {
+        let e = distance_of(t, p);
+        if e <= coded.error {
+            copy(p, out);
+            return LeafChoice {
+                code: LeafCode::Skip,
+                stages: [0u8; 6],
+                error: e,
+            };
+        }
+    }
+    coded
 }

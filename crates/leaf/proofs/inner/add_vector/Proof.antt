@@ -55,11 +55,12 @@ loop-again : tie.Need-loop-again Inv-loop μ-loop
 loop-again c =
     let l = c .before .before .before .before .loop in
     let s = c .before .before .before .before .before .before .before in
-    let e : length (s .args .w .now) ≡ length (l .a) = omega arith in
-    (simp length-set (search needs),
-    simp length-set (l .inv .1),
-    drop-next (l .a) (l .i) _ ∙ drop-more (l .a) (s .args .a .now) (l .i) (l .inv .2),
-    rw (c .wide .ensures .0) (plusN-step (l .a) (s .args .w .now) (l .i) (search needs) e ∙ l .inv .3))
+    let e : length (s .args .w .now) ≡ length (l .a) = omega arith in (
+      simp length-set (search needs),
+      simp length-set (l .inv .1),
+      drop-next (l .a) (l .i) _ ∙ drop-more (l .a) (s .args .a .now) (l .i) (l .inv .2),
+      rw (c .wide .ensures .0) (plusN-step (l .a) (s .args .w .now) (l .i) (search needs) e ∙ l .inv .3),
+    )
 
 same-length : tie.Need-same-length Inv-loop μ-loop
 same-length c = search needs

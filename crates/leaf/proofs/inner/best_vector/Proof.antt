@@ -42,19 +42,21 @@ loop-again c =
     let e = c .before .vector-error2 .ensures in
     ⊎-elim
     (λ w.
-        let h : f (l .j) < f (l .index) = omega arith in
-        (search needs,
-        search needs,
-        w .2 ∙ argmin-take f (l .j) (l .index) (l .inv .0) (l .inv .2) h,
-        w .1 ∙ e ∙ ap f (sym (w .2)),
-        omega arith))
+    let h : f (l .j) < f (l .index) = omega arith in (
+      search needs,
+      search needs,
+      w .2 ∙ argmin-take f (l .j) (l .index) (l .inv .0) (l .inv .2) h,
+      w .1 ∙ e ∙ ap f (sym (w .2)),
+      omega arith,
+    ))
     (λ w.
-        let h : f (l .index) ≤ f (l .j) = omega arith in
-        (search needs,
-        search needs,
-        w .2 ∙ argmin-keep f (l .j) (l .index) (l .inv .0) (l .inv .2) h,
-        w .1 ∙ l .inv .3 ∙ ap f (sym (w .2)),
-        omega arith))
+    let h : f (l .index) ≤ f (l .j) = omega arith in (
+      search needs,
+      search needs,
+      w .2 ∙ argmin-keep f (l .j) (l .index) (l .inv .0) (l .inv .2) h,
+      w .1 ∙ l .inv .3 ∙ ap f (sym (w .2)),
+      omega arith,
+    ))
     (c .if1 .came)
 
 returns : tie.Need-returns Inv-loop μ-loop

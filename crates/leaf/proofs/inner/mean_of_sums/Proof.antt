@@ -61,20 +61,22 @@ returns-3 c =
 
 returns-4 : tie.Need-returns-4
 returns-4 c =
-    let a = c .before .before .before .before .args in
-    (rw (c .before .enum-told2 .given .1) (sym (mean-down-inter (a .st) (a .sp) (a .n) (c .before .before .before .if1 .left))),
-    search needs)
+    let a = c .before .before .before .before .args in (
+      rw (c .before .enum-told2 .given .1) (sym (mean-down-inter (a .st) (a .sp) (a .n) (c .before .before .before .if1 .left))),
+      search needs,
+    )
 
 returns-5 : tie.Need-returns-5
 returns-5 c =
     let a = c .before .before .before .before .args in
     let q = (a .sp - a .st + a .n / 2) / a .n in
-    let e : 256 - q ≡ 0 = omega arith in
-    (rw (c .before .enum-told2 .given .1)
-    (sym
-    (mean-down-inter (a .st) (a .sp) (a .n) (c .before .before .before .if1 .left)
-    ∙ ap (λ (x : ℕ). subℕ x 256) e)),
-    search needs)
+    let e : 256 - q ≡ 0 = omega arith in (
+      rw (c .before .enum-told2 .given .1)
+          (sym
+          (mean-down-inter (a .st) (a .sp) (a .n) (c .before .before .before .if1 .left)
+          ∙ ap (λ (x : ℕ). subℕ x 256) e)),
+      search needs,
+    )
 
 pub mean-of-sums-spec : {M : Type 1} → statement M
 mean-of-sums-spec =

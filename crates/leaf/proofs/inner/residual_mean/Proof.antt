@@ -20,10 +20,11 @@ mean-of-sums-requires c κs = search needs
 
 returns : tie.Need-returns
 returns c =
-    let s = c .before .before .before .before .before in
-    (rw (residual-sums (s .args .t .now) (s .args .p .now) (s .pre .2), ← c .before .sum-of2 .ensures .0, ← c .before .before .sum-of .ensures .0)
-    (c .mean-of-sums .ensures .0),
-    c .mean-of-sums .ensures .1)
+    let s = c .before .before .before .before .before in (
+      rw (residual-sums (s .args .t .now) (s .args .p .now) (s .pre .2), ← c .before .sum-of2 .ensures .0, ← c .before .before .sum-of .ensures .0)
+          (c .mean-of-sums .ensures .0),
+      c .mean-of-sums .ensures .1,
+    )
 
 pub residual-mean-spec : {M : Type 1} → statement M
 residual-mean-spec =

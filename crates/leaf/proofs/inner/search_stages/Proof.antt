@@ -20,29 +20,29 @@ loop-holds : tie.Need-loop-holds Inv-loop μ-loop
 loop-holds c =
     let s = c .before .before .before in
     let z : s .args .cap - 0 ≡ s .args .cap = omega arith in
-    record
-      { within = search needs
-      ; same = s .pre .0 .1
-      ; six = refl
-      ; place = omega arith
-      ; biased = omega arith
-      ; low = λ i. omega (arith, s .pre .0 .2 i)
-      ; indices = rw z
-      ; sums = rw z
-      ; found = s .pre .1 .2
-      }
+    record {
+      within = search needs;
+      same = s .pre .0 .1;
+      six = refl;
+      place = omega arith;
+      biased = omega arith;
+      low = λ i. omega (arith, s .pre .0 .2 i);
+      indices = rw z;
+      sums = rw z;
+      found = s .pre .1 .2;
+    }
 
 best-vector-requires : tie.Need-best-vector-requires Inv-loop μ-loop
 best-vector-requires c κs =
     let s = c .before .before .before .before .before .before in
     let l = c .before .before .loop in
-    record
-      { few = s .pre .0 .0
-      ; same = l .inv .same
-      ; low = λ i. omega (arith, l .inv .low i)
-      ; small = search needs
-      ; room = omega (arith, part-room (length (s .args .t .now)) (l .count) 6 (search needs))
-      }
+    record {
+      few = s .pre .0 .0;
+      same = l .inv .same;
+      low = λ i. omega (arith, l .inv .low i);
+      small = search needs;
+      room = omega (arith, part-room (length (s .args .t .now)) (l .count) 6 (search needs));
+    }
 
 same-length : tie.Need-same-length Inv-loop μ-loop
 same-length c = omega arith

@@ -44,10 +44,11 @@ loop-again : tie.Need-loop-again Inv-loop μ-loop
 loop-again c =
     let l = c .before .before .before .loop in
     let s = c .before .before .before .before .before .before in
-    let e : length (s .args .p .now) ≡ length (l .a) = omega arith in
-    (simp length-set (search needs),
-    simp length-set (l .inv .1),
-    rw (c .wide .ensures .0) (raised-step (l .a) (s .args .p .now) (s .args .mean) (l .i) (search needs) e ∙ l .inv .2))
+    let e : length (s .args .p .now) ≡ length (l .a) = omega arith in (
+      simp length-set (search needs),
+      simp length-set (l .inv .1),
+      rw (c .wide .ensures .0) (raised-step (l .a) (s .args .p .now) (s .args .mean) (l .i) (search needs) e ∙ l .inv .2),
+    )
 
 same-length : tie.Need-same-length Inv-loop μ-loop
 same-length c = search needs
@@ -57,9 +58,10 @@ returns c =
     let l = c .before .loop in
     let s = c .before .before .before .before in
     let a = s .args in
-    let e : l .a ≡ raised (a .mean) (a .p .now) = raised-done (l .a) (a .p .now) _ (a .mean) (l .i) (omega arith) (omega arith) (l .inv .2) in
-    (ap (less 256) e ∙ raised-less (a .p .now) (a .mean),
-    λ i. omega (arith, ap (λ (x : List ℕ). getD x i 0) e, raised-le (a .p .now) (a .mean) (λ k. omega (arith, c .before .before .shared-slice-known .given k)) i))
+    let e : l .a ≡ raised (a .mean) (a .p .now) = raised-done (l .a) (a .p .now) _ (a .mean) (l .i) (omega arith) (omega arith) (l .inv .2) in (
+      ap (less 256) e ∙ raised-less (a .p .now) (a .mean),
+      λ i. omega (arith, ap (λ (x : List ℕ). getD x i 0) e, raised-le (a .p .now) (a .mean) (λ k. omega (arith, c .before .before .shared-slice-known .given k)) i),
+    )
 
 pub seed-spec : {M : Type 1} → statement M
 seed-spec =

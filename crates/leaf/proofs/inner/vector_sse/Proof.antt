@@ -62,10 +62,11 @@ loop-again c =
     let i = c .before .before .before .before .before .before .loop .i in
     let s = c .before .before .before .before .before .before .before .before .before .before in
     let a = s .args in
-    omega
-    (arith,
-    rw (c .before .wide .ensures .0) at (c .error-at .ensures .0),
-    vector-step (a .t .now) (a .a .now) (a .w .now) (a .bias) i (search needs) (search needs) (search needs) (s .pre .4))
+    omega (
+      arith,
+      rw (c .before .wide .ensures .0) at (c .error-at .ensures .0),
+      vector-step (a .t .now) (a .a .now) (a .w .now) (a .bias) i (search needs) (search needs) (search needs) (s .pre .4),
+    )
 
 cast-result : tie.Need-cast-result Inv-loop μ-loop
 cast-result c = search needs

@@ -1,0 +1,16 @@
+-- The square of a distance fits 16 bits. Assumes nothing.
+use mathlib.Core.Path.{refl}
+use Rattle.leaf.specs.RaisedLaws.{square-le}
+use native.Mathlib.Omega.{arith}
+use borrow.Author.Needs.{needs}
+use Rattle.leaf.proofs.inner.squared.Statement.{statement}
+use Rattle.leaf.proofs.inner.squared.Tie as tie
+
+mul-result : tie.Need-mul-result
+mul-result c = omega (arith, square-le (c .pre))
+
+returns : tie.Need-returns
+returns c = (refl, square-le (c .pre))
+
+pub squared-spec : {M : Type 1} → statement M
+squared-spec = tie.close (tie.spec mul-result returns)

@@ -1,0 +1,37 @@
+-- What the leaf search may assume, and what it hands back.
+use mathlib.Core.Path.{_≡_}
+use mathlib.Core.Bool.{Bool}
+use mathlib.Core.List.{List}
+use Prim.Native.Nat.{ℕ, _+_, _*_, _≤_, _<_}
+use lib.ListN.{length}
+use Rattle.book.specs.declared.svq1_vlc.Svq1Half.{Svq1Half}
+use Rattle.leaf.specs.declared.svq1_enc_leaf.LeafCode.{LeafCode}
+use Rattle.leaf.specs.Leaf.{Leaf, Vectors, sse, leafShown, codedLeaf, leafRule}
+use Rattle.leaf.specs.Raised.{vectorsIn, leafOf}
+
+-- a block of 1 to 256 samples, a predictor, room for sums and samples, and six stages of sixteen vectors behind `base`
+pub record Ready (t p a out book : List ℕ) (base cap : ℕ) : Type 0 where
+  pub few : length t ≤ 256
+  pub some : 1 ≤ length t
+  pub predictor : length p ≡ length t
+  pub sums : length a ≡ length t
+  pub shown : length out ≡ length t
+  pub stages : cap ≤ 6
+  pub page : base + length t * 96 ≤ length book
+
+-- a leaf, its error and the samples that it shows
+pub record Leafed (vs : Vectors) (t p : List ℕ) (l : Leaf) (code : LeafCode) (stages : List ℕ) (error : ℕ) (out : List ℕ) : Type 0 where
+  pub leaf : leafOf code stages ≡ l
+  pub erring : error ≡ sse t (leafShown vs p l)
+  pub shown : out ≡ leafShown vs p l
+
+-- the coded leaf, and the leaf that the rules choose
+abbrev pub Coding : Svq1Half → List ℕ → List ℕ → List ℕ → ℕ → ℕ → LeafCode → List ℕ → ℕ → List ℕ → Type 0
+Coding h t p book base cap code stages error out =
+    let vs = vectorsIn book base (length t) in
+    Leafed vs t p (codedLeaf h vs cap t p) code stages error out
+
+abbrev pub Chosen : Svq1Half → List ℕ → List ℕ → List ℕ → ℕ → ℕ → Bool → LeafCode → List ℕ → ℕ → List ℕ → Type 0
+Chosen h t p book base cap allowSkip code stages error out =
+    let vs = vectorsIn book base (length t) in
+    Leafed vs t p (leafRule h vs cap allowSkip t p) code stages error out
