@@ -161,6 +161,14 @@ put-more bs at w l n v hn hl h =
     subst (λ (m : ℕ). putBits (putBits bs at X) (at + m) Y ≡ putBits bs at (X ++ Y)) (length-msb (w - l) (v / 2 ^ l)) (put-put bs X Y at h) in
     rw (msb-mod n (v / 2 ^ (l - n)), two) one
 
+-- a turn of writing w bits of v: l were left, and the next n of them are put at bit p
+pub put-turn : (bs out next : List ℕ) (at w l n v p part : ℕ) → n ≤ l → l ≤ w → at ≤ length bs → p + l ≡ at + w
+    → out ≡ putBits bs at (msb (w - l) (v / 2 ^ l)) → part ≡ v / 2 ^ (l - n) % 2 ^ n → next ≡ putBits out p (msb n part)
+    → next ≡ putBits bs at (msb (w - (l - n)) (v / 2 ^ (l - n)))
+put-turn bs out next at w l n v p part hn hl h hp before now-part written =
+    let here : p ≡ at + (w - l) = omega arith in
+    written ∙ rw (now-part, here, before) (put-more bs at w l n v hn hl h)
+
 -- the sum of a byte's high bits and lower ones is a byte
 pub byte-lt : (b k x : ℕ) → b < 256 → k ≤ 8 → x < 2 ^ k → b / 2 ^ k * 2 ^ k + x < 256
 byte-lt b k x hb hk hx =

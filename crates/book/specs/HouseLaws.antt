@@ -1,19 +1,19 @@
 -- Laws of the house book and the house codebook. Upper layers cite house-book, house-passes and house-sample-at.
-use Prim.Native.Nat.{ℕ, zero, suc, _+_, _-_, _*_, _/_, _%_, _≤_, _<_}
-use mathlib.Core.Path.{_≡_, refl, sym, ap, _∙_}
+use Prim.Native.Nat.{ℕ, zero, suc, _+_, _-_, _*_, _/_, _≤_, _<_}
+use mathlib.Core.Path.{_≡_, refl, ap, _∙_}
 use mathlib.Core.Bool.{Bool, true, false, _&&_}
-use mathlib.Core.List.{List, [], _∷_, _++_}
+use mathlib.Core.List.{List, [], _∷_}
 use native.Mathlib.Omega.{arith}
 use native.Mathlib.Nat.{add-zero, zero-add, not-suc-le-zero, le-of-suc-le-suc}
 use lib.Dec.{eqb}
 use lib.IntN.{subℕ}
 use lib.ListN.{length, take, drop, getD}
-use borrow.Author.Tests.{eqb-true, eq-eqb, lt-ltb, le-ltb}
-use Rattle.bits.specs.Basics.{pick, valuesFrom, orElse, unless}
+use borrow.Author.Tests.{eqb-true, lt-ltb, le-ltb}
+use Rattle.bits.specs.Basics.{valuesFrom}
 use Rattle.bits.specs.BasicsLaws.{both-true}
 use Rattle.bits.specs.Bits.{msb}
-use Rattle.bits.specs.Codes.{codeVal, codeLen, codesOf, goodTable, prefixFree}
-use Rattle.book.specs.Book.{bookEntries, bookBytes, codebookBytes, codeTableSizes, eachPrefixFree, codesRefusal, bookRefusal}
+use Rattle.bits.specs.Codes.{codeVal, codeLen, codesOf, goodTable}
+use Rattle.book.specs.Book.{bookEntries, bookBytes, codebookBytes, modeTable, codeTableSizes, eachPrefixFree, codesRefusal, bookRefusal}
 use Rattle.book.specs.House.{logUnder, signedRank, rank, houseValue, houseLength, houseFrom, houseBook, houseSample, signedByte, houseCodebook}
 use Rattle.book.specs.Trie.{none, free, enter, allFree, free-is}
 
@@ -86,6 +86,11 @@ house-book = by-test houseBook refl
 
 pub house-passes : bookRefusal houseBook ≡ 0
 house-passes = house-book .passes
+
+-- the mode codes, INTER, INTER_4MV, INTRA and SKIP, written out
+pub house-modes : codesOf (modeTable houseBook) ≡ (0 ∷ 1 ∷ 0 ∷ []) ∷ (0 ∷ 1 ∷ 1 ∷ []) ∷ (0 ∷ 0 ∷ 1 ∷ 0 ∷ 0 ∷ []) ∷ (1 ∷ []) ∷ []
+unfolding houseBook houseFrom rank signedRank logUnder codesOf msb
+house-modes = refl
 
 -- ---- the codebook
 -- the values one behind the other: their number, and each by its place
