@@ -1,3 +1,4 @@
+-- `inner::put_bits` meets its contract. All but the last `left` bits stand in the slice; each turn adds those that one byte takes, by put-turn.
 use Prim.Native.Nat.{ℕ, _+_, _-_, _/_, _^_, _≤_}
 use mathlib.Core.Path.{_≡_, refl, _∙_}
 use mathlib.Core.List.{List}

@@ -1,3 +1,4 @@
+-- `svq1_enc::entry_refusal` meets its contract. The tests of 5 and 6, one behind the other.
 use Prim.Native.Nat.{ℕ, _/_, _%_}
 use mathlib.Core.Path.{_≡_, sym}
 use mathlib.Core.List.{List}

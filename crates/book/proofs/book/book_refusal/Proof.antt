@@ -1,3 +1,4 @@
+-- `book::book_refusal` meets its contract. 5, 6 and 7, one behind the other.
 use Prim.Native.Nat.{ℕ}
 use mathlib.Core.Path.{sym, _∙_}
 use mathlib.Core.List.{List}

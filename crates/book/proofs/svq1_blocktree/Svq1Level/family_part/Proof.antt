@@ -1,3 +1,4 @@
+-- `Svq1Level::family_part` meets its contract. The part from byte 24 × level on.
 use borrow.Author.Needs.{needs}
 use Rattle.book.specs.LevelLaws.{family-part-is, family-part-none}
 use Rattle.book.proofs.svq1_blocktree.Svq1Level.family_part.Statement.{statement}
