@@ -86,7 +86,7 @@ drop-take (suc a) k (x ∷ l) =
     let e : suc a + k ≡ suc (a + k) = omega arith in
     rw e (drop-take a k l)
 
-part-part : (n a m b : ℕ) (l : List ℕ) → a + n ≤ m → take n (drop a (take m (drop b l))) ≡ take n (drop (b + a) l)
+pub part-part : (n a m b : ℕ) (l : List ℕ) → a + n ≤ m → take n (drop a (take m (drop b l))) ≡ take n (drop (b + a) l)
 part-part n a m b l h =
     let e : m ≡ a + (m - a) = omega arith in
     rw (e, drop-take a (m - a) (drop b l), take-take n (m - a) (drop a (drop b l)) (omega arith), drop-drop a b l)
@@ -104,6 +104,7 @@ abbrev pub means : Svq1Half → ℕ
 means Intra = 256
 means Inter = 512
 
+-- each of the tables by its name
 pub record GoodBook (book : List ℕ) : Type 0 where
   pub size : length book ≡ bookBytes
   pub good : goodTable book ≡ true
@@ -140,6 +141,7 @@ module _ (book : List ℕ) (len : length book ≡ bookBytes) (good : goodTable b
   stage-at Intra d l = level-at 836 d d (omega arith) refl l (omega arith)
   stage-at Inter d l = level-at 884 (6 + d) d (omega arith) (omega arith) l (omega arith)
 
+-- A BOOK THAT PASSES: the sixteen tables, each of its size, good and prefix-free
 pub good-book : (book : List ℕ) → bookRefusal book ≡ 0 → GoodBook book
 unfolding bookRefusal codesRefusal total
 good-book book e =
