@@ -1,14 +1,15 @@
 -- Laws of tables of codes: what begins a run of bits, a code by its entry, good and prefix-free tables. Upper layers cite code-at, length-codesOf, good-is.
 use Prim.Native.Nat.{ℕ, zero, suc, _+_, _-_, _*_, _/_, _%_, _^_, _≤_, _<_}
 use mathlib.Core.Path.{_≡_, refl, sym, ap, _∙_, subst}
-use mathlib.Core.Bool.{Bool, true, false, not, _&&_, true≢false}
+use mathlib.Core.Bool.{Bool, true, false, not, _&&_, _||_, true≢false}
 use mathlib.Core.List.{List, [], _∷_, _++_}
 use native.Mathlib.Numerals.{add-one}
+use native.Mathlib.Decide.{decLt}
 use native.Mathlib.Omega.{arith}
 use native.Mathlib.Nat.{not-suc-le-zero, le-of-suc-le-suc, mod-eq-of-lt}
 use lib.Dec.{eqb, leb, ltb}
 use lib.Pow.{shr-lt}
-use lib.ListN.{length, take, drop, getD, length-append, drop-of-length-le}
+use lib.ListN.{length, take, drop, getD, length-append, drop-of-length-le, List·getD-eq-default}
 use lib.Seq.{take-at, take-nil, drop-nil, drop-cons}
 use borrow.Author.Tests.{eqb-true, eq-eqb, eqb-false, ne-eqb, not-true, leb-true, ltb-true}
 use Rattle.bits.specs.BasicsLaws.{both-true, is-false}
@@ -62,6 +63,26 @@ starts-window (x ∷ c) (y ∷ bs) (suc n) h e = go (eqb y x) refl (λ q. starts
     go true q next = ap (_&&_ (eqb y x)) (next (rw (eqb-swap x y, q) at e))
     go false q next = rw q
 
+-- of two codes only the shorter can begin the other
+pub clash-short : (c d : List ℕ) → length c ≤ length d → clash c d ≡ begins c d
+unfolding begins
+clash-short [] d h = refl
+clash-short (x ∷ c) [] h = absurd (not-suc-le-zero h)
+clash-short (x ∷ c) (y ∷ d) h = rw (eqb-swap y x) (go (eqb x y) (clash-short c d (le-of-suc-le-suc h)))
+  where
+    go : (t : Bool) → clash c d ≡ begins c d → ((t && begins c d) || (t && begins d c)) ≡ (t && begins c d)
+    go true e = e
+    go false e = refl
+
+pub clash-swap : (c d : List ℕ) → clash c d ≡ clash d c
+clash-swap c d = go (begins c d) (begins d c)
+  where
+    go : (s t : Bool) → (s || t) ≡ (t || s)
+    go true true = refl
+    go true false = refl
+    go false true = refl
+    go false false = refl
+
 -- whether the a bits of x begin the b bits of y, by a shift
 pub begins-msb : (a b x y : ℕ) → a ≤ b → x < 2 ^ a → y < 2 ^ b → begins (msb a x) (msb b y) ≡ eqb (y / 2 ^ (b - a)) x
 begins-msb a b x y h hx hy =
@@ -101,6 +122,10 @@ code-at (h ∷ l ∷ n ∷ t) (suc k) lt =
     let e1 : 3 * suc k + 1 ≡ suc (suc (suc (3 * k + 1))) = omega arith in
     let e2 : 3 * suc k + 2 ≡ suc (suc (suc (3 * k + 2))) = omega arith in
     rw (e2, e1, e) (code-at t k (omega arith))
+
+-- a code is as long as its entry says
+pub code-length : (t : List ℕ) (k : ℕ) → k < length t / 3 → length (code (codesOf t) k) ≡ codeLen t k
+code-length t k h = rw (code-at t k h) (length-msb (codeLen t k) (codeVal t k))
 
 -- ---- prefix-freeness
 pub apart-at : (c : List ℕ) (cs : List (List ℕ)) (k : ℕ) → k < length cs → apart c cs ≡ true → clash c (code cs k) ≡ false
@@ -186,7 +211,15 @@ good-whole (h ∷ l ∷ n ∷ t) e = omega (arith, good-whole t (both-true (good
 pub code-fits : (t : List ℕ) → goodTable t ≡ true → (k : ℕ) → k < length (codesOf t) → length (code (codesOf t) k) ≤ 32
 code-fits t g k h =
     let l : k < length t / 3 = rw length-codesOf at h in
-    rw (code-at t k l, length-msb) (good-is t g .long k l)
+    rw (code-length t k l) (good-is t g .long k l)
+
+-- also where there is no code
+pub code-most : (t : List ℕ) → goodTable t ≡ true → (k : ℕ) → length (code (codesOf t) k) ≤ 32
+code-most t g k =
+    elim (decLt k (length (codesOf t))) [
+      | yes h ↦ code-fits t g k h
+      | no h ↦ rw (List·getD-eq-default (codesOf t) [] {n = k} (omega arith)) (omega arith)
+    ]
 
 -- whole entries taken from either end of a good table are a good table
 pub good-take : (t : List ℕ) (n : ℕ) → goodTable t ≡ true → goodTable (take (3 * n) t) ≡ true

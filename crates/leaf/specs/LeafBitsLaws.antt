@@ -9,47 +9,18 @@ use native.Mathlib.Decide.{decLt}
 use lib.Dec.{ltb}
 use borrow.Author.Tests.{lt-ltb, le-ltb}
 use lib.IntN.{ℤ}
-use lib.ListN.{length, getD, length-append, List·getD-eq-default}
+use lib.ListN.{length, getD, length-append}
 use Rattle.bits.specs.Bits.{msb}
 use Rattle.bits.specs.BitsLaws.{length-msb}
-use Rattle.bits.specs.Codes.{code, codesOf, goodTable, prefixFree, Got, got, bad, then, takeCode}
-use Rattle.bits.specs.CodesLaws.{code-fits}
+use Rattle.bits.specs.Codes.{code, Got, got, bad, then, takeCode}
 use Rattle.bits.specs.CodeReadLaws.{take-code, take-bits}
-use Rattle.book.specs.Book.{Tables, tablesOf, meanTable, stageTable, stageFamily, bookRefusal}
-use Rattle.book.specs.BookLaws.{GoodCodes, GoodBook, means, good-book}
+use Rattle.book.specs.Book.{Tables}
+use Rattle.book.specs.BookLaws.{means, GoodTables}
 use Rattle.book.specs.declared.svq1_vlc.Svq1Half.{Svq1Half}
 use Rattle.book.specs.declared.svq1_vlc.Svq1Half.the-variants.{Intra, Inter}
 use Rattle.leaf.specs.Mean.{meanPosition, meanAt}
 use Rattle.leaf.specs.Leaf.{Leaf, skip, coded}
 use Rattle.leaf.specs.LeafBits.{stageBits, leafBits, readStages, readSkip, readRest, readLeaf}
-
--- ---- tables that can be written with and read by
-pub record GoodTables (T : Tables) : Type 0 where
-  pub stage-free : (d : ℕ) → d ≤ 5 → prefixFree (T .stage d) ≡ true
-  pub stage-size : (d : ℕ) → d ≤ 5 → length (T .stage d) ≡ 8
-  pub stage-long : (d k : ℕ) → d ≤ 5 → length (code (T .stage d) k) ≤ 32
-  pub mean-free : prefixFree (T .mean) ≡ true
-  pub mean-size : length (T .mean) ≡ means (T .half)
-  pub mean-long : (k : ℕ) → length (code (T .mean) k) ≤ 32
-
--- a code of a good table, or nothing past its end
-pub code-most : (t : List ℕ) → goodTable t ≡ true → (k : ℕ) → length (code (codesOf t) k) ≤ 32
-code-most t e k =
-    elim (decLt k (length (codesOf t)))
-    [ yes h ↦ code-fits t e k h | no h ↦ rw (List·getD-eq-default (codesOf t) [] {n = k} (omega arith)) (omega arith) ]
-
--- the tables of a book that passes
-pub good-tables : (book : List ℕ) (h : Svq1Half) → bookRefusal book ≡ 0 → GoodTables (tablesOf book h)
-good-tables book h e =
-    let g = good-book book e in
-    record {
-      stage-free = λ d l. g .stage h d l .free;
-      stage-size = λ d l. g .stage h d l .count;
-      stage-long = λ d k l. code-most (stageTable d (stageFamily h book)) (g .stage h d l .good) k;
-      mean-free = g .mean h .free;
-      mean-size = g .mean h .count;
-      mean-long = code-most (meanTable h book) (g .mean h .good);
-    }
 
 -- ---- a leaf that may stand at level d
 pub record Coded (T : Tables) (d : ℕ) (m : ℤ) (js : List ℕ) : Type 0 where
@@ -76,17 +47,17 @@ bare-passes d n h = elim (decLt 3 d) [ yes a ↦ rw (lt-ltb 3 d a, h a) | no a �
 -- a leaf's bits, with anything behind them, read as the leaf
 pub read-leaf : (T : Tables) → GoodTables T → (d : ℕ) (l : Leaf) (r : List ℕ) → d ≤ 5 → Allowed T d l → readLeaf T d (leafBits T d l ++ r) ≡ got l r
 unfolding readLeaf leafBits readRest
-read-leaf T g d skip r h a = rw (take-code (T .stage d) 0 r (g .stage-free d h) (omega (arith, g .stage-size d h)), a)
+read-leaf T g d skip r h a = rw (take-code (T .stage d) 0 r (g .stage-free d h) (omega (arith, g .stage-count d h)), a)
 read-leaf T g d (coded m js) r h a =
     let n = length js in
     let k = meanPosition (T .half) m in
     let c = code (T .mean) k in
     rw (
       append-assoc (code (T .stage d) (suc n)) (c ++ stageBits js) r,
-      take-code (T .stage d) (suc n) ((c ++ stageBits js) ++ r) (g .stage-free d h) (omega (arith, g .stage-size d h, a .few)),
+      take-code (T .stage d) (suc n) ((c ++ stageBits js) ++ r) (g .stage-free d h) (omega (arith, g .stage-count d h, a .few)),
       bare-passes d n (a .bare),
       append-assoc c (stageBits js) r,
-      take-code (T .mean) k (stageBits js ++ r) (g .mean-free) (omega (arith, g .mean-size, a .place)),
+      take-code (T .mean) k (stageBits js ++ r) (g .mean-free) (omega (arith, g .mean-count, a .place)),
       read-stages js r (a .small),
       a .back,
     )
@@ -105,17 +76,17 @@ length-leaf T d m js = simp (length-append, length-stages) (omega arith)
 
 pub leaf-most : (T : Tables) → GoodTables T → (d : ℕ) (l : Leaf) → d ≤ 5 → Allowed T d l → length (leafBits T d l) ≤ 88
 unfolding leafBits
-leaf-most T g d skip h a = omega (arith, g .stage-long d 0 h)
+leaf-most T g d skip h a = omega (arith, g .stage-most d 0 h)
 leaf-most T g d (coded m js) h a =
-    omega (arith, length-leaf T d m js, g .stage-long d (suc (length js)) h, g .mean-long (meanPosition (T .half) m), a .few)
+    omega (arith, length-leaf T d m js, g .stage-most d (suc (length js)) h, g .mean-most (meanPosition (T .half) m), a .few)
 
 -- 11 is met with the stage code, whatever stands behind it
 pub skip-refused : (T : Tables) → GoodTables T → (d : ℕ) (r : List ℕ) → d ≤ 5 → T .half ≡ Intra → readLeaf T d (code (T .stage d) 0 ++ r) ≡ bad 11
 unfolding readLeaf readRest
-skip-refused T g d r h a = rw (take-code (T .stage d) 0 r (g .stage-free d h) (omega (arith, g .stage-size d h)), a)
+skip-refused T g d r h a = rw (take-code (T .stage d) 0 r (g .stage-free d h) (omega (arith, g .stage-count d h)), a)
 
 pub stages-refused : (T : Tables) → GoodTables T → (d n : ℕ) (r : List ℕ) → d ≤ 5 → 4 ≤ d → 0 < n → n ≤ 6
     → readLeaf T d (code (T .stage d) (suc n) ++ r) ≡ bad 11
 unfolding readLeaf readRest
 stages-refused T g d n r h l s f =
-    rw (take-code (T .stage d) (suc n) r (g .stage-free d h) (omega (arith, g .stage-size d h)), lt-ltb 3 d l, lt-ltb 0 n s)
+    rw (take-code (T .stage d) (suc n) r (g .stage-free d h) (omega (arith, g .stage-count d h)), lt-ltb 3 d l, lt-ltb 0 n s)

@@ -11,7 +11,7 @@ use borrow.Author.Tests.{lt-ltb, le-ltb}
 use lib.IntN.{ℤ, pos, negsuc}
 use lib.ListN.{length, getD, length-map}
 use Rattle.bits.specs.Basics.{pick, Bytes}
-use Rattle.bits.specs.BasicsLaws.{length-list}
+use Rattle.bits.specs.BasicsLaws.{length-values}
 use Rattle.book.specs.Book.{Tables}
 use Rattle.book.specs.BookLaws.{means}
 use Rattle.book.specs.Level.{area}
@@ -139,7 +139,7 @@ Sized vs n = (s j : ℕ) → length (vs s j) ≡ n
 
 pub vectors-sized : (codebook : List ℕ) (h : Svq1Half) (d : ℕ) → Sized (vectorAt codebook h d) (area d)
 unfolding vectorAt
-vectors-sized codebook h d s j = length-list _ (area d) 0
+vectors-sized codebook h d s j = length-values _ (area d) 0
 
 pub length-plus : (xs ys : List ℤ) → length xs ≡ length ys → length (plus xs ys) ≡ length xs
 unfolding plus

@@ -12,16 +12,16 @@ use borrow.Author.Tests.{ltb-true, ltb-false, eqb-true}
 use lib.IntN.{_-ℤ_}
 use lib.ListN.{length, getD, replicate, length-append, length-replicate}
 use Rattle.bits.specs.Basics.{pick, All, Bytes}
-use Rattle.bits.specs.BasicsLaws.{both-true, length-list}
+use Rattle.bits.specs.BasicsLaws.{both-true, length-values}
 use Rattle.bits.specs.Codes.{code, codesOf, Got, got, then}
 use Rattle.bits.specs.CodeReadLaws.{take-code}
 use Rattle.book.specs.Book.{tablesOf, modeTable, vectorTable, bookRefusal}
-use Rattle.book.specs.BookLaws.{GoodBook, good-book}
+use Rattle.bits.specs.CodesLaws.{code-most}
+use Rattle.book.specs.BookLaws.{GoodBook, good-book, good-tables}
 use Rattle.book.specs.declared.svq1_vlc.Svq1Half.{Svq1Half}
 use Rattle.book.specs.declared.svq1_vlc.Svq1Half.the-variants.{Intra, Inter}
 use Rattle.leaf.specs.Codebook.{vectorAt}
 use Rattle.leaf.specs.Leaf.{sse}
-use Rattle.leaf.specs.LeafBitsLaws.{code-most, good-tables}
 use Rattle.leaf.specs.LeafLaws.{vectors-sized}
 use Rattle.motion.specs.declared.svq1_motion_predictor.Svq1Mv.{Svq1Mv}
 use Rattle.motion.specs.Vectors.{zeroMv, placeOf}
@@ -85,7 +85,7 @@ module _ (g : Given) (t : Task) (ok : Fine g t) where
   -- ---- blocks
   part-block : (k : ℕ) (xs : List ℕ) → Bytes xs → Block (part 16 (cols g) k xs)
   unfolding part
-  part-block k xs b = record { size = length-list _ 256 0; bytes = bytes-list _ (λ j. b _) 256 0 }
+  part-block k xs b = record { size = length-values _ 256 0; bytes = bytes-list _ (λ j. b _) 256 0 }
 
   pub target-block : (k : ℕ) → Block (target g t k)
   unfolding target paddedSource
@@ -103,7 +103,7 @@ module _ (g : Given) (t : Task) (ok : Fine g t) where
     bytes = bytes-moved (g .reference) (ok .reference-bytes) 16 (leftOf g k) (topOf g k) v;
   }
   baseline-block k (four a b c d) = record {
-    size = length-list _ 256 0;
+    size = length-values _ 256 0;
     bytes = bytes-list _ (λ j. moved-byte (g .reference) (ok .reference-bytes) 16 (leftOf g k) (topOf g k) (vectorFor a b c d j) j) 256 0;
   }
 
@@ -115,7 +115,7 @@ module _ (g : Given) (t : Task) (ok : Fine g t) where
   pub planned-for : (k : ℕ) (m : Motion) → Planned (planningFor g t k m)
   unfolding planningFor
   planned-for k m = record {
-    tables = good-tables (g .book) (halfOf m) (ok .book);
+    tables = good-tables (g .book) (ok .book) (halfOf m);
     sized = vectors-sized (g .codebook) (halfOf m);
     few = omega arith;
     inter = inter-skips (halfOf m);

@@ -9,7 +9,7 @@ use lib.IntN.{ℤ, pos, _+ℤ_}
 use lib.Signed.{shrZ}
 use lib.ListN.{length}
 use Rattle.bits.specs.Basics.{pick, Bytes, valuesFrom}
-use Rattle.bits.specs.BasicsLaws.{length-list}
+use Rattle.bits.specs.BasicsLaws.{length-values}
 use Rattle.motion.specs.declared.svq1_motion_predictor.Svq1Mv.{Svq1Mv}
 use Rattle.motion.specs.Compensation.{Canvas, even, mean2, mean4, sampleAt, halfSample, movedSample, movedBlock}
 
@@ -53,4 +53,4 @@ module _ (c : Canvas) (bytes : Bytes (c .samples)) where
 
 pub length-moved : (c : Canvas) (side x y : ℕ) (v : Svq1Mv) → length (movedBlock c side x y v) ≡ side * side
 unfolding movedBlock
-length-moved c side x y v = length-list (movedSample c side x y v) (side * side) 0
+length-moved c side x y v = length-values (movedSample c side x y v) (side * side) 0

@@ -12,7 +12,7 @@ use lib.Seq.{ext-getD, length-take-le, getD-take, getD-drop}
 use lib.Arith.{digits-lt, digits-div, digits-mod}
 use borrow.Author.Tests.{eq-eqb, ne-eqb}
 use Rattle.bits.specs.Basics.{pick}
-use Rattle.bits.specs.BasicsLaws.{length-list, list-at}
+use Rattle.bits.specs.BasicsLaws.{length-values, value-at}
 use Rattle.motion.specs.Grid.{owner, placeIn, entryOf, part, putFrom, putPart}
 
 -- the entry at a row and a column
@@ -112,11 +112,11 @@ module _ (s cols : ℕ) (some : 0 < s) (wide : 0 < cols) where
 module _ (s cols : ℕ) (some : 0 < s) (wide : 0 < cols) where
   pub length-part : (k : ℕ) (xs : List ℕ) → length (part s cols k xs) ≡ s * s
   unfolding part
-  length-part k xs = length-list _ (s * s) 0
+  length-part k xs = length-values _ (s * s) 0
 
   pub part-at : (k : ℕ) (xs : List ℕ) (j : ℕ) → j < s * s → getD (part s cols k xs) j 0 ≡ getD xs (entryOf s cols k j) 0
   unfolding part
-  part-at k xs j h = list-at (λ i. getD xs (entryOf s cols k i) 0) (s * s) 0 j 0 h ∙ rw zero-add
+  part-at k xs j h = value-at (λ i. getD xs (entryOf s cols k i) 0) (s * s) 0 j 0 h ∙ rw zero-add
 
   -- macroblock k after it was written, and after another was
   pub part-own : (k : ℕ) (v xs : List ℕ) → Holds s cols (suc k) xs → length v ≡ s * s → part s cols k (putPart s cols k v xs) ≡ v

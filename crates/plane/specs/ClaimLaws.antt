@@ -11,7 +11,7 @@ use lib.ListN.{length, take, drop, length-append, length-drop}
 use lib.Seq.{length-take-le}
 use borrow.Author.Tests.{leb-true, eqb-true}
 use Rattle.bits.specs.Basics.{All, Bytes, sum, orElse, unless}
-use Rattle.bits.specs.BasicsLaws.{both-true, or-none, unless-none, length-list}
+use Rattle.bits.specs.BasicsLaws.{both-true, or-none, unless-none, length-values}
 use Rattle.bits.specs.Bits.{bitsOf, putBits, afterBits}
 use Rattle.bits.specs.BitsLaws.{put-nil, put-put, drop-put, put-length, length-bitsOf}
 use Rattle.bits.specs.Calls.{startRefusal}
@@ -115,7 +115,7 @@ slices-sized g t ok d e =
 
 padded-size : (g : Given) (t : Task) → Accepted g t → length (paddedSource g t) ≡ rows g * 16 * (16 * cols g)
 unfolding paddedSource
-padded-size g t ok = length-list _ (g .reference .stride * g .reference .rows) 0 ∙ ok .canvas
+padded-size g t ok = length-values _ (g .reference .stride * g .reference .rows) 0 ∙ ok .canvas
 
 -- ---- the run
 module _ (g : Given) (t : Task) (ok : Accepted g t) (out : List ℕ) (start : ℕ) (a : Slices) (sized : Sized g a)

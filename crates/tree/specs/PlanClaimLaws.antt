@@ -13,13 +13,13 @@ use Rattle.bits.specs.Basics.{pick, Bytes, orElse, unless}
 use Rattle.bits.specs.BasicsLaws.{both-true, or-none, unless-none}
 use Rattle.bits.specs.Codes.{Got, got}
 use Rattle.book.specs.Book.{Tables, tablesOf, dataRefusal}
-use Rattle.book.specs.BookLaws.{data-passes}
+use Rattle.book.specs.BookLaws.{GoodTables, good-tables, data-passes}
 use Rattle.book.specs.Level.{width, area}
 use Rattle.book.specs.declared.svq1_vlc.Svq1Half.{Svq1Half}
 use Rattle.book.specs.declared.svq1_vlc.Svq1Half.the-variants.{Intra, Inter}
 use Rattle.leaf.specs.Leaf.{Leaf, sse, Vectors, leafShown, capAt}
 use Rattle.leaf.specs.LeafBits.{leafBits}
-use Rattle.leaf.specs.LeafBitsLaws.{GoodTables, good-tables, Allowed, leaf-most}
+use Rattle.leaf.specs.LeafBitsLaws.{Allowed, leaf-most}
 use Rattle.leaf.specs.LeafCall.{BlockIn, halfAt, blockOk, blockRefusal}
 use Rattle.leaf.specs.LeafLaws.{Sized, vectors-sized, rule-allowed}
 use Rattle.leaf.specs.LeafLaws as leaf-laws
@@ -183,7 +183,7 @@ call-planned b lambda bt bp e =
     let ck = both-true c k (all .1) in
     let lev = both-true (ltb (b .level) 6) (ltb (b .half) 2) (lens .0) in
     record {
-      tables = good-tables (b .book) (halfAt (b .half)) (passes .1);
+      tables = good-tables (b .book) (passes .1) (halfAt (b .half));
       sized = vectors-sized (b .codebook) (halfAt (b .half));
       few = leb-true (b .cap) 6 (ck .0);
       inter = skip-inter (b .allowSkip) (b .half) (ck .1);

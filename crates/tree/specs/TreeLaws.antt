@@ -16,7 +16,8 @@ use Rattle.bits.specs.Codes.{Got, got, then}
 use Rattle.book.specs.Book.{Tables}
 use Rattle.leaf.specs.Leaf.{Leaf}
 use Rattle.leaf.specs.LeafBits.{leafBits, readLeaf}
-use Rattle.leaf.specs.LeafBitsLaws.{GoodTables, Allowed, read-leaf}
+use Rattle.book.specs.BookLaws.{GoodTables}
+use Rattle.leaf.specs.LeafBitsLaws.{Allowed, read-leaf}
 use Rattle.tree.specs.Blocks.{blockCount, left, right, level, first}
 use Rattle.tree.specs.BlocksLaws.{level-0, level-le, zero-row, suc-row, suc-level, At}
 use Rattle.tree.specs.GeometryLaws.{at-first}
