@@ -1,2 +1,4 @@
--- The definitions that the contracts of this crate cite.
+-- The definitions that the contracts of this crate cite; the laws that callers cite stand in the files named `..Laws`.
 pub mod BookFile
+pub mod Scan
+pub mod ScanLaws

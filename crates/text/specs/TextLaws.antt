@@ -242,7 +242,8 @@ pub pieces-whole : (s : ℕ) (l : List ℕ) → without s l ≡ true → pieces 
 pieces-whole s l h = pieces-last s l (count-all s l h)
 
 -- ---- lines
-some-piece : (s : ℕ) (t : List ℕ) → 0 < length (pieces s t)
+-- a text has a piece
+pub some-piece : (s : ℕ) (t : List ℕ) → 0 < length (pieces s t)
 unfolding pieces
 some-piece s [] = omega arith
 some-piece s (c ∷ t) = go (eqb c s) (pieces s t)
