@@ -56,7 +56,7 @@ kept l s =
     record {
       book = withEntry (s .book) (l .entry) (l .long) (l .value);
       met = set (s .met) (l .entry) 1;
-      good = s .good && goodEntry (l .value) (l .long)
+      good = s .good && goodEntry (l .value) (l .long);
     }
 
 -- what the lines leave; none at the first that speaks of an entry a second time

@@ -6,18 +6,18 @@ use mathlib.Core.List.{List, [], _∷_, _++_}
 use mathlib.Core.Option.{Option, none, some}
 use native.Mathlib.Numerals.{add-one}
 use native.Mathlib.Omega.{arith}
-use lib.Dec.{eqb, leb, ltb}
-use lib.ListN.{length, take, drop, getD, set, length-set, length-drop}
-use lib.Seq.{take-all}
+use lib.Dec.{eqb, leb, ltb, lit≤}
+use lib.ListN.{length, take, drop, getD, set, length-set, length-drop, drop-of-length-le}
+use lib.Seq.{take-all, take-suc, take-suc-set, drop-cons, drop-drop}
 use borrow.Author.Tests.{eqb-true, eqb-false, eq-eqb, ne-eqb, leb-true, leb-false, le-leb, lt-leb, ltb-true}
-use Rattle.bits.specs.Basics.{pick, every}
+use Rattle.bits.specs.Basics.{pick, every, All}
 use Rattle.bits.specs.Codes.{goodEntry}
 use Rattle.text.specs.Text.{comma, lineFeed, numberUpTo, pieces, fieldsOf, linesOf, same}
 use Rattle.text.specs.Reading.{countBefore, lineBefore}
-use Rattle.text.specs.TextLaws.{and-left, and-right, count-le, some-piece, pieces-last, pieces-next, lines-none, lines-open, lines-next}
+use Rattle.text.specs.TextLaws.{number-le, and-left, and-right, count-le, some-piece, pieces-last, pieces-next, lines-none, lines-open, lines-next}
 use Rattle.book.specs.Book.{bookEntries}
 use Rattle.book_file.specs.BookFile.{Table, Line, fileTables, entryNamed, lineNumber, lineAt, entryField, lineRead, ontoLines, linesRead, ofLines, fileLines}
-use Rattle.book_file.specs.Scan.{Held, codeAt, placeAt, kept, scanLines, scanned}
+use Rattle.book_file.specs.Scan.{Held, codeAt, placeAt, withEntry, kept, scanLines, scanned}
 
 -- ---- a line's fields from the front
 -- the part of a text from byte k on, as a slice has it
@@ -26,6 +26,9 @@ partFrom k t = take (length t - k) (drop k t)
 
 pub part-from : (k : ℕ) (t : List ℕ) → partFrom k t ≡ drop k t
 part-from k t = take-all (length t - k) (drop k t) (omega (arith, length-drop k t))
+
+pub length-part : (k : ℕ) (t : List ℕ) → length (partFrom k t) ≡ length t - k
+length-part k t = rw (part-from k t) (length-drop k t)
 
 line-place : (t : List ℕ) (fs : List (List ℕ)) → lineRead (t ∷ fs) ≡ placeAt t fs
 unfolding lineRead placeAt codeAt
@@ -104,3 +107,123 @@ pub code-two : (e : Option ℕ) (u : List ℕ) (a b : ℕ) → a ≡ countBefore
     → codeAt e (fieldsOf u) ≡ lineAt e (lineNumber (take a u)) (lineNumber (partFrom (a + 1) u))
 unfolding codeAt
 code-two e u a b q h p k = rw (fields-next u a q h, fields-last (partFrom (a + 1) u) b p k)
+
+-- ---- what a line can say
+-- each table lies in the book
+tables-fit : All (λ t. t .from + t .size ≤ bookEntries) fileTables
+tables-fit = (lit≤ tt, (lit≤ tt, (lit≤ tt, (lit≤ tt, (lit≤ tt, (lit≤ tt, tt))))))
+
+named-below : (ts : List Table) (name : List ℕ) (p e : ℕ) → All (λ t. t .from + t .size ≤ bookEntries) ts → entryNamed ts name p ≡ some e → e < bookEntries
+unfolding entryNamed
+named-below [] name p e fit q = let z : _≡_ {A = ℕ} 0 1 = cc in absurd (omega arith)
+named-below (t ∷ ts) name p e fit q = go (same (t .name) name) (ltb p (t .size)) refl (named-below ts name p e (fit .1)) q
+  where
+    go : (a b : Bool) → ltb p (t .size) ≡ b → (entryNamed ts name p ≡ some e → e < bookEntries)
+        → pick a (pick b (some (t .from + p)) none) (entryNamed ts name p) ≡ some e → e < bookEntries
+    go true true k next h = let v : t .from + p ≡ e = cc in omega (arith, ltb-true p (t .size) k, fit .0)
+    go true false k next h = let z : _≡_ {A = ℕ} 0 1 = cc in absurd (omega arith)
+    go false b k next h = next h
+
+field-below : (name : List ℕ) (o : Option ℕ) (e : ℕ) → entryField name o ≡ some e → e < bookEntries
+field-below name none e q = let z : _≡_ {A = ℕ} 0 1 = cc in absurd (omega arith)
+field-below name (some p) e q = named-below fileTables name p e tables-fit q
+
+-- what is known of a line that was read
+pub record LineFits (l : Line) : Type 0 where
+  pub entry-below : l .entry < bookEntries
+  pub long-le : l .long ≤ 65535
+  pub value-le : l .value ≤ 65535
+
+at-fits : (o m k : Option ℕ) (l : Line) → ((e : ℕ) → o ≡ some e → e < bookEntries) → ((n : ℕ) → m ≡ some n → n ≤ 65535) → ((v : ℕ) → k ≡ some v → v ≤ 65535)
+    → lineAt o m k ≡ some l → LineFits l
+at-fits none m k l ho hm hk q = let z : _≡_ {A = ℕ} 0 1 = cc in absurd (omega arith)
+at-fits (some e) none k l ho hm hk q = let z : _≡_ {A = ℕ} 0 1 = cc in absurd (omega arith)
+at-fits (some e) (some n) none l ho hm hk q = let z : _≡_ {A = ℕ} 0 1 = cc in absurd (omega arith)
+at-fits (some e) (some n) (some v) l ho hm hk q =
+    let w : record { entry = e; long = n; value = v } ≡ l = cc in
+    record { entry-below = rw (← w) (ho e refl); long-le = rw (← w) (hm n refl); value-le = rw (← w) (hk v refl) }
+
+pub line-fits : (fs : List (List ℕ)) (l : Line) → lineRead fs ≡ some l → LineFits l
+unfolding lineRead
+line-fits [] l q = let z : _≡_ {A = ℕ} 0 1 = cc in absurd (omega arith)
+line-fits (t ∷ []) l q = let z : _≡_ {A = ℕ} 0 1 = cc in absurd (omega arith)
+line-fits (t ∷ (p ∷ [])) l q = let z : _≡_ {A = ℕ} 0 1 = cc in absurd (omega arith)
+line-fits (t ∷ (p ∷ (n ∷ []))) l q = let z : _≡_ {A = ℕ} 0 1 = cc in absurd (omega arith)
+line-fits (t ∷ (p ∷ (n ∷ (v ∷ [])))) l q =
+    at-fits (entryField t (lineNumber p)) (lineNumber n) (lineNumber v) l (field-below t (lineNumber p)) (λ m e. number-le 65535 m n e)
+    (λ m e. number-le 65535 m v e) q
+line-fits (t ∷ (p ∷ (n ∷ (v ∷ (x ∷ xs))))) l q = let z : _≡_ {A = ℕ} 0 1 = cc in absurd (omega arith)
+
+-- ---- a file's lines from the front
+onto-none : (o : Option Line) → ontoLines o none ≡ none
+onto-none none = refl
+onto-none (some l) = refl
+
+onto-before : (l : List ℕ) (o : Option (List (List ℕ))) → ofLines (lineBefore l o) ≡ ontoLines (lineRead (fieldsOf l)) (ofLines o)
+unfolding linesRead
+onto-before l none = sym (onto-none (lineRead (fieldsOf l)))
+onto-before l (some ls) = refl
+
+file-next : (t : List ℕ) (n : ℕ) → n ≡ countBefore lineFeed t → n < length t → fileLines t ≡ ontoLines (lineRead (fieldsOf (take n t))) (fileLines (drop (n + 1) t))
+unfolding fileLines
+file-next t n e h = rw (e, lines-next t (rw e at h)) (onto-before (take (countBefore lineFeed t) t) (linesOf (drop (countBefore lineFeed t + 1) t)))
+
+-- no line is left
+pub file-end : (file : List ℕ) (at : ℕ) → length file ≤ at → fileLines (drop at file) ≡ some []
+unfolding fileLines linesRead
+file-end file at h = rw (lines-none (drop at file) (omega (arith, length-drop at file)))
+
+-- what is left is not ended
+pub file-open : (file : List ℕ) (at n : ℕ) → at < length file → n ≡ countBefore lineFeed (partFrom at file) → length (partFrom at file) ≤ n
+    → fileLines (drop at file) ≡ none
+unfolding fileLines
+file-open file at n h =
+    rw part-from (λ (e : n ≡ countBefore lineFeed (drop at file)) (k : length (drop at file) ≤ n).
+    rw (lines-open (drop at file) (omega (arith, length-drop at file)) (omega (arith, count-le lineFeed (drop at file)))))
+
+module _ (file : List ℕ) (at n : ℕ) (e : n ≡ countBefore lineFeed (partFrom at file)) (h : n < length (partFrom at file)) where
+  file-step : fileLines (drop at file) ≡ ontoLines (lineRead (fieldsOf (take n (partFrom at file)))) (fileLines (drop (at + (n + 1)) file))
+  file-step =
+      rw (part-from at file, ← drop-drop (n + 1) at file) (file-next (drop at file) n (rw (part-from at file) at e) (rw (part-from at file) at h))
+
+  -- a malformed line
+  pub file-bad : lineRead (fieldsOf (take n (partFrom at file))) ≡ none → fileLines (drop at file) ≡ none
+  file-bad q = file-step ∙ rw q
+
+  -- a line that says something, and the lines behind it
+  pub file-line : (l : Line) → lineRead (fieldsOf (take n (partFrom at file))) ≡ some l
+      → fileLines (drop at file) ≡ ontoLines (some l) (fileLines (drop (at + (n + 1)) file))
+  file-line l q = file-step ∙ rw q
+
+-- ---- the lines one after the other
+pub scan-step : (l : Line) (o : Option (List Line)) (s : Held)
+    → scanned (ontoLines (some l) o) s ≡ pick (eqb (getD (s .met) (l .entry) 0) 0) (scanned o (kept l s)) none
+unfolding scanLines
+scan-step l none s = go (eqb (getD (s .met) (l .entry) 0) 0)
+  where
+    go : (b : Bool) → _≡_ {A = Option Held} none (pick b none none)
+    go true = refl
+    go false = refl
+scan-step l (some ls) s = refl
+
+-- ---- every element of a list, one after the other
+pub every-step : (f : ℕ → Bool) (t : List ℕ) (i : ℕ) → i < length t → every f (drop i t) ≡ pick (f (getD t i 0)) (every f (drop (i + 1) t)) false
+unfolding every
+every-step f t i h = rw (add-one, drop-cons t i 0 h)
+
+pub every-end : (f : ℕ → Bool) (t : List ℕ) (i : ℕ) → length t ≤ i → every f (drop i t) ≡ true
+unfolding every
+every-end f t i h = rw (drop-of-length-le t h)
+
+-- ---- copying
+pub copy-step : (from to : List ℕ) (i : ℕ) → i < length from → i < length to → take i to ≡ take i from → take (i + 1) (set to i (getD from i 0)) ≡ take (i + 1) from
+copy-step from to i h k e = rw (add-one, take-suc-set to i (getD from i 0) k, take-suc from i 0 h, e)
+
+pub copy-end : (from to : List ℕ) (i : ℕ) → length from ≤ i → length to ≤ i → take i to ≡ take i from → to ≡ from
+copy-end from to i h k e = sym (take-all i to k) ∙ e ∙ take-all i from h
+
+-- what a line leaves, from what is put and tested for it
+pub kept-is : (l : Line) (s : Held) (book : List ℕ) (good fine : Bool) → book ≡ withEntry (s .book) (l .entry) (l .long) (l .value)
+    → good ≡ (s .good && fine) → fine ≡ goodEntry (l .value) (l .long) → record { book = book; met = set (s .met) (l .entry) 1; good = good } ≡ kept l s
+unfolding kept
+kept-is l s book good fine hb hg hf = rw (hb, hg, hf)

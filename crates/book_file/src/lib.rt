@@ -1,6 +1,6 @@
 // Book files: the text form of a book of code tables.
 ghost use mathlib.Core.Path.{_≡_};
-ghost use mathlib.Core.List.{[]};
+ghost use mathlib.Core.Bool.{true, _&&_};
 ghost use mathlib.Core.Option.{some, none};
 ghost use Prim.Native.Nat.{_+_, _*_, _≤_, _<_};
 ghost use lib.Dec.{ltb};
@@ -8,9 +8,8 @@ ghost use lib.ListN.{length};
 ghost use Rattle.bits.specs.Basics.{pick};
 ghost use Rattle.bits.specs.Codes.{goodEntry};
 ghost use Rattle.text.specs.Text.{fieldsOf};
-ghost use Rattle.book_file.specs.BookFile.{fileTables, entryNamed, lineRead};
-ghost use Rattle.book_file.specs.Scan.{entryTold, lineTold, codeAt, withEntry};
-
+ghost use Rattle.book_file.specs.BookFile.{fileTables, entryNamed, lineRead, fileLines};
+ghost use Rattle.book_file.specs.Scan.{Held, entryTold, lineTold, heldTold, codeAt, withEntry, scanned, allMet};
 use text::NumberRead;
 
 // Where a table's position stands in a book.
@@ -112,4 +111,88 @@ fn read_line(t: &[u8]) -> LineRead
     };
     let last = b + 1;
     read_code(&rest[last..], e)
+}
+
+// An entry's three bytes put into a book: the code's high byte, its low byte, its length. Of a length above 255 the low byte is put; refusal 6 is
+// told from the length itself.
+fn put_entry(book: &mut [u8], e: usize, long: u64, value: u64)
+    requires { ⌜ (3 * e + 2 < length (now book)) × (value ≤ 65535) ⌝ }
+    ensures { λ _. ⌜ now (book .exit) ≡ withEntry (now (book .entry)) e long value ⌝ }
+{
+    let at = 3 * e;
+    book[at] = (value / 256) as u8;
+    book[at + 1] = (value % 256) as u8;
+    book[at + 2] = (long % 256) as u8;
+}
+
+// Whether a code's length is 1 to 32 and its value below 2 to the length.
+fn good_code(value: u64, long: u64) -> bool
+    ensures { λ r. ⌜ r ≡ goodEntry value long ⌝ }
+{
+    if long < 1 {
+        return false;
+    }
+    if 32 < long {
+        return false;
+    }
+    value < 1u64 << long as u32
+}
+
+fn both(a: bool, b: bool) -> bool
+    ensures { λ r. ⌜ r ≡ (a && b) ⌝ }
+{
+    if a { b } else { false }
+}
+
+// Every line of a file: its entry put into the book and marked as met.
+fn read_lines(file: &[u8], book: &mut [u8], met: &mut [u8]) -> LinesRead
+    requires { ⌜ (length (now book) ≡ 2796) × (length (now met) ≡ 932) ⌝ }
+    ensures { λ r. ⌜ heldTold r (now (book .exit)) (now (met .exit)) ≡ scanned (fileLines (now (file .entry))) (record { book = now (book .entry); met = now (met .entry); good = true }) ⌝ }
+{
+    let mut at = 0;
+    let mut good = true;
+    while at < file.len() {
+        let rest = &file[at..];
+        let n = text::find(rest, 10);
+        if n == rest.len() {
+            return LinesRead::Refused;
+        }
+        let LineRead::Entry(e, long, value) = read_line(&rest[..n]) else {
+            return LinesRead::Refused;
+        };
+        if met[e] != 0 {
+            return LinesRead::Refused;
+        }
+        met[e] = 1;
+        put_entry(book, e, long, value);
+        good = both(good, good_code(value, long));
+        at += n + 1;
+    }
+    LinesRead::Whole(good)
+}
+
+// Whether every entry was met.
+fn all_met(met: &[u8]) -> bool
+    ensures { λ r. ⌜ r ≡ allMet (now (met .entry)) ⌝ }
+{
+    let mut i = 0;
+    while i < met.len() {
+        if met[i] != 1 {
+            return false;
+        }
+        i += 1;
+    }
+    true
+}
+
+// One slice copied into another of its length.
+fn copy(from: &[u8], to: &mut [u8])
+    requires { ⌜ length (now from) ≡ length (now to) ⌝ }
+    ensures { λ _. ⌜ now (to .exit) ≡ now (from .entry) ⌝ }
+{
+    let mut i = 0;
+    while i < from.len() {
+        to[i] = from[i];
+        i += 1;
+    }
 }

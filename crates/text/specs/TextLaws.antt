@@ -179,6 +179,16 @@ number-more most (c ∷ []) h n = absurd (omega arith)
 number-more most (c ∷ d ∷ t) h n =
     sym (digits-are most 0 (c ∷ d ∷ t) (omega arith) ∙ rw (← and-pick (isDigit c) (not (eqb c 48)) (pick (isDigit d) (every isDigit t) false) (rw (ne-eqb c 48 n))))
 
+-- a number that was read is within its bound
+pub number-le : (most n : ℕ) (t : List ℕ) → numberUpTo most t ≡ some n → n ≤ most
+unfolding numberUpTo
+number-le most n t = go (isNumber t) (leb (valueFrom 0 t) most) refl
+  where
+    go : (a b : Bool) → leb (valueFrom 0 t) most ≡ b → pick (a && b) (some (valueFrom 0 t)) none ≡ some n → n ≤ most
+    go true true e q = let v : valueFrom 0 t ≡ n = cc in omega (arith, leb-true (valueFrom 0 t) most e)
+    go true false e q = let z : _≡_ {A = ℕ} 0 1 = cc in absurd (omega arith)
+    go false b e q = let z : _≡_ {A = ℕ} 0 1 = cc in absurd (omega arith)
+
 -- ---- pieces
 -- no separator: the text is the one piece
 pub pieces-last : (s : ℕ) (t : List ℕ) → countBefore s t ≡ length t → pieces s t ≡ t ∷ []
