@@ -2,3 +2,4 @@
 pub mod BookFile
 pub mod Scan
 pub mod ScanLaws
+pub mod HeldLaws

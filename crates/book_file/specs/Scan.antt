@@ -73,6 +73,11 @@ abbrev pub heldTold : LinesRead → List ℕ → List ℕ → Option Held
 heldTold (Whole good) book met = some (record { book = book; met = met; good = good })
 heldTold Refused book met = none
 
+-- a mark for each entry, none of them set
+pub record Unmet (met : List ℕ) : Type 0 where
+  pub size : length met ≡ bookEntries
+  pub zeros : (k : ℕ) → getD met k 0 ≡ 0
+
 -- every entry has its line
 abbrev pub allMet : List ℕ → Bool
 allMet met = every (λ m. eqb m 1) met
