@@ -16,7 +16,7 @@ use Rattle.bits.specs.Codes.{goodEntry, goodTable}
 use Rattle.text.specs.TextLaws.{and-left, and-right}
 use Rattle.book.specs.Book.{bookEntries, bookBytes, codeTableSizes, eachPrefixFree, codesRefusal, bookRefusal}
 use Rattle.book_file.specs.BookFile.{Line, mentions, onceEach, bytesAt, bytesFrom, bookOf, linesRefusal, refusalRead, bookRead, fileLines, fileRefusal, fileBook}
-use Rattle.book_file.specs.Scan.{Held, Unmet, withEntry, kept, scanLines, scanned, allMet}
+use Rattle.book_file.specs.Scan.{Held, Unmet, BookFileRead, readFileRefusal, readFileBook, withEntry, kept, scanLines, scanned, allMet}
 
 abbrev pub goodLine : Line → Bool
 goodLine l = goodEntry (l .value) (l .long)
@@ -375,3 +375,26 @@ module _ (file book met : List ℕ) (fresh : Unmet met) where
       → (fileRefusal file ≡ bookRefusal (t .book)) × (fileBook file ≡ t .book)
   unfolding fileRefusal fileBook
   file-whole t q h m g = read-whole (fileLines file) book met fresh t q h m g
+
+-- ---- the call
+-- a lent book of another size
+pub call-size : (file book : List ℕ) → (length book ≡ bookBytes → ⊥) → BookFileRead file book 5 book
+unfolding readFileBook readFileRefusal
+call-size file book n = let e = ne-eqb (length book) bookBytes n in record { refusal = rw e; book-after = rw e }
+
+module _ (file book : List ℕ) (size : length book ≡ bookBytes) where
+  called : readFileRefusal file (length book) ≡ fileRefusal file
+  unfolding readFileRefusal
+  called = rw (eq-eqb (length book) bookBytes size)
+
+  pub call-refused : (r : ℕ) → r ≡ fileRefusal file → (r ≡ 0 → ⊥) → BookFileRead file book r book
+  unfolding readFileBook
+  call-refused r e n =
+      let same : readFileRefusal file (length book) ≡ r = called ∙ sym e in
+      record { refusal = sym same; book-after = rw (same, ne-eqb r 0 n) }
+
+  pub call-read : (after : List ℕ) → 0 ≡ fileRefusal file → after ≡ fileBook file → BookFileRead file book 0 after
+  unfolding readFileBook
+  call-read after e b =
+      let same : readFileRefusal file (length book) ≡ 0 = called ∙ sym e in
+      record { refusal = sym same; book-after = rw same b }

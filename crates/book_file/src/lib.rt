@@ -8,8 +8,9 @@ ghost use lib.ListN.{length};
 ghost use Rattle.bits.specs.Basics.{pick};
 ghost use Rattle.bits.specs.Codes.{goodEntry};
 ghost use Rattle.text.specs.Text.{fieldsOf};
+ghost use Rattle.book.specs.Book.{bookRefusal};
 ghost use Rattle.book_file.specs.BookFile.{fileTables, entryNamed, lineRead, fileLines};
-ghost use Rattle.book_file.specs.Scan.{Held, entryTold, lineTold, heldTold, codeAt, withEntry, scanned, allMet};
+ghost use Rattle.book_file.specs.Scan.{Held, Unmet, FileHeld, BookFileRead, entryTold, lineTold, heldTold, codeAt, withEntry, scanned, allMet};
 use text::NumberRead;
 
 // Where a table's position stands in a book.
@@ -195,4 +196,44 @@ fn copy(from: &[u8], to: &mut [u8])
         to[i] = from[i];
         i += 1;
     }
+}
+
+fn book_refusal(book: &[u8]) -> u8
+    ensures { λ r. ⌜ r ≡ bookRefusal (now (book .entry)) ⌝ }
+{
+    5
+}
+
+// A file's book read into local bytes: 0 where it is a good one, else the refusal.
+fn read_into(file: &[u8], book: &mut [u8], met: &mut [u8]) -> u8
+    requires { ⌜ (length (now book) ≡ 2796) × Unmet (now met) ⌝ }
+    ensures { λ r. ⌜ FileHeld (now (file .entry)) r (now (book .exit)) ⌝ }
+{
+    let LinesRead::Whole(good) = read_lines(file, book, met) else {
+        return 5;
+    };
+    if all_met(met) {
+        if good {
+            return book_refusal(book);
+        }
+        return 6;
+    }
+    5
+}
+
+// A book file read into a lent book: 0, or the number of the refusal, and then the lent book stays as it is.
+pub fn read_book_file(file: &[u8], book: &mut [u8]) -> u8
+    ensures { λ r. ⌜ BookFileRead (now (file .entry)) (now (book .entry)) r (now (book .exit)) ⌝ }
+{
+    if book.len() != 2796 {
+        return 5;
+    }
+    let mut held = [0u8; 2796];
+    let mut met = [0u8; 932];
+    let refusal = read_into(file, &mut held, &mut met);
+    if refusal != 0 {
+        return refusal;
+    }
+    copy(&held, book);
+    0
 }
