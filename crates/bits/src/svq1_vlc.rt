@@ -1,3 +1,9 @@
+// Numbers and codes read from a lent slice.
+ghost use mathlib.Core.Path.{_≡_};
+ghost use lib.ListN.{length};
+ghost use Rattle.bits.specs.Calls.{tableRefusal, startRefusal, bitsAnswer, bitsAt, codeAnswer, codeAt, readAnswer};
+use super::inner;
+
 // What reading a code finds at a bit: the position of its entry and the bit behind it; no code; or the start of one, cut off by the end.
 pub enum CodeRead {
     Code(usize, usize),
@@ -5,11 +11,64 @@ pub enum CodeRead {
     Ends,
 }
 
-// The answer's kind, as the refusal that a reader gives: 0 for a code, 10 for none, 24 where the bits end.
-pub fn code_refusal(read: CodeRead) -> u8 {
-    match read {
-        CodeRead::Code(_, _) => 0,
-        CodeRead::NoCode => 10,
-        CodeRead::Ends => 24,
+// The number that was read and the bit behind it, or the number of a refusal.
+pub enum BitsRead {
+    Bits(u32, usize),
+    Refused(u8),
+}
+
+// The position of the code that was read and the bit behind it, or the number of a refusal.
+pub enum CodeAnswer {
+    Code(usize, usize),
+    Refused(u8),
+}
+
+// The `width` bits from bit `at` on, as a number.
+pub fn read_bits(s: &[u8], at: usize, width: u32) -> BitsRead
+    ensures { λ r. ⌜ bitsAnswer r ≡ bitsAt (now (s .entry)) at width ⌝ }
+{
+    let refusal = inner::bits_refusal(s.len(), at, width, 24);
+    if refusal != 0 {
+        return BitsRead::Refused(refusal);
     }
+    BitsRead::Bits(inner::get_bits(s, at, width), at + width as usize)
+}
+
+// Refusals 5 and 6 of a table.
+fn table_refusal(table: &[u8]) -> u8
+    ensures { λ r. ⌜ r ≡ tableRefusal (now (table .entry)) ⌝ }
+{
+    if table.len() % 3 != 0 {
+        return 5;
+    }
+    if inner::good_table(table) {
+        return 0;
+    }
+    6
+}
+
+// What was found, with the numbers of refusals.
+fn answered(read: CodeRead) -> CodeAnswer
+    ensures { λ r. ⌜ codeAnswer r ≡ readAnswer read ⌝ }
+{
+    match read {
+        CodeRead::Code(position, next) => CodeAnswer::Code(position, next),
+        CodeRead::NoCode => CodeAnswer::Refused(10),
+        CodeRead::Ends => CodeAnswer::Refused(24),
+    }
+}
+
+// The first code of the table that stands at bit `at`.
+pub fn read_code(s: &[u8], at: usize, table: &[u8]) -> CodeAnswer
+    ensures { λ r. ⌜ codeAnswer r ≡ codeAt (now (s .entry)) at (now (table .entry)) ⌝ }
+{
+    let bad = table_refusal(table);
+    if bad != 0 {
+        return CodeAnswer::Refused(bad);
+    }
+    let beyond = inner::start_refusal(s.len(), at);
+    if beyond != 0 {
+        return CodeAnswer::Refused(beyond);
+    }
+    answered(inner::read_code(s, at, table))
 }

@@ -1,4 +1,9 @@
--- The definitions that the contracts of this crate cite.
+-- The definitions that the contracts of this crate cite; the laws that callers cite stand in the files named `..Laws`.
 pub mod Level
 pub mod Book
+pub mod BookLaws
+pub mod Calls
 pub mod House
+pub mod Trie
+pub mod HouseLaws
+pub mod FillLaws

@@ -1,5 +1,6 @@
 ghost use mathlib.Core.Path.{_≡_};
 ghost use Prim.Native.Nat.{ℕ, _≤_};
+ghost use Rattle.book.specs.Calls.{subdivision};
 ghost use Rattle.book.specs.Level.{levelNumber, width, height, area};
 
 // The six block sizes of a macroblock's tree, from 4×2 samples to 16×16.
@@ -16,6 +17,12 @@ pub enum Svq1Level {
 pub struct BlockDims {
     pub width: usize,
     pub height: usize,
+}
+
+// The level of a block's two parts, or none: an L0 block is not split.
+pub enum Subdivision {
+    Parts(Svq1Level),
+    Whole,
 }
 
 impl Svq1Level {
@@ -74,6 +81,19 @@ impl Svq1Level {
             Svq1Level::L3 => 64,
             Svq1Level::L4 => 128,
             Svq1Level::L5 => 256,
+        }
+    }
+
+    pub fn subdivide(self) -> Subdivision
+        ensures { λ r. ⌜ r ≡ subdivision self ⌝ }
+    {
+        match self {
+            Svq1Level::L0 => Subdivision::Whole,
+            Svq1Level::L1 => Subdivision::Parts(Svq1Level::L0),
+            Svq1Level::L2 => Subdivision::Parts(Svq1Level::L1),
+            Svq1Level::L3 => Subdivision::Parts(Svq1Level::L2),
+            Svq1Level::L4 => Subdivision::Parts(Svq1Level::L3),
+            Svq1Level::L5 => Subdivision::Parts(Svq1Level::L4),
         }
     }
 }

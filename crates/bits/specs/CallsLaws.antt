@@ -1,0 +1,85 @@
+-- Laws of the public calls' refusals: what holds where none is met, and what is answered.
+use Prim.Native.Nat.{ℕ, _+_, _-_, _*_, _/_, _%_, _^_, _≤_, _<_}
+use mathlib.Core.Path.{_≡_, refl}
+use mathlib.Core.Bool.{Bool, true, false, _&&_}
+use mathlib.Core.List.{List}
+use native.Mathlib.Omega.{arith}
+use lib.Dec.{eqb, leb, ltb}
+use lib.ListN.{length}
+use borrow.Author.Tests.{eq-eqb, ne-eqb, leb-true, ltb-true, le-leb}
+use Rattle.bits.specs.Basics.{unless}
+use Rattle.bits.specs.BasicsLaws.{both-true, or-none, unless-none}
+use Rattle.bits.specs.Bits.{bitsOf, putBits}
+use Rattle.bits.specs.Codes.{codeVal, codeLen, goodEntry, goodTable}
+use Rattle.bits.specs.Inner.{Fits, GoodEntry}
+use Rattle.bits.specs.Calls.{Answer, done, refused, unlessRefused, startRefusal, roomRefusal, bitsRefusal, entryRefusal, codeRefusal, tableRefusal, Put}
+use Rattle.bits.specs.declared.svq1_enc.Pushed.the-variants.{Next, Refused}
+
+-- ---- no refusal
+pub start-passes : (bytes at : ℕ) → startRefusal bytes at ≡ 0 → Fits bytes at 0
+start-passes bytes at e =
+    let two = both-true (leb bytes (2 ^ 28)) (leb at (8 * bytes)) (unless-none (leb bytes (2 ^ 28) && leb at (8 * bytes)) 21 (omega arith) e) in
+    let h = leb-true at (8 * bytes) (two .1) in
+    record { bytes-fit = leb-true bytes (2 ^ 28) (two .0); bits-fit = omega arith }
+
+pub room-passes : (bytes at w short : ℕ) → 0 < short → roomRefusal bytes at w short ≡ 0 → Fits bytes at w
+unfolding roomRefusal
+room-passes bytes at w short p e =
+    let two = or-none (startRefusal bytes at) (unless (leb w (8 * bytes - at)) short) e in
+    let s = start-passes bytes at (two .0) in
+    let h = leb-true w (8 * bytes - at) (unless-none (leb w (8 * bytes - at)) short p (two .1)) in
+    record { bytes-fit = s .bytes-fit; bits-fit = omega arith }
+
+pub bits-passes : (bytes at w short : ℕ) → 0 < short → bitsRefusal bytes at w short ≡ 0 → (w ≤ 32) × Fits bytes at w
+unfolding bitsRefusal
+bits-passes bytes at w short p e =
+    let two = or-none (unless (leb w 32) 6) (roomRefusal bytes at w short) e in
+    (leb-true w 32 (unless-none (leb w 32) 6 (omega arith) (two .0)), room-passes bytes at w short p (two .1))
+
+pub entry-passes : (t : List ℕ) (k : ℕ) → entryRefusal t k ≡ 0 → GoodEntry t k
+unfolding entryRefusal
+entry-passes t k e =
+    let two = or-none (unless (eqb (length t % 3) 0 && ltb k (length t / 3)) 5) (unless (goodEntry (codeVal t k) (codeLen t k)) 6) e in
+    let whole = both-true (eqb (length t % 3) 0) (ltb k (length t / 3)) (unless-none (eqb (length t % 3) 0 && ltb k (length t / 3)) 5 (omega arith) (two .0)) in
+    let good = unless-none (goodEntry (codeVal t k) (codeLen t k)) 6 (omega arith) (two .1) in
+    let lengths = both-true (leb 1 (codeLen t k) && leb (codeLen t k) 32) (ltb (codeVal t k) (2 ^ codeLen t k)) good .0 in
+    record {
+      there = ltb-true k (length t / 3) (whole .1);
+      long = leb-true (codeLen t k) 32 (both-true (leb 1 (codeLen t k)) (leb (codeLen t k) 32) lengths .1);
+    }
+
+pub code-passes : (bytes at : ℕ) (t : List ℕ) (k : ℕ) → codeRefusal bytes at t k ≡ 0 → GoodEntry t k × Fits bytes at (codeLen t k)
+unfolding codeRefusal
+code-passes bytes at t k e =
+    let two = or-none (entryRefusal t k) (roomRefusal bytes at (codeLen t k) 22) e in
+    (entry-passes t k (two .0), room-passes bytes at (codeLen t k) 22 (omega arith) (two .1))
+
+pub table-passes : (t : List ℕ) → tableRefusal t ≡ 0 → goodTable t ≡ true
+unfolding tableRefusal
+table-passes t e = unless-none (goodTable t) 6 (omega arith) (or-none (unless (eqb (length t % 3) 0) 5) (unless (goodTable t) 6) e .1)
+
+-- ---- the tests, one behind the other
+pub start-is : (bytes at : ℕ) → bytes ≤ 2 ^ 28 → at ≤ 8 * bytes → startRefusal bytes at ≡ 0
+start-is bytes at h k = rw (le-leb bytes (2 ^ 28) h, le-leb at (8 * bytes) k)
+
+pub start-refused : (bytes at : ℕ) → (startRefusal bytes at ≡ 0 → ⊥) → startRefusal bytes at ≡ 21
+start-refused bytes at h = go (leb bytes (2 ^ 28) && leb at (8 * bytes)) h
+  where
+    go : (b : Bool) → (unless b 21 ≡ 0 → ⊥) → unless b 21 ≡ 21
+    go true k = absurd (k refl)
+    go false k = refl
+
+-- ---- what is answered
+pub answer-refused : {A : Type 0} (n m : ℕ) (a : Answer A) → m ≡ n → (m ≡ 0 → ⊥) → refused m ≡ unlessRefused n a
+answer-refused n m a e h = rw (← e, ne-eqb m 0 h)
+
+pub answer-given : {A : Type 0} (n : ℕ) (a : Answer A) → n ≡ 0 → unlessRefused n a ≡ a
+answer-given n a e = rw (eq-eqb n 0 e)
+
+pub put-refused : (n m : ℕ) (out : List ℕ) (at : ℕ) (xs : List ℕ) → m ≡ n → (m ≡ 0 → ⊥) → Put n out at xs (Refused m) out
+put-refused n m out at xs e h =
+    record { answer = answer-refused n m (done (at + length xs)) e h; bits = rw (← e, ne-eqb m 0 h) }
+
+pub put-done : (n : ℕ) (out : List ℕ) (at : ℕ) (xs left : List ℕ) (next : ℕ) → n ≡ 0 → next ≡ at + length xs → bitsOf left ≡ putBits (bitsOf out) at xs
+    → Put n out at xs (Next next) left
+put-done n out at xs left next e h b = record { answer = rw (eq-eqb n 0 e, h); bits = rw (eq-eqb n 0 e) b }

@@ -1,0 +1,285 @@
+// Functions that only the crates of this repository call. Most have a `requires`: the caller, proved too, meets it. The functions for
+// everybody else, which refuse what does not fit, are in svq1_enc and svq1_vlc.
+ghost use mathlib.Core.Path.{_≡_};
+ghost use mathlib.Core.Bool.{true, false};
+ghost use Prim.Native.Nat.{ℕ, _+_, _*_, _/_, _%_, _-_, _^_, _<_, _≤_, min};
+ghost use lib.ListN.{length, take, drop};
+ghost use Rattle.bits.specs.Bits.{msb, valOf, bitsOf, putBits};
+ghost use Rattle.bits.specs.Inner.{Fits, GoodEntry, Wrote, FirstThatBegins};
+ghost use Rattle.bits.specs.Calls.{startRefusal, roomRefusal, bitsRefusal};
+ghost use Rattle.bits.specs.Codes.{begins, code, codesOf, codeLen, codeVal, anyStart, readCode, apart, prefixFree, goodEntry, goodTable};
+use super::svq1_vlc::CodeRead;
+
+// The byte b with its low k bits replaced by v shifted up by z.
+fn byte_with(b: u8, k: u32, z: u32, v: u32) -> u8
+    requires { ⌜ (k ≤ 8) × (z ≤ k) × (v * 2 ^ z < 2 ^ k) ⌝ }
+    ensures { λ r. ⌜ r ≡ b / 2 ^ k * 2 ^ k + v * 2 ^ z ⌝ }
+{
+    let w = b as u32;
+    ((w >> k << k) + (v << z)) as u8
+}
+
+// n bits of v from bit `at` on, all in one byte, whose bits after them become 0.
+fn put_part(out: &mut [u8], at: usize, n: u32, v: u32)
+    requires { ⌜ (0 < n) × (at % 8 + n ≤ 8) × (at / 8 < length (now out)) × (v < 2 ^ n) ⌝ }
+    ensures { λ _. ⌜ bitsOf (now (out .exit)) ≡ putBits (bitsOf (now (out .entry))) at (msb n v) ⌝ }
+{
+    let q = at / 8;
+    let z = 8 - (at % 8) as u32 - n;
+    out[q] = byte_with(out[q], n + z, z, v);
+}
+
+pub fn lesser(a: u32, b: u32) -> u32
+    ensures { λ r. ⌜ r ≡ min a b ⌝ }
+{
+    if a < b { a } else { b }
+}
+
+// n bits of value, from bit `down` up.
+fn part_of(value: u32, down: u32, n: u32) -> u32
+    requires { ⌜ (down < 32) × (n ≤ 8) ⌝ }
+    ensures { λ r. ⌜ r ≡ value / 2 ^ down % 2 ^ n ⌝ }
+{
+    (value >> down) % (1u32 << n)
+}
+
+// The low `width` bits of `value`, highest first, from bit `at` on; the bits after them in the last byte become 0.
+pub fn put_bits(out: &mut [u8], at: usize, width: u32, value: u32) -> usize
+    requires { ⌜ (width ≤ 32) × Fits (length (now out)) at width ⌝ }
+    ensures { λ r. ⌜ Wrote (now (out .entry)) at (msb width value) r (now (out .exit)) ⌝ }
+{
+    let mut p = at;
+    let mut left = width;
+    while 0 < left {
+        let room = 8 - (p % 8) as u32;
+        let n = lesser(left, room);
+        let part = part_of(value, left - n, n);
+        put_part(out, p, n, part);
+        p += n as usize;
+        left -= n;
+    }
+    p
+}
+
+// The n bits from bit `at` on, as a number.
+pub fn get_bits(s: &[u8], at: usize, n: u32) -> u32
+    requires { ⌜ (n ≤ 32) × Fits (length (now s)) at n ⌝ }
+    ensures { λ r. ⌜ r ≡ valOf (take n (drop at (bitsOf (now (s .entry))))) ⌝ }
+{
+    let mut acc: u32 = 0;
+    let mut p = at;
+    let mut left = n;
+    while 0 < left {
+        let room = 8 - (p % 8) as u32;
+        let k = lesser(left, room);
+        let q = p / 8;
+        let part = part_of(s[q] as u32, room - k, k);
+        acc = joined(acc, k, part);
+        p += k as usize;
+        left -= k;
+    }
+    acc
+}
+
+fn joined(acc: u32, k: u32, part: u32) -> u32
+    requires { ⌜ (k ≤ 8) × (acc * 2 ^ k + part < 2 ^ 32) ⌝ }
+    ensures { λ r. ⌜ r ≡ acc * 2 ^ k + part ⌝ }
+{
+    (acc << k) + part
+}
+
+// Whether the a bits of x are the first of the b bits of y.
+fn begins_bits(x: u64, a: u32, y: u64, b: u32) -> bool
+    requires { ⌜ (a ≤ 32) × (b ≤ 32) × (x < 2 ^ a) × (y < 2 ^ b) ⌝ }
+    ensures { λ r. ⌜ r ≡ begins (msb a x) (msb b y) ⌝ }
+{
+    if a <= b { y >> (b - a) == x } else { false }
+}
+
+pub fn entry_len(t: &[u8], i: usize) -> u32
+    requires { ⌜ i < length (now t) / 3 ⌝ }
+    ensures { λ r. ⌜ r ≡ codeLen (now (t .entry)) i ⌝ }
+{
+    t[3 * i + 2] as u32
+}
+
+pub fn entry_val(t: &[u8], i: usize) -> u64
+    requires { ⌜ i < length (now t) / 3 ⌝ }
+    ensures { λ r. ⌜ r ≡ codeVal (now (t .entry)) i ⌝ }
+{
+    t[3 * i] as u64 * 256 + t[3 * i + 1] as u64
+}
+
+// The first entry whose code begins the m bits of w, or the number of entries.
+fn find_code(table: &[u8], w: u64, m: u32) -> usize
+    requires { ⌜ (m ≤ 32) × (w < 2 ^ m) × (goodTable (now table) ≡ true) ⌝ }
+    ensures { λ r. ⌜ FirstThatBegins (codesOf (now (table .entry))) (msb m w) r ⌝ }
+{
+    let n = table.len() / 3;
+    let mut i = 0;
+    while i < n {
+        if begins_bits(entry_val(table, i), entry_len(table, i), w, m) {
+            return i;
+        }
+        i += 1;
+    }
+    i
+}
+
+// Whether the m bits of w are the start of some code.
+fn any_start(table: &[u8], w: u64, m: u32) -> bool
+    requires { ⌜ (m ≤ 32) × (w < 2 ^ m) × (goodTable (now table) ≡ true) ⌝ }
+    ensures { λ r. ⌜ r ≡ anyStart (codesOf (now (table .entry))) (msb m w) ⌝ }
+{
+    let n = table.len() / 3;
+    let mut i = 0;
+    while i < n {
+        if begins_bits(w, m, entry_val(table, i), entry_len(table, i)) {
+            return true;
+        }
+        i += 1;
+    }
+    false
+}
+
+// How many bits there are from bit `at` on, at most 32.
+fn window(s: &[u8], at: usize) -> u32
+    requires { ⌜ Fits (length (now s)) at 0 ⌝ }
+    ensures { λ r. ⌜ r ≡ min 32 (8 * length (now (s .entry)) - at) ⌝ }
+{
+    let left = 8 * s.len() - at;
+    if left < 32 { left as u32 } else { 32 }
+}
+
+// The code of the table that stands at bit `at`.
+pub fn read_code(s: &[u8], at: usize, table: &[u8]) -> CodeRead
+    requires { ⌜ Fits (length (now s)) at 0 × (goodTable (now table) ≡ true) ⌝ }
+    ensures { λ r. ⌜ r ≡ readCode (codesOf (now (table .entry))) (bitsOf (now (s .entry))) at ⌝ }
+{
+    let m = window(s, at);
+    let w = get_bits(s, at, m) as u64;
+    let i = find_code(table, w, m);
+    if i < table.len() / 3 {
+        return CodeRead::Code(i, at + entry_len(table, i) as usize);
+    }
+    if any_start(table, w, m) {
+        return CodeRead::Ends;
+    }
+    CodeRead::NoCode
+}
+
+// The code of entry k of the table is written.
+pub fn put_code(out: &mut [u8], at: usize, table: &[u8], k: usize) -> usize
+    requires { ⌜ GoodEntry (now table) k × Fits (length (now out)) at (codeLen (now table) k) ⌝ }
+    ensures { λ r. ⌜ Wrote (now (out .entry)) at (code (codesOf (now (table .entry))) k) r (now (out .exit)) ⌝ }
+{
+    let len = entry_len(table, k);
+    let val = entry_val(table, k) as u32;
+    put_bits(out, at, len, val)
+}
+
+// Whether code i begins no later code, and no later code begins it.
+fn apart_from(table: &[u8], i: usize) -> bool
+    requires { ⌜ (i < length (now table) / 3) × (goodTable (now table) ≡ true) ⌝ }
+    ensures { λ r. ⌜ r ≡ apart (code (codesOf (now (table .entry))) i) (drop (i + 1) (codesOf (now (table .entry)))) ⌝ }
+{
+    let n = table.len() / 3;
+    let x = entry_val(table, i);
+    let a = entry_len(table, i);
+    let mut j = i + 1;
+    while j < n {
+        let y = entry_val(table, j);
+        let b = entry_len(table, j);
+        if begins_bits(x, a, y, b) {
+            return false;
+        }
+        if begins_bits(y, b, x, a) {
+            return false;
+        }
+        j += 1;
+    }
+    true
+}
+
+// Whether no code of the table begins another or equals it.
+pub fn prefix_free(table: &[u8]) -> bool
+    requires { ⌜ goodTable (now table) ≡ true ⌝ }
+    ensures { λ r. ⌜ r ≡ prefixFree (codesOf (now (table .entry))) ⌝ }
+{
+    let n = table.len() / 3;
+    let mut i = 0;
+    while i < n {
+        if apart_from(table, i) {
+            i += 1;
+        } else {
+            return false;
+        }
+    }
+    true
+}
+
+// Whether a code of this value and length can stand in a table.
+pub fn good_entry(v: u64, n: u32) -> bool
+    ensures { λ r. ⌜ r ≡ goodEntry v n ⌝ }
+{
+    if n < 1 {
+        return false;
+    }
+    if 32 < n {
+        return false;
+    }
+    v < 1u64 << n
+}
+
+// Whether every entry's length is 1 to 32 and its value below 2 to the length.
+pub fn good_table(table: &[u8]) -> bool
+    requires { ⌜ length (now table) % 3 ≡ 0 ⌝ }
+    ensures { λ r. ⌜ r ≡ goodTable (now (table .entry)) ⌝ }
+{
+    let n = table.len() / 3;
+    let mut i = 0;
+    while i < n {
+        if good_entry(entry_val(table, i), entry_len(table, i)) {
+            i += 1;
+        } else {
+            return false;
+        }
+    }
+    true
+}
+
+// 21 where a bit string is too long or the start bit lies beyond it, else 0.
+pub fn start_refusal(bytes: usize, at: usize) -> u8
+    ensures { λ r. ⌜ r ≡ startRefusal bytes at ⌝ }
+{
+    if 268435456 < bytes {
+        return 21;
+    }
+    if 8 * bytes < at {
+        return 21;
+    }
+    0
+}
+
+// The same, and `short` where fewer than `width` bits are left.
+pub fn room_refusal(bytes: usize, at: usize, width: u32, short: u8) -> u8
+    ensures { λ r. ⌜ r ≡ roomRefusal bytes at width short ⌝ }
+{
+    if start_refusal(bytes, at) != 0 {
+        return 21;
+    }
+    if 8 * bytes - at < width as usize {
+        return short;
+    }
+    0
+}
+
+// The same, and before it 6 for a width above 32.
+pub fn bits_refusal(bytes: usize, at: usize, width: u32, short: u8) -> u8
+    ensures { λ r. ⌜ r ≡ bitsRefusal bytes at width short ⌝ }
+{
+    if 32 < width {
+        return 6;
+    }
+    room_refusal(bytes, at, width, short)
+}

@@ -1,0 +1,11 @@
+use mathlib.Core.Path.{refl}
+use Rattle.book.specs.House.{houseBook, houseFrom, rank, signedRank, logUnder}
+use Rattle.book.proofs.house.house_book.Statement.{statement}
+use Rattle.book.proofs.house.house_book.Tie as tie
+
+returns : tie.Need-returns
+unfolding houseBook houseFrom rank signedRank logUnder
+returns c = refl
+
+pub house-book-spec : {M : Type 1} → statement M
+house-book-spec = tie.close (tie.spec returns)

@@ -1,0 +1,65 @@
+// What refuses a lent book.
+ghost use mathlib.Core.Path.{_≡_};
+ghost use mathlib.Core.Bool.{true};
+ghost use Prim.Native.Nat.{_<_, _≤_};
+ghost use lib.ListN.{length, getD};
+ghost use Rattle.bits.specs.Codes.{goodTable};
+ghost use Rattle.book.specs.Book.{bookBytes, codeTableSizes, eachPrefixFree, codesRefusal, bookRefusal, dataRefusal};
+use bits::inner;
+
+// Entries of each of the sixteen code tables, in the order in which a book holds them.
+const CODE_TABLE_SIZES: [usize; 16] = [4, 64, 256, 512, 8, 8, 8, 8, 8, 8, 8, 8, 8, 8, 8, 8];
+
+fn code_table_size(i: usize) -> usize
+    requires { ⌜ i < 16 ⌝ }
+    ensures { λ r. ⌜ r ≡ getD codeTableSizes i 0 ⌝ }
+{
+    CODE_TABLE_SIZES[i]
+}
+
+// Whether each of the sixteen tables is prefix-free.
+fn each_prefix_free(book: &[u8]) -> bool
+    requires { ⌜ (length (now book) ≡ bookBytes) × (goodTable (now book) ≡ true) ⌝ }
+    ensures { λ r. ⌜ r ≡ eachPrefixFree codeTableSizes (now (book .entry)) ⌝ }
+{
+    let mut i = 0;
+    let mut before = 0;
+    while i < 16 {
+        let size = code_table_size(i);
+        let from = 3 * before;
+        let to = from + 3 * size;
+        if inner::prefix_free(&book[from..to]) {
+            before += size;
+            i += 1;
+        } else {
+            return false;
+        }
+    }
+    true
+}
+
+// 5, 6 or 7 of a lent book, or 0.
+pub fn book_refusal(book: &[u8]) -> u8
+    ensures { λ r. ⌜ r ≡ bookRefusal (now (book .entry)) ⌝ }
+{
+    if book.len() != 2796 {
+        return 5;
+    }
+    if inner::good_table(book) {
+        if each_prefix_free(book) {
+            return 0;
+        }
+        return 7;
+    }
+    6
+}
+
+// The same of a lent book and codebook.
+pub fn data_refusal(book: &[u8], codebook: &[u8]) -> u8
+    ensures { λ r. ⌜ r ≡ dataRefusal (now (book .entry)) (now (codebook .entry)) ⌝ }
+{
+    if codebook.len() != 23040 {
+        return 5;
+    }
+    book_refusal(book)
+}
