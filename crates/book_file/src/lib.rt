@@ -198,12 +198,6 @@ fn copy(from: &[u8], to: &mut [u8])
     }
 }
 
-fn book_refusal(book: &[u8]) -> u8
-    ensures { λ r. ⌜ r ≡ bookRefusal (now (book .entry)) ⌝ }
-{
-    5
-}
-
 // A file's book read into local bytes: 0 where it is a good one, else the refusal.
 fn read_into(file: &[u8], book: &mut [u8], met: &mut [u8]) -> u8
     requires { ⌜ (length (now book) ≡ 2796) × Unmet (now met) ⌝ }
@@ -214,7 +208,7 @@ fn read_into(file: &[u8], book: &mut [u8], met: &mut [u8]) -> u8
     };
     if all_met(met) {
         if good {
-            return book_refusal(book);
+            return book::book::book_refusal(book);
         }
         return 6;
     }

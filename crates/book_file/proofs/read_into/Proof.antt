@@ -13,7 +13,7 @@ use Rattle.book_file.proofs.read_into.Tie as tie
 use Rattle.book_file.proofs.read_into.Reads as reads
 use Rattle.book_file.proofs.read_into.Lts as lts
 use Rattle.book_file.proofs.all_met.Reads as all-met-reads
-use Rattle.book_file.proofs.book_refusal.Reads as book-refusal-reads
+use Rattle.book.proofs.book.book_refusal.Reads as book-refusal-reads
 use Rattle.book_file.proofs.read_lines.Reads as read-lines-reads
 
 -- src/lib.rt:212:34
