@@ -13,7 +13,7 @@ use lib.Seq.{drop-cons, getD-set-same, getD-set-other}
 use borrow.Author.Tests.{eqb-true, eqb-false, eq-eqb, ne-eqb, leb-true, ltb-true, ltb-false}
 use Rattle.bits.specs.Basics.{pick, every, orElse, unless}
 use Rattle.bits.specs.Codes.{goodEntry, goodTable}
-use Rattle.text.specs.TextLaws.{and-left, and-right}
+use Rattle.bits.specs.BasicsLaws.{both-true}
 use Rattle.book.specs.Book.{bookEntries, bookBytes, codeTableSizes, eachPrefixFree, codesRefusal, bookRefusal}
 use Rattle.book_file.specs.BookFile.{Line, mentions, onceEach, bytesAt, bytesFrom, bookOf, linesRefusal, refusalRead, bookRead, fileLines, fileRefusal, fileBook}
 use Rattle.book_file.specs.Scan.{Held, Unmet, BookFileRead, readFileRefusal, readFileBook, withEntry, kept, scanLines, scanned, allMet}
@@ -125,10 +125,10 @@ unfolding onceEach
 once-at zero e k ls q h = absurd (omega arith)
 once-at (suc n) e zero ls q h =
     let z : e + 0 ≡ e = omega arith in
-    rw z (eqb-true (mentions e ls) 1 (and-left (eqb (mentions e ls) 1) (onceEach n (suc e) ls) q))
+    rw z (eqb-true (mentions e ls) 1 (both-true (eqb (mentions e ls) 1) (onceEach n (suc e) ls) q .0))
 once-at (suc n) e (suc k) ls q h =
     let z : e + suc k ≡ suc e + k = omega arith in
-    rw z (once-at n (suc e) k ls (and-right (eqb (mentions e ls) 1) (onceEach n (suc e) ls) q) (omega arith))
+    rw z (once-at n (suc e) k ls (both-true (eqb (mentions e ls) 1) (onceEach n (suc e) ls) q .1) (omega arith))
 
 once-is : (m : List ℕ) (n e : ℕ) (ls : List Line) → length m ≡ n → ((k : ℕ) → k < n → getD m k 0 ≡ mentions (e + k) ls) → onceEach n e ls ≡ allMet m
 unfolding onceEach every
@@ -193,7 +193,7 @@ scan-keeps (l ∷ ls) s t e r q h = go (eqb (l .entry) e) refl h (scan-keeps ls 
 
 good-byte : (v n : ℕ) → goodEntry v n ≡ true → n % 256 ≡ n
 good-byte v n q =
-    let h : n ≤ 32 = leb-true n 32 (and-right (leb 1 n) (leb n 32) (and-left (leb 1 n && leb n 32) (ltb v (2 ^ n)) q)) in
+    let h : n ≤ 32 = leb-true n 32 (both-true (leb 1 n) (leb n 32) (both-true (leb 1 n && leb n 32) (ltb v (2 ^ n)) q .0) .1) in
     omega arith
 
 pick-left : (a b : Bool) → pick a b false ≡ true → a ≡ true

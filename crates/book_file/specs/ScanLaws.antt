@@ -14,7 +14,7 @@ use Rattle.bits.specs.Basics.{pick, every, All}
 use Rattle.bits.specs.Codes.{goodEntry}
 use Rattle.text.specs.Text.{comma, lineFeed, numberUpTo, pieces, fieldsOf, linesOf, same}
 use Rattle.text.specs.Reading.{countBefore, lineBefore}
-use Rattle.text.specs.TextLaws.{number-le, and-left, and-right, count-le, some-piece, pieces-last, pieces-next, lines-none, lines-open, lines-next}
+use Rattle.text.specs.TextLaws.{number-le, count-le, some-piece, pieces-last, pieces-next, lines-none, lines-open, lines-next}
 use Rattle.book.specs.Book.{bookEntries}
 use Rattle.book_file.specs.BookFile.{Table, Line, fileTables, entryNamed, lineNumber, lineAt, entryField, lineRead, ontoLines, linesRead, ofLines, fileLines}
 use Rattle.book_file.specs.Scan.{Held, codeAt, placeAt, withEntry, kept, scanLines, scanned}

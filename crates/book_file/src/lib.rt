@@ -6,11 +6,11 @@ ghost use Prim.Native.Nat.{_+_, _*_, _≤_, _<_};
 ghost use lib.Dec.{ltb};
 ghost use lib.ListN.{length};
 ghost use Rattle.bits.specs.Basics.{pick};
-ghost use Rattle.bits.specs.Codes.{goodEntry};
 ghost use Rattle.text.specs.Text.{fieldsOf};
 ghost use Rattle.book.specs.Book.{bookRefusal};
 ghost use Rattle.book_file.specs.BookFile.{fileTables, entryNamed, lineRead, fileLines};
 ghost use Rattle.book_file.specs.Scan.{Held, Unmet, FileHeld, BookFileRead, entryTold, lineTold, heldTold, codeAt, withEntry, scanned, allMet};
+use bits::inner;
 use text::NumberRead;
 
 // Where a table's position stands in a book.
@@ -126,19 +126,7 @@ fn put_entry(book: &mut [u8], e: usize, long: u64, value: u64)
     book[at + 2] = (long % 256) as u8;
 }
 
-// Whether a code's length is 1 to 32 and its value below 2 to the length.
-fn good_code(value: u64, long: u64) -> bool
-    ensures { λ r. ⌜ r ≡ goodEntry value long ⌝ }
-{
-    if long < 1 {
-        return false;
-    }
-    if 32 < long {
-        return false;
-    }
-    value < 1u64 << long as u32
-}
-
+// Whether both hold.
 fn both(a: bool, b: bool) -> bool
     ensures { λ r. ⌜ r ≡ (a && b) ⌝ }
 {
@@ -166,7 +154,7 @@ fn read_lines(file: &[u8], book: &mut [u8], met: &mut [u8]) -> LinesRead
         }
         met[e] = 1;
         put_entry(book, e, long, value);
-        good = both(good, good_code(value, long));
+        good = both(good, inner::good_entry(value, long as u32));
         at += n + 1;
     }
     LinesRead::Whole(good)

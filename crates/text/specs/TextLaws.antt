@@ -11,18 +11,11 @@ use lib.ListN.{length, take, drop, getD, drop-of-length-le, length-append}
 use lib.Seq.{drop-cons, take-append-seam, drop-append-add}
 use borrow.Author.Tests.{eqb-true, eqb-false, eq-eqb, ne-eqb, leb-true, leb-false, le-leb, lt-leb, ltb-true, ltb-false, lt-ltb, le-ltb}
 use Rattle.bits.specs.Basics.{pick, every}
+use Rattle.bits.specs.BasicsLaws.{both-true}
 use Rattle.text.specs.Text.{comma, lineFeed, isDigit, isNumber, valueFrom, numberUpTo, onto, pieces, allEnded, linesOf, fieldsOf, same}
 use Rattle.text.specs.Reading.{countBefore, digitOf, digitsFrom, lineBefore, without}
 
 -- ---- tests
-pub and-left : (a b : Bool) → (a && b) ≡ true → a ≡ true
-and-left true b e = refl
-and-left false b e = e
-
-pub and-right : (a b : Bool) → (a && b) ≡ true → b ≡ true
-and-right true b e = e
-and-right false b e = absurd (true≢false (sym e))
-
 and-off : (a b : Bool) → b ≡ false → (a && b) ≡ false
 and-off true b e = e
 and-off false b e = refl
@@ -94,7 +87,7 @@ digit-other c d e h = go (isDigit c) refl
   where
     go : (b : Bool) → isDigit c ≡ b → b ≡ false
     go true q =
-        let x : leb c 57 ≡ true = and-right (leb 48 c) (leb c 57) q in
+        let x : leb c 57 ≡ true = both-true (leb 48 c) (leb c 57) q .1 in
         let y : d ≡ c - 48 = e ∙ rw q in
         absurd (omega (arith, leb-true c 57 x))
     go false q = refl
