@@ -3,3 +3,5 @@ pub mod BookFile
 pub mod Scan
 pub mod ScanLaws
 pub mod HeldLaws
+pub mod FileText
+pub mod BookFileLaws

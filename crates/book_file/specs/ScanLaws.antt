@@ -159,7 +159,7 @@ onto-none : (o : Option Line) → ontoLines o none ≡ none
 onto-none none = refl
 onto-none (some l) = refl
 
-onto-before : (l : List ℕ) (o : Option (List (List ℕ))) → ofLines (lineBefore l o) ≡ ontoLines (lineRead (fieldsOf l)) (ofLines o)
+pub onto-before : (l : List ℕ) (o : Option (List (List ℕ))) → ofLines (lineBefore l o) ≡ ontoLines (lineRead (fieldsOf l)) (ofLines o)
 unfolding linesRead
 onto-before l none = sym (onto-none (lineRead (fieldsOf l)))
 onto-before l (some ls) = refl
