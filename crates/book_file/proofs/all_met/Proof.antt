@@ -1,5 +1,5 @@
 -- `book_file::all_met` meets its contract: as far as every entry passed was met, all are where those left are. Assumes nothing.
-use Prim.Native.Nat.{_+_, _-_, _≤_}
+use Prim.Native.Nat.{_-_, _≤_}
 use mathlib.Core.Path.{_≡_, refl, sym, _∙_}
 use native.Mathlib.Omega.{arith}
 use denote.Ref.{now}
@@ -10,8 +10,6 @@ use Rattle.book_file.specs.Scan.{allMet}
 use Rattle.book_file.specs.ScanLaws.{every-step, every-end}
 use Rattle.book_file.proofs.all_met.Statement.{statement}
 use Rattle.book_file.proofs.all_met.Tie as tie
-use Rattle.book_file.proofs.all_met.Reads as reads
-use Rattle.book_file.proofs.all_met.Lts as lts
 
 abbrev Inv-loop : tie.InvT-loop
 Inv-loop met i₀ i = (i ≤ length met) × (allMet met ≡ allMet (drop i met))
@@ -19,35 +17,28 @@ Inv-loop met i₀ i = (i ≤ length met) × (allMet met ≡ allMet (drop i met))
 abbrev μ-loop : tie.MeasureT-loop
 μ-loop met i₀ i = length met - i
 
--- src/lib.rt:180:5
 loop-holds : tie.Need-loop-holds Inv-loop μ-loop
 loop-holds c = (omega arith, refl)
 
--- src/lib.rt:181:12
 shared-slice-read-if1 : tie.Need-shared-slice-read-if1 Inv-loop μ-loop
 shared-slice-read-if1 c = omega arith
 
--- src/lib.rt:182:13
 returns : tie.Need-returns Inv-loop μ-loop
 returns c =
     let u = c .before .before .before in
     sym (u .loop .inv .1 ∙ every-step (λ m. eqb m 1) (now (u .before .args .met)) (u .loop .i) (omega arith) ∙ rw (ne-eqb _ _ (c .if1 .taken)))
 
--- src/lib.rt:184:9
 add-i : tie.Need-add-i Inv-loop μ-loop
 add-i c = omega arith
 
--- src/lib.rt:180:5
 loop-less : tie.Need-loop-less Inv-loop μ-loop
 loop-less c = omega arith
 
--- src/lib.rt:180:5
 loop-again : tie.Need-loop-again Inv-loop μ-loop
 loop-again c =
     let u = c .before .before .before in
     (omega arith, u .loop .inv .1 ∙ every-step (λ m. eqb m 1) (now (u .before .args .met)) (u .loop .i) (omega arith) ∙ rw (eq-eqb _ _ (c .if1 .left)))
 
--- src/lib.rt:176:1
 returns-2 : tie.Need-returns-2 Inv-loop μ-loop
 returns-2 c =
     let u = c .before in

@@ -3,18 +3,13 @@ use borrow.Author.Needs.{needs}
 use borrow.Author.Tests.{lt-ltb, le-ltb}
 use Rattle.book_file.proofs.entry_in.Statement.{statement}
 use Rattle.book_file.proofs.entry_in.Tie as tie
-use Rattle.book_file.proofs.entry_in.Reads as reads
-use Rattle.book_file.proofs.entry_in.Lts as lts
 
--- src/lib.rt:40:23
 add-t7 : tie.Need-add-t7
 add-t7 c = search needs
 
--- src/lib.rt:35:1
 returns : tie.Need-returns
 returns c = simp (lt-ltb _ _ (c .if1 .taken))
 
--- src/lib.rt:35:1
 returns-2 : tie.Need-returns-2
 returns-2 c = simp (le-ltb _ _ (c .if1 .left))
 

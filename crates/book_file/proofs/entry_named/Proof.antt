@@ -1,123 +1,93 @@
 -- `book_file::entry_named` meets its contract: the names that were no match, and the one that was, decide the definition's tests. Assumes nothing.
-use mathlib.Core.Path.{_≡_, sym, _∙_}
-use native.Mathlib.Omega.{arith}
+use mathlib.Core.Path.{sym, _∙_}
 use borrow.Author.Needs.{needs}
 use Rattle.book_file.specs.BookFile.{entryNamed}
 use Rattle.book_file.proofs.entry_named.Statement.{statement}
 use Rattle.book_file.proofs.entry_named.Tie as tie
-use Rattle.book_file.proofs.entry_named.Reads as reads
-use Rattle.book_file.proofs.entry_named.Lts as lts
-use Rattle.book_file.proofs.entry_in.Reads as entry-in-reads
-use Rattle.text.proofs.same.Reads as same-reads
 
--- src/lib.rt:50:19
 slice-aggregate-same : tie.Need-slice-aggregate-same
 slice-aggregate-same c = search needs
 
--- src/lib.rt:50:8
 same-requires : tie.Need-same-requires
 same-requires c κs = search needs
 
--- src/lib.rt:51:9
 entry-in-requires : tie.Need-entry-in-requires
 entry-in-requires c κs = search needs
 
--- src/lib.rt:51:9
 returns : tie.Need-returns
 unfolding entryNamed
 returns c = c .entry-in .ensures ∙ sym (rw (sym (c .before .before .same .ensures) ∙ c .before .if1 .taken))
 
--- src/lib.rt:53:19
 slice-aggregate-same-2 : tie.Need-slice-aggregate-same-2
 slice-aggregate-same-2 c = search needs
 
--- src/lib.rt:53:8
 same-requires-2 : tie.Need-same-requires-2
 same-requires-2 c κs = search needs
 
--- src/lib.rt:54:9
 entry-in-requires-2 : tie.Need-entry-in-requires-2
 entry-in-requires-2 c κs = search needs
 
--- src/lib.rt:54:9
 returns-2 : tie.Need-returns-2
 unfolding entryNamed
 returns-2 c =
     c .entry-in2 .ensures ∙ sym (rw (sym (c .before .before .before .before .before .same .ensures) ∙ c .before .before .before .before .if1 .left, sym (c .before .before .same2 .ensures) ∙ c .before .if2 .taken))
 
--- src/lib.rt:56:19
 slice-aggregate-same-3 : tie.Need-slice-aggregate-same-3
 slice-aggregate-same-3 c = search needs
 
--- src/lib.rt:56:8
 same-requires-3 : tie.Need-same-requires-3
 same-requires-3 c κs = search needs
 
--- src/lib.rt:57:9
 entry-in-requires-3 : tie.Need-entry-in-requires-3
 entry-in-requires-3 c κs = search needs
 
--- src/lib.rt:57:9
 returns-3 : tie.Need-returns-3
 unfolding entryNamed
 returns-3 c =
     c .entry-in3 .ensures ∙ sym (rw (sym (c .before .before .before .before .before .before .before .before .same .ensures) ∙ c .before .before .before .before .before .before .before .if1 .left, sym (c .before .before .before .before .before .same2 .ensures) ∙ c .before .before .before .before .if2 .left, sym (c .before .before .same3 .ensures) ∙ c .before .if3 .taken))
 
--- src/lib.rt:59:19
 slice-aggregate-same-4 : tie.Need-slice-aggregate-same-4
 slice-aggregate-same-4 c = search needs
 
--- src/lib.rt:59:8
 same-requires-4 : tie.Need-same-requires-4
 same-requires-4 c κs = search needs
 
--- src/lib.rt:60:9
 entry-in-requires-4 : tie.Need-entry-in-requires-4
 entry-in-requires-4 c κs = search needs
 
--- src/lib.rt:60:9
 returns-4 : tie.Need-returns-4
 unfolding entryNamed
 returns-4 c =
     c .entry-in4 .ensures ∙ sym (rw (sym (c .before .before .before .before .before .before .before .before .before .before .before .same .ensures) ∙ c .before .before .before .before .before .before .before .before .before .before .if1 .left, sym (c .before .before .before .before .before .before .before .before .same2 .ensures) ∙ c .before .before .before .before .before .before .before .if2 .left, sym (c .before .before .before .before .before .same3 .ensures) ∙ c .before .before .before .before .if3 .left, sym (c .before .before .same4 .ensures) ∙ c .before .if4 .taken))
 
--- src/lib.rt:62:19
 slice-aggregate-same-5 : tie.Need-slice-aggregate-same-5
 slice-aggregate-same-5 c = search needs
 
--- src/lib.rt:62:8
 same-requires-5 : tie.Need-same-requires-5
 same-requires-5 c κs = search needs
 
--- src/lib.rt:63:9
 entry-in-requires-5 : tie.Need-entry-in-requires-5
 entry-in-requires-5 c κs = search needs
 
--- src/lib.rt:63:9
 returns-5 : tie.Need-returns-5
 unfolding entryNamed
 returns-5 c =
     c .entry-in5 .ensures ∙ sym (rw (sym (c .before .before .before .before .before .before .before .before .before .before .before .before .before .before .same .ensures) ∙ c .before .before .before .before .before .before .before .before .before .before .before .before .before .if1 .left, sym (c .before .before .before .before .before .before .before .before .before .before .before .same2 .ensures) ∙ c .before .before .before .before .before .before .before .before .before .before .if2 .left, sym (c .before .before .before .before .before .before .before .before .same3 .ensures) ∙ c .before .before .before .before .before .before .before .if3 .left, sym (c .before .before .before .before .before .same4 .ensures) ∙ c .before .before .before .before .if4 .left, sym (c .before .before .same5 .ensures) ∙ c .before .if5 .taken))
 
--- src/lib.rt:65:19
 slice-aggregate-same-6 : tie.Need-slice-aggregate-same-6
 slice-aggregate-same-6 c = search needs
 
--- src/lib.rt:65:8
 same-requires-6 : tie.Need-same-requires-6
 same-requires-6 c κs = search needs
 
--- src/lib.rt:66:9
 entry-in-requires-6 : tie.Need-entry-in-requires-6
 entry-in-requires-6 c κs = search needs
 
--- src/lib.rt:66:9
 returns-6 : tie.Need-returns-6
 unfolding entryNamed
 returns-6 c =
     c .entry-in6 .ensures ∙ sym (rw (sym (c .before .before .before .before .before .before .before .before .before .before .before .before .before .before .before .before .before .same .ensures) ∙ c .before .before .before .before .before .before .before .before .before .before .before .before .before .before .before .before .if1 .left, sym (c .before .before .before .before .before .before .before .before .before .before .before .before .before .before .same2 .ensures) ∙ c .before .before .before .before .before .before .before .before .before .before .before .before .before .if2 .left, sym (c .before .before .before .before .before .before .before .before .before .before .before .same3 .ensures) ∙ c .before .before .before .before .before .before .before .before .before .before .if3 .left, sym (c .before .before .before .before .before .before .before .before .same4 .ensures) ∙ c .before .before .before .before .before .before .before .if4 .left, sym (c .before .before .before .before .before .same5 .ensures) ∙ c .before .before .before .before .if5 .left, sym (c .before .before .same6 .ensures) ∙ c .before .if6 .taken))
 
--- src/lib.rt:47:1
 returns-7 : tie.Need-returns-7
 unfolding entryNamed
 returns-7 c =

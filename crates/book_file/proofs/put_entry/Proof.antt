@@ -5,50 +5,37 @@ use lib.ListN.{length-set}
 use Rattle.book_file.specs.Scan.{withEntry}
 use Rattle.book_file.proofs.put_entry.Statement.{statement}
 use Rattle.book_file.proofs.put_entry.Tie as tie
-use Rattle.book_file.proofs.put_entry.Reads as reads
-use Rattle.book_file.proofs.put_entry.Lts as lts
 
--- src/lib.rt:123:14
 mul-at : tie.Need-mul-at
 mul-at c = search needs
 
--- src/lib.rt:124:16
 cast-book : tie.Need-cast-book
 cast-book c = search needs
 
--- src/lib.rt:124:5
 slice-write-book : tie.Need-slice-write-book
 slice-write-book c = search needs
 
--- src/lib.rt:125:20
 cast-book-2 : tie.Need-cast-book-2
 cast-book-2 c = search needs
 
--- src/lib.rt:125:10
 add-book : tie.Need-add-book
 add-book c = search needs
 
--- src/lib.rt:125:5
 slice-write-book-2 : tie.Need-slice-write-book-2
 slice-write-book-2 c = simp length-set (omega arith)
 
--- src/lib.rt:126:20
 cast-book-3 : tie.Need-cast-book-3
 cast-book-3 c = search needs
 
--- src/lib.rt:126:10
 add-book-2 : tie.Need-add-book-2
 add-book-2 c = search needs
 
--- src/lib.rt:126:5
 slice-write-book-3 : tie.Need-slice-write-book-3
 slice-write-book-3 c = search needs
 
--- src/lib.rt:119:1
 same-length : tie.Need-same-length
 same-length c = search needs
 
--- src/lib.rt:119:1
 returns : tie.Need-returns
 unfolding withEntry
 returns c = search needs

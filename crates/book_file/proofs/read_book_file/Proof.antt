@@ -1,53 +1,39 @@
 -- `book_file::read_book_file` meets its contract: the size decides first, then what was read into local bytes. Assumes nothing.
-use mathlib.Core.Path.{_≡_, refl, sym, ap, _∙_}
-use native.Mathlib.Omega.{arith}
+use mathlib.Core.Path.{refl, sym, _∙_}
 use borrow.Author.Needs.{needs}
 use denote.Ref.{now}
 use Rattle.book_file.specs.HeldLaws.{unmet-at-first, call-size, call-refused, call-read}
 use Rattle.book_file.proofs.read_book_file.Statement.{statement}
 use Rattle.book_file.proofs.read_book_file.Tie as tie
-use Rattle.book_file.proofs.read_book_file.Reads as reads
-use Rattle.book_file.proofs.read_book_file.Lts as lts
-use Rattle.book_file.proofs.copy.Reads as copy-reads
-use Rattle.book_file.proofs.read_into.Reads as read-into-reads
 
--- src/lib.rt:229:9
 returns : tie.Need-returns
 returns c = let a = c .before .before .before .args in call-size (now (a .file)) (now (a .book)) (c .if1 .taken)
 
--- src/lib.rt:233:35
 slice-aggregate-read-into : tie.Need-slice-aggregate-read-into
 slice-aggregate-read-into c = refl
 
--- src/lib.rt:233:46
 slice-aggregate-read-into-2 : tie.Need-slice-aggregate-read-into-2
 slice-aggregate-read-into-2 c = refl
 
--- src/lib.rt:233:9
 read-into-requires : tie.Need-read-into-requires
 read-into-requires c κs = (refl, unmet-at-first _ refl)
 
--- src/lib.rt:235:9
 returns-2 : tie.Need-returns-2
 returns-2 c =
     let a = c .before .before .before .before .before .before .before .before .before .args in
     let r = c .before .before .before .read-into in
     call-refused (now (a .file)) (now (a .book)) (c .before .before .before .before .before .before .if1 .left) (r .result) (r .ensures .refusal) (c .if2 .taken)
 
--- src/lib.rt:237:10
 slice-aggregate-copy : tie.Need-slice-aggregate-copy
 slice-aggregate-copy c = sym (c .before .before .before .before .read-into .kept .1 .0)
 
--- src/lib.rt:237:5
 copy-requires : tie.Need-copy-requires
 copy-requires c κs =
     c .before .before .before .before .before .read-into .kept .1 .0 ∙ sym (c .before .before .before .before .before .before .before .before .if1 .left)
 
--- src/lib.rt:225:1
 same-length : tie.Need-same-length
 same-length c = search needs
 
--- src/lib.rt:225:1
 returns-3 : tie.Need-returns-3
 returns-3 c =
     let a = c .before .before .before .before .before .before .before .before .before .before .before .before .before .before .args in

@@ -1,12 +1,11 @@
 -- `book_file::read_code` meets its contract: the commas found are those that part the fields. Assumes nothing.
-use Prim.Native.Nat.{ℕ, _+_, _-_, _<_}
-use mathlib.Core.Path.{_≡_, refl, sym, ap, _∙_}
-use mathlib.Core.List.{List}
+use Prim.Native.Nat.{_+_, _-_}
+use mathlib.Core.Path.{_≡_, sym, _∙_}
 use mathlib.Core.Option.{some}
 use native.Mathlib.Omega.{arith}
 use borrow.Author.Needs.{needs}
 use denote.Ref.{now}
-use lib.ListN.{length, take, drop}
+use lib.ListN.{take}
 use lib.Seq.{length-take-le}
 use Rattle.text.specs.Text.{fieldsOf}
 use Rattle.book_file.specs.BookFile.{lineAt, lineNumber}
@@ -14,67 +13,50 @@ use Rattle.book_file.specs.Scan.{codeAt}
 use Rattle.book_file.specs.ScanLaws.{partFrom, code-short, code-long, code-two}
 use Rattle.book_file.proofs.read_code.Statement.{statement}
 use Rattle.book_file.proofs.read_code.Tie as tie
-use Rattle.book_file.proofs.read_code.Reads as reads
-use Rattle.book_file.proofs.read_code.Lts as lts
-use Rattle.text.proofs.find.Reads as find-reads
-use Rattle.text.proofs.read_number.Reads as read-number-reads
 
--- src/lib.rt:75:9
 find-requires : tie.Need-find-requires
 find-requires c κs = search needs
 
--- src/lib.rt:77:9
 returns : tie.Need-returns
 returns c =
     let a = c .before .before .before .args in
     sym (code-short (some (a .e)) (now (a .t)) (c .before .find .result) (c .before .find .ensures .0) (omega arith))
 
--- src/lib.rt:79:16
 add-next : tie.Need-add-next
 add-next c = search needs
 
--- src/lib.rt:80:16
 sub-rest : tie.Need-sub-rest
 sub-rest c = search needs
 
--- src/lib.rt:80:16
 part-rest-start : tie.Need-part-rest-start
 part-rest-start c = search needs
 
--- src/lib.rt:80:16
 part-rest-end : tie.Need-part-rest-end
 part-rest-end c = search needs
 
--- src/lib.rt:81:8
 find-requires-2 : tie.Need-find-requires-2
 find-requires-2 c κs = search needs
 
--- src/lib.rt:82:9
 returns-2 : tie.Need-returns-2
 returns-2 c =
     let f = c .before .before .before .before in
     let a = f .before .before .args in
     sym (code-long (some (a .e)) (now (a .t)) (f .find .result) (c .before .find2 .result) (f .find .ensures .0) (omega arith) (c .before .find2 .ensures .0) (c .if2 .taken))
 
--- src/lib.rt:84:51
 slice-aggregate-read-number : tie.Need-slice-aggregate-read-number
 slice-aggregate-read-number c =
     let f = c .before .before .before .before .before in
     sym (length-take-le (f .find .result) (now (f .before .before .args .t)) (f .find .ensures .1))
 
--- src/lib.rt:84:33
 read-number-requires : tie.Need-read-number-requires
 read-number-requires c κs = search needs
 
--- src/lib.rt:84:28
 enum-known-n : tie.Need-enum-known-n
 enum-known-n c = search needs
 
--- src/lib.rt:85:9
 enum-told : tie.Need-enum-told
 enum-told c = search needs
 
--- src/lib.rt:85:9
 -- two fields are left: a length and a code
 two : (c : tie.Else2) →
     let f = c .before .before .before .before in
@@ -90,25 +72,20 @@ two c =
 returns-3 : tie.Need-returns-3
 returns-3 c = sym (two (c .before .before .before .before) ∙ rw (← c .before .before .read-number .ensures, c .enum-told .given .1))
 
--- src/lib.rt:87:33
 read-number-requires-2 : tie.Need-read-number-requires-2
 read-number-requires-2 c κs = search needs
 
--- src/lib.rt:87:28
 enum-known-v : tie.Need-enum-known-v
 enum-known-v c = search needs
 
--- src/lib.rt:88:9
 enum-told-2 : tie.Need-enum-told-2
 enum-told-2 c = search needs
 
--- src/lib.rt:88:9
 returns-4 : tie.Need-returns-4
 returns-4 c =
     let n = c .before .before .before .before in
     sym (two (n .before .before .before .before) ∙ rw (← n .before .before .read-number .ensures, n .n .given .1, ← c .before .before .read-number2 .ensures, c .enum-told2 .given .1))
 
--- src/lib.rt:72:1
 returns-5 : tie.Need-returns-5
 returns-5 c =
     let n = c .before .before .before .before .before in

@@ -1,5 +1,5 @@
 -- `book_file::read_into` meets its contract: what the lines leave decides the refusals in their order. Assumes nothing.
-use mathlib.Core.Path.{_≡_, refl, sym, ap, _∙_}
+use mathlib.Core.Path.{_≡_, sym, ap, _∙_}
 use mathlib.Core.Option.{some}
 use native.Mathlib.Omega.{arith}
 use borrow.Author.Needs.{needs}
@@ -10,33 +10,22 @@ use Rattle.book_file.specs.HeldLaws.{begun, file-stopped, file-missing, 
 use Rattle.book_file.specs.declared.LinesRead.{LinesRead}
 use Rattle.book_file.proofs.read_into.Statement.{statement}
 use Rattle.book_file.proofs.read_into.Tie as tie
-use Rattle.book_file.proofs.read_into.Reads as reads
-use Rattle.book_file.proofs.read_into.Lts as lts
-use Rattle.book_file.proofs.all_met.Reads as all-met-reads
-use Rattle.book.proofs.book.book_refusal.Reads as book-refusal-reads
-use Rattle.book_file.proofs.read_lines.Reads as read-lines-reads
 
--- src/lib.rt:212:34
 read-lines-requires : tie.Need-read-lines-requires
 read-lines-requires c κs = (c .before .before .before .before .before .pre .0, c .before .before .before .before .before .pre .1 .size)
 
--- src/lib.rt:212:26
 enum-known-good : tie.Need-enum-known-good
 enum-known-good c = search needs
 
--- src/lib.rt:213:9
 enum-told : tie.Need-enum-told
 enum-told c = search needs
 
--- src/lib.rt:213:9
 same-length : tie.Need-same-length
 same-length c = search needs
 
--- src/lib.rt:213:9
 same-length-2 : tie.Need-same-length-2
 same-length-2 c = search needs
 
--- src/lib.rt:213:9
 -- what the lines leave
 abbrev left : tie.After-known-told → Held
 left d = record { book = d .before .before .before .before .before .before .before .read-lines .last .1 .0; met = d .before .before .before .before .before .before .before .read-lines .last .1 .1 .0; good = d .before .good2 .given .0 .0 }
@@ -62,23 +51,18 @@ returns c =
       held = λ q. absurd (omega arith);
     }
 
--- src/lib.rt:215:8
 all-met-requires : tie.Need-all-met-requires
 all-met-requires c κs = search needs
 
--- src/lib.rt:217:13
 book-refusal-requires : tie.Need-book-refusal-requires
 book-refusal-requires c κs = search needs
 
--- src/lib.rt:217:13
 same-length-3 : tie.Need-same-length-3
 same-length-3 c = search needs
 
--- src/lib.rt:217:13
 same-length-4 : tie.Need-same-length-4
 same-length-4 c = search needs
 
--- src/lib.rt:217:13
 returns-2 : tie.Need-returns-2
 returns-2 c =
     let d = c .before .before .before .before .before .before in
@@ -89,15 +73,12 @@ returns-2 c =
     (sym (c .before .before .before .before .all-met .ensures) ∙ c .before .before .before .if1 .taken) good in
     record { refusal = c .book-refusal .ensures ∙ sym (both .0); held = λ q. sym (both .1) }
 
--- src/lib.rt:219:9
 same-length-5 : tie.Need-same-length-5
 same-length-5 c = search needs
 
--- src/lib.rt:219:9
 same-length-6 : tie.Need-same-length-6
 same-length-6 c = search needs
 
--- src/lib.rt:219:9
 returns-3 : tie.Need-returns-3
 returns-3 c =
     let d = c .before .before .before .before in
@@ -109,15 +90,12 @@ returns-3 c =
       held = λ q. absurd (omega arith);
     }
 
--- src/lib.rt:208:1
 same-length-7 : tie.Need-same-length-7
 same-length-7 c = search needs
 
--- src/lib.rt:208:1
 same-length-8 : tie.Need-same-length-8
 same-length-8 c = search needs
 
--- src/lib.rt:208:1
 returns-4 : tie.Need-returns-4
 returns-4 c =
     let d = c .before .before .before in

@@ -1,12 +1,10 @@
 -- `book_file::read_line` meets its contract: the commas found are those that part the fields. Assumes nothing.
-use Prim.Native.Nat.{ℕ, _+_, _-_, _<_}
-use mathlib.Core.Path.{_≡_, refl, sym, ap, _∙_}
-use mathlib.Core.List.{List}
-use mathlib.Core.Option.{some}
+use Prim.Native.Nat.{_+_, _-_}
+use mathlib.Core.Path.{_≡_, sym, _∙_}
 use native.Mathlib.Omega.{arith}
 use borrow.Author.Needs.{needs}
 use denote.Ref.{now}
-use lib.ListN.{length, take, drop}
+use lib.ListN.{take}
 use lib.Seq.{length-take-le}
 use Rattle.text.specs.Text.{fieldsOf}
 use Rattle.book_file.specs.BookFile.{lineRead}
@@ -14,44 +12,30 @@ use Rattle.book_file.specs.Scan.{placeAt}
 use Rattle.book_file.specs.ScanLaws.{partFrom, line-short, line-first, place-short, place-first, place-none}
 use Rattle.book_file.proofs.read_line.Statement.{statement}
 use Rattle.book_file.proofs.read_line.Tie as tie
-use Rattle.book_file.proofs.read_line.Reads as reads
-use Rattle.book_file.proofs.read_line.Lts as lts
-use Rattle.book_file.proofs.entry_named.Reads as entry-named-reads
-use Rattle.book_file.proofs.read_code.Reads as read-code-reads
-use Rattle.text.proofs.find.Reads as find-reads
-use Rattle.text.proofs.read_number.Reads as read-number-reads
 
--- src/lib.rt:97:9
 find-requires : tie.Need-find-requires
 find-requires c κs = search needs
 
--- src/lib.rt:99:9
 returns : tie.Need-returns
 returns c =
     let a = c .before .before .before .args in
     sym (line-short (now (a .t)) (c .before .find .result) (c .before .find .ensures .0) (omega arith))
 
--- src/lib.rt:101:16
 add-next : tie.Need-add-next
 add-next c = search needs
 
--- src/lib.rt:102:16
 sub-rest : tie.Need-sub-rest
 sub-rest c = search needs
 
--- src/lib.rt:102:16
 part-rest-start : tie.Need-part-rest-start
 part-rest-start c = search needs
 
--- src/lib.rt:102:16
 part-rest-end : tie.Need-part-rest-end
 part-rest-end c = search needs
 
--- src/lib.rt:103:9
 find-requires-2 : tie.Need-find-requires-2
 find-requires-2 c κs = search needs
 
--- src/lib.rt:105:9
 -- behind the name
 named : (c : tie.Else1) →
     let f = c .before in
@@ -64,76 +48,60 @@ named c =
 returns-2 : tie.Need-returns-2
 returns-2 c = sym (named (c .before .before .before) ∙ place-short _ _ (c .before .find2 .result) (c .before .find2 .ensures .0) (omega arith))
 
--- src/lib.rt:107:51
 slice-aggregate-read-number : tie.Need-slice-aggregate-read-number
 slice-aggregate-read-number c =
     let f = c .before .before in
     sym (length-take-le (f .find2 .result) _ (f .find2 .ensures .1))
 
--- src/lib.rt:107:33
 read-number-requires : tie.Need-read-number-requires
 read-number-requires c κs = search needs
 
--- src/lib.rt:107:28
 enum-known-p : tie.Need-enum-known-p
 enum-known-p c = search needs
 
--- src/lib.rt:108:9
 enum-told : tie.Need-enum-told
 enum-told c = search needs
 
--- src/lib.rt:108:9
 returns-3 : tie.Need-returns-3
 returns-3 c =
     let f = c .before .before .before .before .before in
     sym (named (f .before .before) ∙ place-none _ _ (f .find2 .result) (f .find2 .ensures .0) (omega arith) (rw (← c .before .before .read-number .ensures, c .enum-told .given .1)))
 
--- src/lib.rt:110:40
 slice-aggregate-entry-named : tie.Need-slice-aggregate-entry-named
 slice-aggregate-entry-named c =
     let f = c .before .before .before .before .before .before .before .before .before .before in
     sym (length-take-le (f .find .result) (now (f .before .before .args .t)) (f .find .ensures .1))
 
--- src/lib.rt:110:28
 entry-named-requires : tie.Need-entry-named-requires
 entry-named-requires c κs = search needs
 
--- src/lib.rt:110:23
 enum-known-e : tie.Need-enum-known-e
 enum-known-e c = search needs
 
--- src/lib.rt:111:9
 enum-told-2 : tie.Need-enum-told-2
 enum-told-2 c = search needs
 
--- src/lib.rt:111:9
 returns-4 : tie.Need-returns-4
 returns-4 c =
     let p = c .before .before .before .before .before in
     let f = p .before .before .before .before .before in
     sym (named (f .before .before) ∙ place-none _ _ (f .find2 .result) (f .find2 .ensures .0) (omega arith) (rw (← p .before .before .read-number .ensures, p .p .given .1, ← c .before .before .entry-named .ensures, c .enum-told2 .given .1)))
 
--- src/lib.rt:113:16
 add-last : tie.Need-add-last
 add-last c = search needs
 
--- src/lib.rt:114:15
 sub-read-code : tie.Need-sub-read-code
 sub-read-code c = search needs
 
--- src/lib.rt:114:15
 part-read-code-start : tie.Need-part-read-code-start
 part-read-code-start c = search needs
 
--- src/lib.rt:114:15
 part-read-code-end : tie.Need-part-read-code-end
 part-read-code-end c = search needs
 
--- src/lib.rt:114:5
 read-code-requires : tie.Need-read-code-requires
 read-code-requires c κs = search needs
 
--- src/lib.rt:94:1
 returns-5 : tie.Need-returns-5
 returns-5 c =
     let e = c .before .before .before in

@@ -18,13 +18,6 @@ use Rattle.book_file.specs.Scan.{Held, lineTold, scanLines, scanned, kep
 use Rattle.book_file.specs.ScanLaws.{partFrom, LineFits, line-fits, file-end, file-open, file-bad, file-line, scan-step, kept-is, length-part}
 use Rattle.book_file.proofs.read_lines.Statement.{statement}
 use Rattle.book_file.proofs.read_lines.Tie as tie
-use Rattle.book_file.proofs.read_lines.Reads as reads
-use Rattle.book_file.proofs.read_lines.Lts as lts
-use Rattle.bits.proofs.inner.good_entry.Reads as good-entry-reads
-use Rattle.book_file.proofs.both.Reads as both-reads
-use Rattle.book_file.proofs.put_entry.Reads as put-entry-reads
-use Rattle.book_file.proofs.read_line.Reads as read-line-reads
-use Rattle.text.proofs.find.Reads as find-reads
 
 abbrev Inv-loop : tie.InvT-loop
 Inv-loop file book₀ met₀ at₀ good₀ book met at good =
@@ -35,7 +28,6 @@ Inv-loop file book₀ met₀ at₀ good₀ book met at good =
 abbrev μ-loop : tie.MeasureT-loop
 μ-loop file book₀ met₀ at₀ good₀ book met at good = length file - at
 
--- src/lib.rt:143:5
 -- the loop's head that a line which says something was read from, and the line
 abbrev head : tie.After-known-told Inv-loop μ-loop → tie.At-loop Inv-loop μ-loop
 head d = d .before .before .before .before .before .before .before .before .before
@@ -78,61 +70,47 @@ more d =
 loop-holds : tie.Need-loop-holds Inv-loop μ-loop
 loop-holds c = (omega arith, refl, refl, refl)
 
--- src/lib.rt:144:20
 sub-rest : tie.Need-sub-rest Inv-loop μ-loop
 sub-rest c = omega arith
 
--- src/lib.rt:144:20
 part-rest-start : tie.Need-part-rest-start Inv-loop μ-loop
 part-rest-start c = omega arith
 
--- src/lib.rt:144:20
 part-rest-end : tie.Need-part-rest-end Inv-loop μ-loop
 part-rest-end c = omega arith
 
--- src/lib.rt:145:13
 find-requires : tie.Need-find-requires Inv-loop μ-loop
 find-requires c κs = tt
 
--- src/lib.rt:147:13
 same-length : tie.Need-same-length Inv-loop μ-loop
 same-length c = c .before .before .before .before .loop .inv .1
 
--- src/lib.rt:147:13
 same-length-2 : tie.Need-same-length-2 Inv-loop μ-loop
 same-length-2 c = c .before .before .before .before .loop .inv .2
 
--- src/lib.rt:147:13
 returns : tie.Need-returns Inv-loop μ-loop
 returns c =
     let u = c .before .before .before .before in
     sym (sym (u .loop .inv .3) ∙ rw (file-open (file u) (u .loop .at) (c .before .find .result) (c .before .before .before .loop-test .taken) (c .before .find .ensures .0) (omega arith)))
 
--- src/lib.rt:149:57
 slice-aggregate-read-line : tie.Need-slice-aggregate-read-line Inv-loop μ-loop
 slice-aggregate-read-line c = sym (length-take-le (c .before .before .find .result) _ (c .before .before .find .ensures .1))
 
--- src/lib.rt:149:47
 read-line-requires : tie.Need-read-line-requires Inv-loop μ-loop
 read-line-requires c κs = tt
 
--- src/lib.rt:149:29
 enum-known-e : tie.Need-enum-known-e Inv-loop μ-loop
 enum-known-e c = search needs
 
--- src/lib.rt:150:13
 enum-told : tie.Need-enum-told Inv-loop μ-loop
 enum-told c = search needs
 
--- src/lib.rt:150:13
 same-length-3 : tie.Need-same-length-3 Inv-loop μ-loop
 same-length-3 c = c .before .before .before .before .before .before .before .before .loop .inv .1
 
--- src/lib.rt:150:13
 same-length-4 : tie.Need-same-length-4 Inv-loop μ-loop
 same-length-4 c = c .before .before .before .before .before .before .before .before .loop .inv .2
 
--- src/lib.rt:150:13
 returns-2 : tie.Need-returns-2 Inv-loop μ-loop
 returns-2 c =
     let u = c .before .before .before .before .before .before .before .before in
@@ -140,56 +118,43 @@ returns-2 c =
     let rest : f .find .result < length (partFrom (u .loop .at) (file u)) = omega (arith, c .before .before .before .before .if1 .left, f .find .ensures .1) in
     sym (sym (u .loop .inv .3) ∙ rw (file-bad (file u) (u .loop .at) (f .find .result) (f .find .ensures .0) rest (sym (c .before .before .read-line .ensures) ∙ ap lineTold (c .enum-told .given .1))))
 
--- src/lib.rt:152:12
 slice-read-if2 : tie.Need-slice-read-if2 Inv-loop μ-loop
 slice-read-if2 c = omega (arith, fits (c .before) .entry-below, head (c .before) .loop .inv .2, head (c .before) .before .before .before .before .pre)
 
--- src/lib.rt:153:13
 same-length-5 : tie.Need-same-length-5 Inv-loop μ-loop
 same-length-5 c = c .before .before .before .before .before .before .before .before .before .before .before .loop .inv .1
 
--- src/lib.rt:153:13
 same-length-6 : tie.Need-same-length-6 Inv-loop μ-loop
 same-length-6 c = c .before .before .before .before .before .before .before .before .before .before .before .loop .inv .2
 
--- src/lib.rt:153:13
 returns-3 : tie.Need-returns-3 Inv-loop μ-loop
 returns-3 c = let d = c .before .before in sym (more d ∙ rw (ne-eqb (getD (head d .loop .met) (line d .entry) 0) 0 (c .if2 .taken)))
 
--- src/lib.rt:155:9
 slice-write-met : tie.Need-slice-write-met Inv-loop μ-loop
 slice-write-met c = let d = c .before .before in omega (arith, fits d .entry-below, head d .loop .inv .2, head d .before .before .before .before .pre)
 
--- src/lib.rt:156:9
 put-entry-requires : tie.Need-put-entry-requires Inv-loop μ-loop
 put-entry-requires c κs =
     let d = c .before .before .before in (omega (arith, fits d .entry-below, head d .loop .inv .1, head d .before .before .before .before .pre), fits d .value-le)
 
--- src/lib.rt:157:52
 cast-good-entry : tie.Need-cast-good-entry Inv-loop μ-loop
 cast-good-entry c = let d = c .before .before .before .before .before .before in omega (arith, fits d .long-le)
 
--- src/lib.rt:157:27
 good-entry-requires : tie.Need-good-entry-requires Inv-loop μ-loop
 good-entry-requires c κs = tt
 
--- src/lib.rt:157:9
 both-requires : tie.Need-both-requires Inv-loop μ-loop
 both-requires c κs = tt
 
--- src/lib.rt:158:15
 add-at : tie.Need-add-at Inv-loop μ-loop
 add-at c = omega arith
 
--- src/lib.rt:158:9
 add-at-2 : tie.Need-add-at-2 Inv-loop μ-loop
 add-at-2 c = omega arith
 
--- src/lib.rt:143:5
 loop-less : tie.Need-loop-less Inv-loop μ-loop
 loop-less c = omega arith
 
--- src/lib.rt:143:5
 loop-again : tie.Need-loop-again Inv-loop μ-loop
 loop-again c =
     let d = c .before .before .before .before .before .before .before .before in
@@ -204,15 +169,12 @@ loop-again c =
       rw same (sym (more d ∙ rw (eq-eqb (getD (u .loop .met) (line d .entry) 0) 0 (c .before .before .before .before .before .before .if2 .left)))),
     )
 
--- src/lib.rt:137:1
 same-length-7 : tie.Need-same-length-7 Inv-loop μ-loop
 same-length-7 c = c .before .loop .inv .1
 
--- src/lib.rt:137:1
 same-length-8 : tie.Need-same-length-8 Inv-loop μ-loop
 same-length-8 c = c .before .loop .inv .2
 
--- src/lib.rt:137:1
 returns-4 : tie.Need-returns-4 Inv-loop μ-loop
 unfolding scanLines
 returns-4 c =

@@ -1,7 +1,6 @@
 -- `text::find` meets its contract: the bytes passed and those that stand before the first b in what is left are those before it in the whole. Assumes nothing.
-use Prim.Native.Nat.{ℕ, _+_, _-_, _≤_}
-use mathlib.Core.Path.{_≡_, refl, sym, ap, _∙_}
-use mathlib.Core.List.{List}
+use Prim.Native.Nat.{_+_, _-_, _≤_}
+use mathlib.Core.Path.{_≡_}
 use native.Mathlib.Omega.{arith}
 use denote.Ref.{now}
 use lib.ListN.{length, drop}
@@ -9,8 +8,6 @@ use Rattle.text.specs.Reading.{countBefore}
 use Rattle.text.specs.TextLaws.{count-step, count-here, count-end}
 use Rattle.text.proofs.find.Statement.{statement}
 use Rattle.text.proofs.find.Tie as tie
-use Rattle.text.proofs.find.Reads as reads
-use Rattle.text.proofs.find.Lts as lts
 
 abbrev Inv-loop : tie.InvT-loop
 Inv-loop t b i₀ i = (i ≤ length t) × (countBefore b t ≡ i + countBefore b (drop i t))
@@ -18,37 +15,30 @@ Inv-loop t b i₀ i = (i ≤ length t) × (countBefore b t ≡ i + countBefore b
 abbrev μ-loop : tie.MeasureT-loop
 μ-loop t b i₀ i = length t - i
 
--- src/lib.rt:26:5
 loop-holds : tie.Need-loop-holds Inv-loop μ-loop
 loop-holds c = (omega arith, omega arith)
 
--- src/lib.rt:27:12
 shared-slice-read-if1 : tie.Need-shared-slice-read-if1 Inv-loop μ-loop
 shared-slice-read-if1 c = omega arith
 
--- src/lib.rt:28:13
 returns : tie.Need-returns Inv-loop μ-loop
 returns c =
     let u = c .before .before .before in
     let s = u .before in
     (omega (arith, count-here (s .args .b) (now (s .args .t)) (u .loop .i) (omega arith) (c .if1 .taken)), omega arith)
 
--- src/lib.rt:30:9
 add-i : tie.Need-add-i Inv-loop μ-loop
 add-i c = omega arith
 
--- src/lib.rt:26:5
 loop-less : tie.Need-loop-less Inv-loop μ-loop
 loop-less c = omega arith
 
--- src/lib.rt:26:5
 loop-again : tie.Need-loop-again Inv-loop μ-loop
 loop-again c =
     let u = c .before .before .before in
     let s = u .before in
     (omega arith, omega (arith, count-step (s .args .b) (now (s .args .t)) (u .loop .i) (omega arith) (c .if1 .left)))
 
--- src/lib.rt:22:1
 returns-2 : tie.Need-returns-2 Inv-loop μ-loop
 returns-2 c =
     let u = c .before in

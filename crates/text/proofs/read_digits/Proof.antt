@@ -1,7 +1,6 @@
 -- `text::read_digits` meets its contract: the number of the digits passed and the digits left make the whole. Assumes nothing.
-use Prim.Native.Nat.{ℕ, _+_, _-_, _*_, _≤_, _<_}
-use mathlib.Core.Path.{_≡_, refl, sym, ap, _∙_}
-use mathlib.Core.List.{List}
+use Prim.Native.Nat.{_-_, _≤_}
+use mathlib.Core.Path.{_≡_, refl, sym, _∙_}
 use native.Mathlib.Omega.{arith}
 use denote.Ref.{now}
 use lib.ListN.{length, drop}
@@ -9,9 +8,6 @@ use Rattle.text.specs.Reading.{digitsFrom}
 use Rattle.text.specs.TextLaws.{digits-step, digits-other, digits-past, digits-end}
 use Rattle.text.proofs.read_digits.Statement.{statement}
 use Rattle.text.proofs.read_digits.Tie as tie
-use Rattle.text.proofs.read_digits.Reads as reads
-use Rattle.text.proofs.read_digits.Lts as lts
-use Rattle.text.proofs.digit.Reads as digit-reads
 
 abbrev Inv-loop : tie.InvT-loop
 Inv-loop t most n₀ i₀ n i = (i ≤ length t) × (n ≤ most) × (digitsFrom most 0 t ≡ digitsFrom most n (drop i t))
@@ -19,33 +15,27 @@ Inv-loop t most n₀ i₀ n i = (i ≤ length t) × (n ≤ most) × (digitsFrom 
 abbrev μ-loop : tie.MeasureT-loop
 μ-loop t most n₀ i₀ n i = length t - i
 
--- src/lib.rt:65:5
 loop-holds : tie.Need-loop-holds Inv-loop μ-loop
 loop-holds c = (omega arith, omega arith, refl)
 
--- src/lib.rt:66:23
 shared-slice-read-digit : tie.Need-shared-slice-read-digit Inv-loop μ-loop
 shared-slice-read-digit c = omega arith
 
--- src/lib.rt:66:13
 digit-requires : tie.Need-digit-requires Inv-loop μ-loop
 digit-requires c κs = tt
 
--- src/lib.rt:68:13
 returns : tie.Need-returns Inv-loop μ-loop
 returns c =
     let u = c .before .before .before .before in
     let a = u .before .before .args in
     sym (u .loop .inv .2 ∙ digits-other (a .most) (u .loop .n) (c .before .digit .result) (now (a .t)) (u .loop .i) (omega arith) (c .before .digit .ensures) (c .if1 .taken))
 
--- src/lib.rt:71:13
 returns-2 : tie.Need-returns-2 Inv-loop μ-loop
 returns-2 c =
     let u = c .before .before .before .before .before in
     let a = u .before .before .args in
     sym (u .loop .inv .2 ∙ digits-past (a .most) (u .loop .n) (c .before .before .digit .result) (now (a .t)) (u .loop .i) (omega arith) (c .before .before .digit .ensures) (omega arith) (omega arith))
 
--- src/lib.rt:74:13
 returns-3 : tie.Need-returns-3 Inv-loop μ-loop
 returns-3 c =
     let u = c .before .before .before .before .before .before in
@@ -53,23 +43,18 @@ returns-3 c =
     let d = c .before .before .before .digit in
     sym (u .loop .inv .2 ∙ digits-past (a .most) (u .loop .n) (d .result) (now (a .t)) (u .loop .i) (omega arith) (d .ensures) (omega arith) (omega arith))
 
--- src/lib.rt:76:13
 mul-n : tie.Need-mul-n Inv-loop μ-loop
 mul-n c = omega arith
 
--- src/lib.rt:76:13
 add-n : tie.Need-add-n Inv-loop μ-loop
 add-n c = omega arith
 
--- src/lib.rt:77:9
 add-i : tie.Need-add-i Inv-loop μ-loop
 add-i c = omega arith
 
--- src/lib.rt:65:5
 loop-less : tie.Need-loop-less Inv-loop μ-loop
 loop-less c = omega arith
 
--- src/lib.rt:65:5
 loop-again : tie.Need-loop-again Inv-loop μ-loop
 loop-again c =
     let u = c .before .before .before .before .before .before in
@@ -77,7 +62,6 @@ loop-again c =
     let d = c .before .before .before .digit in
     (omega arith, omega arith, u .loop .inv .2 ∙ digits-step (a .most) (u .loop .n) (d .result) (now (a .t)) (u .loop .i) (omega arith) (d .ensures) (omega arith) (omega arith))
 
--- src/lib.rt:60:1
 returns-4 : tie.Need-returns-4 Inv-loop μ-loop
 returns-4 c =
     let u = c .before in
