@@ -3,5 +3,8 @@ pub mod BookFile
 pub mod Scan
 pub mod ScanLaws
 pub mod HeldLaws
+pub mod BytesLaws
+pub mod CallLaws
 pub mod FileText
+pub mod FileTextLaws
 pub mod BookFileLaws

@@ -1,10 +1,10 @@
 -- Forms of the definitions of BookFile that reading line after line follows; ScanLaws ties each to its definition (document 01, "The book", refusals 5, 6, 7).
-use Prim.Native.Nat.{ℕ, zero, suc, _+_, _*_, _/_, _%_}
+use Prim.Native.Nat.{ℕ, _+_, _*_, _/_, _%_}
 use mathlib.Core.Path.{_≡_}
-use mathlib.Core.Bool.{Bool, true, false, _&&_}
+use mathlib.Core.Bool.{Bool, _&&_}
 use mathlib.Core.List.{List, [], _∷_}
 use mathlib.Core.Option.{Option, none, some}
-use lib.Dec.{eqb, ltb}
+use lib.Dec.{eqb}
 use lib.ListN.{length, getD, set}
 use Rattle.bits.specs.Basics.{pick, every, orElse, unless}
 use Rattle.bits.specs.Codes.{goodEntry}

@@ -1,18 +1,18 @@
 -- Laws of reading a book file line after line. Assumes nothing.
-use Prim.Native.Nat.{ℕ, zero, suc, _+_, _-_, _*_, _/_, _%_, _≤_, _<_}
-use mathlib.Core.Path.{_≡_, refl, sym, ap, _∙_}
-use mathlib.Core.Bool.{Bool, true, false, _&&_, true≢false}
-use mathlib.Core.List.{List, [], _∷_, _++_}
+use Prim.Native.Nat.{ℕ, _+_, _-_, _≤_, _<_}
+use mathlib.Core.Path.{_≡_, refl, sym, _∙_}
+use mathlib.Core.Bool.{Bool, true, false, _&&_}
+use mathlib.Core.List.{List, [], _∷_}
 use mathlib.Core.Option.{Option, none, some}
 use native.Mathlib.Numerals.{add-one}
 use native.Mathlib.Omega.{arith}
-use lib.Dec.{eqb, leb, ltb, lit≤}
-use lib.ListN.{length, take, drop, getD, set, length-set, length-drop, drop-of-length-le}
+use lib.Dec.{eqb, ltb, lit≤}
+use lib.ListN.{length, take, drop, getD, set, length-drop, drop-of-length-le}
 use lib.Seq.{take-all, take-suc, take-suc-set, drop-cons, drop-drop}
-use borrow.Author.Tests.{eqb-true, eqb-false, eq-eqb, ne-eqb, leb-true, leb-false, le-leb, lt-leb, ltb-true}
+use borrow.Author.Tests.{ltb-true}
 use Rattle.bits.specs.Basics.{pick, every, All}
 use Rattle.bits.specs.Codes.{goodEntry}
-use Rattle.text.specs.Text.{comma, lineFeed, numberUpTo, pieces, fieldsOf, linesOf, same}
+use Rattle.text.specs.Text.{comma, lineFeed, fieldsOf, linesOf, same}
 use Rattle.text.specs.Reading.{countBefore, lineBefore}
 use Rattle.text.specs.TextLaws.{number-le, count-le, some-piece, pieces-last, pieces-next, lines-none, lines-open, lines-next}
 use Rattle.book.specs.Book.{bookEntries}

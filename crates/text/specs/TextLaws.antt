@@ -1,18 +1,18 @@
 -- Laws of text: pieces and lines from the front, numbers byte after byte. Assumes nothing.
-use Prim.Native.Nat.{ℕ, zero, suc, _+_, _-_, _*_, _/_, _%_, _≤_, _<_}
+use Prim.Native.Nat.{ℕ, suc, _+_, _-_, _*_, _≤_, _<_}
 use mathlib.Core.Path.{_≡_, refl, sym, ap, _∙_}
 use mathlib.Core.Bool.{Bool, true, false, not, _&&_, true≢false}
 use mathlib.Core.List.{List, [], _∷_, _++_}
 use mathlib.Core.Option.{Option, none, some}
 use native.Mathlib.Numerals.{add-one}
 use native.Mathlib.Omega.{arith}
-use lib.Dec.{eqb, leb, ltb}
+use lib.Dec.{eqb, leb}
 use lib.ListN.{length, take, drop, getD, drop-of-length-le, length-append}
 use lib.Seq.{drop-cons, take-append-seam, drop-append-add}
-use borrow.Author.Tests.{eqb-true, eqb-false, eq-eqb, ne-eqb, leb-true, leb-false, le-leb, lt-leb, ltb-true, ltb-false, lt-ltb, le-ltb}
+use borrow.Author.Tests.{eq-eqb, ne-eqb, leb-true, leb-false, le-leb, lt-leb}
 use Rattle.bits.specs.Basics.{pick, every}
 use Rattle.bits.specs.BasicsLaws.{both-true}
-use Rattle.text.specs.Text.{comma, lineFeed, isDigit, isNumber, valueFrom, numberUpTo, onto, pieces, allEnded, linesOf, fieldsOf, same}
+use Rattle.text.specs.Text.{lineFeed, isDigit, isNumber, valueFrom, numberUpTo, onto, pieces, allEnded, linesOf, same}
 use Rattle.text.specs.Reading.{countBefore, digitOf, digitsFrom, lineBefore, without}
 
 -- ---- tests

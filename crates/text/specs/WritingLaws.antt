@@ -1,17 +1,17 @@
 -- Laws of written text: a decimal number, a line and its fields are read back. Assumes nothing.
 use Prim.Native.Nat.{ℕ, zero, suc, _+_, _-_, _*_, _/_, _%_, _^_, _≤_, _<_}
 use mathlib.Core.Path.{_≡_, refl, sym, ap, _∙_}
-use mathlib.Core.Bool.{Bool, true, false, not, _&&_, true≢false}
-use mathlib.Core.List.{List, [], _∷_, _++_, append-assoc}
-use mathlib.Core.Option.{Option, none, some}
+use mathlib.Core.Bool.{Bool, true, false, not, true≢false}
+use mathlib.Core.List.{List, [], _∷_, _++_}
+use mathlib.Core.Option.{some}
 use native.Mathlib.Nat.{pow-succ'}
 use native.Mathlib.Omega.{arith}
-use lib.Dec.{eqb, leb, ltb}
-use lib.ListN.{length, take, drop, getD, length-append}
+use lib.Dec.{eqb, ltb}
+use lib.ListN.{length, getD, length-append}
 use lib.Seq.{take-append-seam, drop-append-add}
-use borrow.Author.Tests.{eqb-true, leb-true, le-leb, ltb-true, ltb-false, lt-ltb, le-ltb}
+use borrow.Author.Tests.{eqb-true, le-leb, ltb-true, ltb-false}
 use Rattle.bits.specs.Basics.{pick, every, All}
-use Rattle.text.specs.Text.{comma, lineFeed, isDigit, valueFrom, numberUpTo, pieces, linesOf, fieldsOf, digitsBefore, decimal, joined}
+use Rattle.text.specs.Text.{comma, lineFeed, isDigit, valueFrom, numberUpTo, linesOf, fieldsOf, digitsBefore, decimal, joined}
 use Rattle.text.specs.Reading.{countBefore, digitsFrom, lineBefore, without}
 use Rattle.text.specs.TextLaws.{digits-are, number-one, number-more, count-without, pieces-joined, pieces-whole, lines-next}
 

@@ -2,7 +2,7 @@
 use mathlib.Core.Path.{refl, sym, _∙_}
 use borrow.Author.Needs.{needs}
 use denote.Ref.{now}
-use Rattle.book_file.specs.HeldLaws.{unmet-at-first, call-size, call-refused, call-read}
+use Rattle.book_file.specs.CallLaws.{unmet-at-first, call-size, call-refused, call-read}
 use Rattle.book_file.proofs.read_book_file.Statement.{statement}
 use Rattle.book_file.proofs.read_book_file.Tie as tie
 
