@@ -19,7 +19,7 @@ use Rattle.text.specs.TextLaws.{digits-are, number-one, number-more, cou
 digit-is : (d : ℕ) → d < 10 → isDigit (48 + d) ≡ true
 digit-is d h = rw (le-leb 48 (48 + d) (omega arith)) (le-leb (48 + d) 57 (omega arith))
 
-tenth-below : (f n : ℕ) → n < 10 ^ suc f → n / 10 < 10 ^ f
+pub tenth-below : (f n : ℕ) → n < 10 ^ suc f → n / 10 < 10 ^ f
 tenth-below f n h = let e : 10 ^ suc f ≡ 10 * 10 ^ f = pow-succ' 10 f in omega arith
 
 value-before : (f n : ℕ) (t : List ℕ) → n < 10 ^ f → valueFrom 0 (digitsBefore f n t) ≡ valueFrom n t

@@ -2,20 +2,14 @@
 ghost use mathlib.Core.Path.{_≡_};
 ghost use Prim.Native.Nat.{_≤_};
 ghost use lib.ListN.{length};
-ghost use Rattle.text.specs.Text.{isDigit, numberUpTo, same as sameText};
+ghost use Rattle.text.specs.Text.{numberUpTo, decimal, same as sameText};
 ghost use Rattle.text.specs.Reading.{countBefore, digitOf, digitsFrom, numberOf};
+ghost use Rattle.text.specs.Writing.{TextPut};
 
 // What reading a field as a number finds.
 pub enum NumberRead {
     Number(u64),
     NoNumber,
-}
-
-// Whether a byte is one of the ten digits.
-pub fn is_digit(c: u8) -> bool
-    ensures { λ r. ⌜ r ≡ isDigit c ⌝ }
-{
-    if 48 <= c { c <= 57 } else { false }
 }
 
 // How many bytes stand before the first b; all of them where there is none.
@@ -99,4 +93,56 @@ pub fn read_number(t: &[u8], most: u64) -> NumberRead
         return NumberRead::NoNumber;
     }
     read_digits(t, most)
+}
+
+// A text written at a place. The answer is the place behind it; where there is no room it is the place itself, and nothing is written.
+pub fn put_text(out: &mut [u8], at: usize, t: &[u8]) -> usize
+    ensures { λ r. ⌜ TextPut (now (out .entry)) at (now (t .entry)) r (now (out .exit)) ⌝ }
+{
+    if out.len() < at {
+        return at;
+    }
+    if out.len() - at < t.len() {
+        return at;
+    }
+    let mut i = 0;
+    while i < t.len() {
+        out[at + i] = t[i];
+        i += 1;
+    }
+    at + i
+}
+
+// How many decimal digits a number has.
+fn digit_count(n: u64) -> usize
+    ensures { λ r. ⌜ (r ≡ length (decimal n)) × (r ≤ 20) ⌝ }
+{
+    let mut k = 1;
+    let mut m = n;
+    while 9 < m {
+        m /= 10;
+        k += 1;
+    }
+    k
+}
+
+// A number written in decimal at a place, from its last digit to its first; the answer is as for a text.
+pub fn put_decimal(out: &mut [u8], at: usize, n: u64) -> usize
+    ensures { λ r. ⌜ TextPut (now (out .entry)) at (decimal n) r (now (out .exit)) ⌝ }
+{
+    let k = digit_count(n);
+    if out.len() < at {
+        return at;
+    }
+    if out.len() - at < k {
+        return at;
+    }
+    let mut i = at + k;
+    let mut m = n;
+    while at < i {
+        i -= 1;
+        out[i] = 48 + (m % 10) as u8;
+        m /= 10;
+    }
+    at + k
 }
