@@ -8,7 +8,7 @@ use native.Mathlib.Numerals.{add-one}
 use native.Mathlib.Omega.{arith}
 use lib.Dec.{eqb, ltb, lit≤}
 use lib.ListN.{length, take, drop, getD, set, length-drop, drop-of-length-le}
-use lib.Seq.{take-all, take-suc, take-suc-set, drop-cons, drop-drop}
+use lib.Seq.{take-all, drop-cons, drop-drop}
 use borrow.Author.Tests.{ltb-true}
 use Rattle.bits.specs.Basics.{pick, every, All}
 use Rattle.bits.specs.Codes.{goodEntry}
@@ -214,13 +214,6 @@ every-step f t i h = rw (add-one, drop-cons t i 0 h)
 pub every-end : (f : ℕ → Bool) (t : List ℕ) (i : ℕ) → length t ≤ i → every f (drop i t) ≡ true
 unfolding every
 every-end f t i h = rw (drop-of-length-le t h)
-
--- ---- copying
-pub copy-step : (from to : List ℕ) (i : ℕ) → i < length from → i < length to → take i to ≡ take i from → take (i + 1) (set to i (getD from i 0)) ≡ take (i + 1) from
-copy-step from to i h k e = rw (add-one, take-suc-set to i (getD from i 0) k, take-suc from i 0 h, e)
-
-pub copy-end : (from to : List ℕ) (i : ℕ) → length from ≤ i → length to ≤ i → take i to ≡ take i from → to ≡ from
-copy-end from to i h k e = sym (take-all i to k) ∙ e ∙ take-all i from h
 
 -- what a line leaves, from what is put and tested for it
 pub kept-is : (l : Line) (s : Held) (book : List ℕ) (good fine : Bool) → book ≡ withEntry (s .book) (l .entry) (l .long) (l .value)

@@ -174,18 +174,6 @@ fn all_met(met: &[u8]) -> bool
     true
 }
 
-// One slice copied into another of its length.
-fn copy(from: &[u8], to: &mut [u8])
-    requires { ⌜ length (now from) ≡ length (now to) ⌝ }
-    ensures { λ _. ⌜ now (to .exit) ≡ now (from .entry) ⌝ }
-{
-    let mut i = 0;
-    while i < from.len() {
-        to[i] = from[i];
-        i += 1;
-    }
-}
-
 // A file's book read into local bytes: 0 where it is a good one, else the refusal.
 fn read_into(file: &[u8], book: &mut [u8], met: &mut [u8]) -> u8
     requires { ⌜ (length (now book) ≡ 2796) × Unmet (now met) ⌝ }
@@ -216,6 +204,6 @@ pub fn read_book_file(file: &[u8], book: &mut [u8]) -> u8
     if refusal != 0 {
         return refusal;
     }
-    copy(&held, book);
+    text::put_text(book, 0, &held);
     0
 }

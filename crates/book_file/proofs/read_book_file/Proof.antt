@@ -2,6 +2,7 @@
 use mathlib.Core.Path.{refl, sym, _∙_}
 use borrow.Author.Needs.{needs}
 use denote.Ref.{now}
+use Rattle.text.specs.PutLaws.{put-all}
 use Rattle.book_file.specs.CallLaws.{unmet-at-first, call-size, call-refused, call-read}
 use Rattle.book_file.proofs.read_book_file.Statement.{statement}
 use Rattle.book_file.proofs.read_book_file.Tie as tie
@@ -24,12 +25,11 @@ returns-2 c =
     let r = c .before .before .before .read-into in
     call-refused (now (a .file)) (now (a .book)) (c .before .before .before .before .before .before .if1 .left) (r .result) (r .ensures .refusal) (c .if2 .taken)
 
-slice-aggregate-copy : tie.Need-slice-aggregate-copy
-slice-aggregate-copy c = sym (c .before .before .before .before .read-into .kept .1 .0)
+slice-aggregate-put-text : tie.Need-slice-aggregate-put-text
+slice-aggregate-put-text c = sym (c .before .before .before .before .before .read-into .kept .1 .0)
 
-copy-requires : tie.Need-copy-requires
-copy-requires c κs =
-    c .before .before .before .before .before .read-into .kept .1 .0 ∙ sym (c .before .before .before .before .before .before .before .before .if1 .left)
+put-text-requires : tie.Need-put-text-requires
+put-text-requires c κs = tt
 
 same-length : tie.Need-same-length
 same-length c = search needs
@@ -39,7 +39,10 @@ returns-3 c =
     let a = c .before .before .before .before .before .before .before .before .before .before .before .before .before .before .args in
     let r = c .before .before .before .before .before .before .before .before .read-into in
     let none = c .before .before .before .before .before .if2 .left in
-    call-read (now (a .file)) (now (a .book)) (c .before .before .before .before .before .before .before .before .before .before .before .if1 .left) (c .before .before .copy .last .1 .0) (sym none ∙ r .ensures .refusal) (c .before .before .copy .ensures ∙ r .ensures .held none)
+    let size = c .before .before .before .before .before .before .before .before .before .before .before .if1 .left in
+    let p = c .before .before .put-text in
+    let all = put-all (now (a .book)) (r .last .1 .0) (p .result) (p .last .0) (r .kept .1 .0 ∙ sym size) (p .ensures) in
+    call-read (now (a .file)) (now (a .book)) size (p .last .0) (sym none ∙ r .ensures .refusal) (all ∙ r .ensures .held none)
 
 pub read-book-file-spec : {M : Type 1} → statement M
 read-book-file-spec =
@@ -50,7 +53,7 @@ read-book-file-spec =
     slice-aggregate-read-into-2
     read-into-requires
     returns-2
-    slice-aggregate-copy
-    copy-requires
+    slice-aggregate-put-text
+    put-text-requires
     same-length
     returns-3)
