@@ -7,33 +7,33 @@ ghost use lib.Dec.{ltb};
 ghost use lib.ListN.{length};
 ghost use Rattle.bits.specs.Basics.{pick};
 ghost use Rattle.text.specs.Text.{fieldsOf};
-ghost use Rattle.book.specs.Book.{bookRefusal};
+ghost use Rattle.book.specs.Book.{bookEntries, bookBytes};
 ghost use Rattle.book_file.specs.BookFile.{fileTables, entryNamed, lineRead, fileLines};
 ghost use Rattle.book_file.specs.Scan.{Held, Unmet, FileHeld, BookFileRead, entryTold, lineTold, heldTold, codeAt, withEntry, scanned, allMet};
 use bits::inner;
 use text::NumberRead;
 
 // Where a table's position stands in a book.
-pub enum EntryRead {
+enum EntryRead {
     At(usize),
     NoEntry,
 }
 
 // What a line says: an entry of the book, its code's length and value.
-pub enum LineRead {
+enum LineRead {
     Entry(usize, u64, u64),
     Malformed,
 }
 
 // What all lines leave: whether every code was good; or a line malformed or doubled.
-pub enum LinesRead {
+enum LinesRead {
     Whole(bool),
     Refused,
 }
 
 // Position p of the table that starts at entry `from` and has `size` entries.
 fn entry_in(p: u64, from: usize, size: u64) -> EntryRead
-    requires { ⌜ from + size ≤ 932 ⌝ }
+    requires { ⌜ from + size ≤ bookEntries ⌝ }
     ensures { λ r. ⌜ entryTold r ≡ pick (ltb p size) (some (from + p)) none ⌝ }
 {
     if p < size {
@@ -135,7 +135,7 @@ fn both(a: bool, b: bool) -> bool
 
 // Every line of a file: its entry put into the book and marked as met.
 fn read_lines(file: &[u8], book: &mut [u8], met: &mut [u8]) -> LinesRead
-    requires { ⌜ (length (now book) ≡ 2796) × (length (now met) ≡ 932) ⌝ }
+    requires { ⌜ (length (now book) ≡ bookBytes) × (length (now met) ≡ bookEntries) ⌝ }
     ensures { λ r. ⌜ heldTold r (now (book .exit)) (now (met .exit)) ≡ scanned (fileLines (now (file .entry))) (record { book = now (book .entry); met = now (met .entry); good = true }) ⌝ }
 {
     let mut at = 0;
@@ -176,7 +176,7 @@ fn all_met(met: &[u8]) -> bool
 
 // A file's book read into local bytes: 0 where it is a good one, else the refusal.
 fn read_into(file: &[u8], book: &mut [u8], met: &mut [u8]) -> u8
-    requires { ⌜ (length (now book) ≡ 2796) × Unmet (now met) ⌝ }
+    requires { ⌜ (length (now book) ≡ bookBytes) × Unmet (now met) ⌝ }
     ensures { λ r. ⌜ FileHeld (now (file .entry)) r (now (book .exit)) ⌝ }
 {
     let LinesRead::Whole(good) = read_lines(file, book, met) else {

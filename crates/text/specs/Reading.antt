@@ -1,9 +1,11 @@
 -- Forms of the definitions of Text that reading byte after byte follows; TextLaws ties each to its definition (document 01, "The book", the book file).
-use Prim.Native.Nat.{ℕ, suc, _+_, _-_, _*_}
+use Prim.Native.Nat.{ℕ, suc, _+_, _-_, _*_, _≤_}
+use mathlib.Core.Path.{_≡_}
 use mathlib.Core.Bool.{Bool, not, _&&_}
 use mathlib.Core.List.{List, [], _∷_}
 use mathlib.Core.Option.{Option, none, some}
 use lib.Dec.{eqb, leb}
+use lib.ListN.{length}
 use Rattle.bits.specs.Basics.{pick, every}
 use Rattle.text.specs.Text.{isDigit}
 use Rattle.text.specs.declared.NumberRead.{NumberRead}
@@ -13,6 +15,11 @@ use Rattle.text.specs.declared.NumberRead.the-variants.{Number, NoNumber
 unfoldable pub countBefore : ℕ → List ℕ → ℕ
 countBefore b [] = 0
 countBefore b (c ∷ t) = pick (eqb c b) 0 (suc (countBefore b t))
+
+-- what finding a byte promises: how many stand before it, and that they are the text's
+pub record Found (b : ℕ) (t : List ℕ) (r : ℕ) : Type 0 where
+  pub count : r ≡ countBefore b t
+  pub within : r ≤ length t
 
 -- a digit's number, and 10 for any other byte
 abbrev pub digitOf : ℕ → ℕ

@@ -1,12 +1,12 @@
 -- Text put into a lent slice, and forms of the definitions of Text that writing digit after digit follows (document 01, "Refused for the state met", the listing).
-use Prim.Native.Nat.{ℕ, zero, suc, _+_, _/_, _%_}
+use Prim.Native.Nat.{ℕ, zero, suc, _+_, _/_, _%_, _≤_}
 use mathlib.Core.Path.{_≡_}
 use mathlib.Core.Bool.{Bool}
 use mathlib.Core.List.{List, [], _∷_, _++_}
 use lib.Dec.{leb}
 use lib.ListN.{length, take, drop}
 use Rattle.bits.specs.Basics.{pick}
-use Rattle.text.specs.Text.{digitsBefore}
+use Rattle.text.specs.Text.{digitsBefore, decimal}
 
 -- a text put at a place: the bytes before it and behind it stay
 unfoldable pub putText : List ℕ → ℕ → List ℕ → List ℕ
@@ -24,6 +24,11 @@ pub record TextPut (bytes : List ℕ) (at : ℕ) (t : List ℕ) (r : ℕ) (after
 -- how many digits n has, for n below 10^fuel
 abbrev pub digitCount : ℕ → ℕ → ℕ
 digitCount f n = length (digitsBefore f n [])
+
+-- what counting the digits of a number promises
+pub record Counted (n r : ℕ) : Type 0 where
+  pub count : r ≡ length (decimal n)
+  pub most : r ≤ 20
 
 -- the last w digits of n before the text t
 unfoldable pub lastDigits : ℕ → ℕ → List ℕ → List ℕ

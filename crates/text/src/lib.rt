@@ -1,10 +1,8 @@
 // Text in lent byte slices: decimal numbers, fields and lines.
 ghost use mathlib.Core.Path.{_≡_};
-ghost use Prim.Native.Nat.{_≤_};
-ghost use lib.ListN.{length};
 ghost use Rattle.text.specs.Text.{numberUpTo, decimal, same as sameText};
-ghost use Rattle.text.specs.Reading.{countBefore, digitOf, digitsFrom, numberOf};
-ghost use Rattle.text.specs.Writing.{TextPut};
+ghost use Rattle.text.specs.Reading.{Found, digitOf, digitsFrom, numberOf};
+ghost use Rattle.text.specs.Writing.{TextPut, Counted};
 
 // What reading a field as a number finds.
 pub enum NumberRead {
@@ -14,7 +12,7 @@ pub enum NumberRead {
 
 // How many bytes stand before the first b; all of them where there is none.
 pub fn find(t: &[u8], b: u8) -> usize
-    ensures { λ r. ⌜ (r ≡ countBefore b (now (t .entry))) × (r ≤ length (now (t .entry))) ⌝ }
+    ensures { λ r. ⌜ Found b (now (t .entry)) r ⌝ }
 {
     let mut i = 0;
     while i < t.len() {
@@ -115,7 +113,7 @@ pub fn put_text(out: &mut [u8], at: usize, t: &[u8]) -> usize
 
 // How many decimal digits a number has.
 fn digit_count(n: u64) -> usize
-    ensures { λ r. ⌜ (r ≡ length (decimal n)) × (r ≤ 20) ⌝ }
+    ensures { λ r. ⌜ Counted n r ⌝ }
 {
     let mut k = 1;
     let mut m = n;

@@ -20,7 +20,7 @@ find-requires c κs = search needs
 returns : tie.Need-returns
 returns c =
     let a = c .before .before .before .args in
-    sym (code-short (some (a .e)) (now (a .t)) (c .before .find .result) (c .before .find .ensures .0) (omega arith))
+    sym (code-short (some (a .e)) (now (a .t)) (c .before .find .result) (c .before .find .ensures .count) (omega arith))
 
 add-next : tie.Need-add-next
 add-next c = search needs
@@ -41,12 +41,12 @@ returns-2 : tie.Need-returns-2
 returns-2 c =
     let f = c .before .before .before .before in
     let a = f .before .before .args in
-    sym (code-long (some (a .e)) (now (a .t)) (f .find .result) (c .before .find2 .result) (f .find .ensures .0) (omega arith) (c .before .find2 .ensures .0) (c .if2 .taken))
+    sym (code-long (some (a .e)) (now (a .t)) (f .find .result) (c .before .find2 .result) (f .find .ensures .count) (omega arith) (c .before .find2 .ensures .count) (c .if2 .taken))
 
 slice-aggregate-read-number : tie.Need-slice-aggregate-read-number
 slice-aggregate-read-number c =
     let f = c .before .before .before .before .before in
-    sym (length-take-le (f .find .result) (now (f .before .before .args .t)) (f .find .ensures .1))
+    sym (length-take-le (f .find .result) (now (f .before .before .args .t)) (f .find .ensures .within))
 
 read-number-requires : tie.Need-read-number-requires
 read-number-requires c κs = search needs
@@ -67,7 +67,7 @@ two : (c : tie.Else2) →
 two c =
     let f = c .before .before .before .before in
     let a = f .before .before .args in
-    code-two (some (a .e)) (now (a .t)) (f .find .result) (c .before .find2 .result) (f .find .ensures .0) (omega arith) (c .before .find2 .ensures .0) (c .if2 .left)
+    code-two (some (a .e)) (now (a .t)) (f .find .result) (c .before .find2 .result) (f .find .ensures .count) (omega arith) (c .before .find2 .ensures .count) (c .if2 .left)
 
 returns-3 : tie.Need-returns-3
 returns-3 c = sym (two (c .before .before .before .before) ∙ rw (← c .before .before .read-number .ensures, c .enum-told .given .1))

@@ -19,7 +19,7 @@ find-requires c κs = search needs
 returns : tie.Need-returns
 returns c =
     let a = c .before .before .before .args in
-    sym (line-short (now (a .t)) (c .before .find .result) (c .before .find .ensures .0) (omega arith))
+    sym (line-short (now (a .t)) (c .before .find .result) (c .before .find .ensures .count) (omega arith))
 
 add-next : tie.Need-add-next
 add-next c = search needs
@@ -43,15 +43,15 @@ named : (c : tie.Else1) →
     lineRead (fieldsOf t) ≡ placeAt (take (f .find .result) t) (fieldsOf (partFrom (f .find .result + 1) t))
 named c =
     let f = c .before in
-    line-first (now (f .before .before .args .t)) (f .find .result) (f .find .ensures .0) (omega arith)
+    line-first (now (f .before .before .args .t)) (f .find .result) (f .find .ensures .count) (omega arith)
 
 returns-2 : tie.Need-returns-2
-returns-2 c = sym (named (c .before .before .before) ∙ place-short _ _ (c .before .find2 .result) (c .before .find2 .ensures .0) (omega arith))
+returns-2 c = sym (named (c .before .before .before) ∙ place-short _ _ (c .before .find2 .result) (c .before .find2 .ensures .count) (omega arith))
 
 slice-aggregate-read-number : tie.Need-slice-aggregate-read-number
 slice-aggregate-read-number c =
     let f = c .before .before in
-    sym (length-take-le (f .find2 .result) _ (f .find2 .ensures .1))
+    sym (length-take-le (f .find2 .result) _ (f .find2 .ensures .within))
 
 read-number-requires : tie.Need-read-number-requires
 read-number-requires c κs = search needs
@@ -65,12 +65,12 @@ enum-told c = search needs
 returns-3 : tie.Need-returns-3
 returns-3 c =
     let f = c .before .before .before .before .before in
-    sym (named (f .before .before) ∙ place-none _ _ (f .find2 .result) (f .find2 .ensures .0) (omega arith) (rw (← c .before .before .read-number .ensures, c .enum-told .given .1)))
+    sym (named (f .before .before) ∙ place-none _ _ (f .find2 .result) (f .find2 .ensures .count) (omega arith) (rw (← c .before .before .read-number .ensures, c .enum-told .given .1)))
 
 slice-aggregate-entry-named : tie.Need-slice-aggregate-entry-named
 slice-aggregate-entry-named c =
     let f = c .before .before .before .before .before .before .before .before .before .before in
-    sym (length-take-le (f .find .result) (now (f .before .before .args .t)) (f .find .ensures .1))
+    sym (length-take-le (f .find .result) (now (f .before .before .args .t)) (f .find .ensures .within))
 
 entry-named-requires : tie.Need-entry-named-requires
 entry-named-requires c κs = search needs
@@ -85,7 +85,7 @@ returns-4 : tie.Need-returns-4
 returns-4 c =
     let p = c .before .before .before .before .before in
     let f = p .before .before .before .before .before in
-    sym (named (f .before .before) ∙ place-none _ _ (f .find2 .result) (f .find2 .ensures .0) (omega arith) (rw (← p .before .before .read-number .ensures, p .p .given .1, ← c .before .before .entry-named .ensures, c .enum-told2 .given .1)))
+    sym (named (f .before .before) ∙ place-none _ _ (f .find2 .result) (f .find2 .ensures .count) (omega arith) (rw (← p .before .before .read-number .ensures, p .p .given .1, ← c .before .before .entry-named .ensures, c .enum-told2 .given .1)))
 
 add-last : tie.Need-add-last
 add-last c = search needs
@@ -107,7 +107,7 @@ returns-5 c =
     let e = c .before .before .before in
     let p = e .before .before .before .before .before in
     let f = p .before .before .before .before .before in
-    c .read-code .ensures ∙ sym (named (f .before .before) ∙ place-first _ _ (f .find2 .result) (f .find2 .ensures .0) (omega arith) ∙ rw (← p .before .before .read-number .ensures, p .p .given .1, ← e .before .before .entry-named .ensures, e .e .given .1))
+    c .read-code .ensures ∙ sym (named (f .before .before) ∙ place-first _ _ (f .find2 .result) (f .find2 .ensures .count) (omega arith) ∙ rw (← p .before .before .read-number .ensures, p .p .given .1, ← e .before .before .entry-named .ensures, e .e .given .1))
 
 pub read-line-spec : {M : Type 1} → statement M
 read-line-spec =

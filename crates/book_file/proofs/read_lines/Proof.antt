@@ -62,9 +62,9 @@ more : (d : tie.After-known-told Inv-loop μ-loop) →
 more d =
     let u = head d in
     let f = d .before .before .before .before .before .before in
-    let rest : bytes d < length (partFrom (u .loop .at) (file u)) = omega (arith, d .before .before .before .before .before .if1 .left, f .find .ensures .1) in
+    let rest : bytes d < length (partFrom (u .loop .at) (file u)) = omega (arith, d .before .before .before .before .before .if1 .left, f .find .ensures .within) in
     sym (u .loop .inv .3)
-    ∙ ap (λ (o : Option (List Line)). scanned o (state u)) (file-line (file u) (u .loop .at) (bytes d) (f .find .ensures .0) rest (line d) (told d))
+    ∙ ap (λ (o : Option (List Line)). scanned o (state u)) (file-line (file u) (u .loop .at) (bytes d) (f .find .ensures .count) rest (line d) (told d))
     ∙ scan-step (line d) (fileLines (drop (u .loop .at + (bytes d + 1)) (file u))) (state u)
 
 loop-holds : tie.Need-loop-holds Inv-loop μ-loop
@@ -91,10 +91,10 @@ same-length-2 c = c .before .before .before .before .loop .inv .2
 returns : tie.Need-returns Inv-loop μ-loop
 returns c =
     let u = c .before .before .before .before in
-    sym (sym (u .loop .inv .3) ∙ rw (file-open (file u) (u .loop .at) (c .before .find .result) (c .before .before .before .loop-test .taken) (c .before .find .ensures .0) (omega arith)))
+    sym (sym (u .loop .inv .3) ∙ rw (file-open (file u) (u .loop .at) (c .before .find .result) (c .before .before .before .loop-test .taken) (c .before .find .ensures .count) (omega arith)))
 
 slice-aggregate-read-line : tie.Need-slice-aggregate-read-line Inv-loop μ-loop
-slice-aggregate-read-line c = sym (length-take-le (c .before .before .find .result) _ (c .before .before .find .ensures .1))
+slice-aggregate-read-line c = sym (length-take-le (c .before .before .find .result) _ (c .before .before .find .ensures .within))
 
 read-line-requires : tie.Need-read-line-requires Inv-loop μ-loop
 read-line-requires c κs = tt
@@ -115,8 +115,8 @@ returns-2 : tie.Need-returns-2 Inv-loop μ-loop
 returns-2 c =
     let u = c .before .before .before .before .before .before .before .before in
     let f = c .before .before .before .before .before in
-    let rest : f .find .result < length (partFrom (u .loop .at) (file u)) = omega (arith, c .before .before .before .before .if1 .left, f .find .ensures .1) in
-    sym (sym (u .loop .inv .3) ∙ rw (file-bad (file u) (u .loop .at) (f .find .result) (f .find .ensures .0) rest (sym (c .before .before .read-line .ensures) ∙ ap lineTold (c .enum-told .given .1))))
+    let rest : f .find .result < length (partFrom (u .loop .at) (file u)) = omega (arith, c .before .before .before .before .if1 .left, f .find .ensures .within) in
+    sym (sym (u .loop .inv .3) ∙ rw (file-bad (file u) (u .loop .at) (f .find .result) (f .find .ensures .count) rest (sym (c .before .before .read-line .ensures) ∙ ap lineTold (c .enum-told .given .1))))
 
 slice-read-if2 : tie.Need-slice-read-if2 Inv-loop μ-loop
 slice-read-if2 c = omega (arith, fits (c .before) .entry-below, head (c .before) .loop .inv .2, head (c .before) .before .before .before .before .pre)
@@ -163,7 +163,7 @@ loop-again c =
     let rest : length (partFrom (u .loop .at) (file u)) ≡ length (file u) - u .loop .at = omega (arith, length-part (u .loop .at) (file u)) in
     let same = kept-is (line d) (state u) (c .before .before .before .before .put-entry .last .0) (c .both .result) (c .before .good-entry .result)
     (c .before .before .before .before .put-entry .ensures) (c .both .ensures) (c .before .good-entry .ensures) in (
-      omega (arith, d .before .before .before .before .before .if1 .left, f .find .ensures .1, rest, u .loop .inv .0),
+      omega (arith, d .before .before .before .before .before .if1 .left, f .find .ensures .within, rest, u .loop .inv .0),
       c .before .before .before .before .put-entry .kept .0 ∙ u .loop .inv .1,
       simp length-set (u .loop .inv .2),
       rw same (sym (more d ∙ rw (eq-eqb (getD (u .loop .met) (line d .entry) 0) 0 (c .before .before .before .before .before .before .if2 .left)))),

@@ -41,7 +41,7 @@ returns c =
     let k : ℕ = u .loop .k in
     let e : 21 - k ≡ suc (20 - k) = omega arith in
     let count : k + digitCount (suc (20 - k)) (u .loop .m) ≡ 1 + digitCount 20 (u .before .args .n) = rw e at (u .loop .inv .3) in
-    (omega (arith, count, count-last (20 - k) (u .loop .m) (omega arith)), omega arith)
+    record { count = omega (arith, count, count-last (20 - k) (u .loop .m) (omega arith)); most = omega arith }
 
 pub digit-count-spec : {M : Type 1} → statement M
 digit-count-spec =

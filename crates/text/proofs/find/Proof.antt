@@ -25,7 +25,7 @@ returns : tie.Need-returns Inv-loop μ-loop
 returns c =
     let u = c .before .before .before in
     let s = u .before in
-    (omega (arith, count-here (s .args .b) (now (s .args .t)) (u .loop .i) (omega arith) (c .if1 .taken)), omega arith)
+    record { count = omega (arith, count-here (s .args .b) (now (s .args .t)) (u .loop .i) (omega arith) (c .if1 .taken)); within = omega arith }
 
 add-i : tie.Need-add-i Inv-loop μ-loop
 add-i c = omega arith
@@ -43,7 +43,7 @@ returns-2 : tie.Need-returns-2 Inv-loop μ-loop
 returns-2 c =
     let u = c .before in
     let s = u .before in
-    (omega (arith, count-end (s .args .b) (now (s .args .t)) (u .loop .i) (omega arith)), omega arith)
+    record { count = omega (arith, count-end (s .args .b) (now (s .args .t)) (u .loop .i) (omega arith)); within = omega arith }
 
 pub find-spec : {M : Type 1} → statement M
 find-spec =

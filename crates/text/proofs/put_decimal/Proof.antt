@@ -24,14 +24,14 @@ digit-count-requires c κs = search needs
 
 returns : tie.Need-returns Inv-loop μ-loop
 returns c =
-    let a = c .before .before .before .args in put-none (now (a .out)) (a .at) (decimal (a .n)) (omega (arith, c .before .digit-count .ensures .0))
+    let a = c .before .before .before .args in put-none (now (a .out)) (a .at) (decimal (a .n)) (omega (arith, c .before .digit-count .ensures .count))
 
 sub-if2 : tie.Need-sub-if2 Inv-loop μ-loop
 sub-if2 c = search needs
 
 returns-2 : tie.Need-returns-2 Inv-loop μ-loop
 returns-2 c =
-    let a = c .before .before .before .before .args in put-none (now (a .out)) (a .at) (decimal (a .n)) (omega (arith, c .before .before .digit-count .ensures .0))
+    let a = c .before .before .before .before .args in put-none (now (a .out)) (a .at) (decimal (a .n)) (omega (arith, c .before .before .digit-count .ensures .count))
 
 add-i : tie.Need-add-i Inv-loop μ-loop
 add-i c = search needs
@@ -81,7 +81,7 @@ returns-3 : tie.Need-returns-3 Inv-loop μ-loop
 returns-3 c =
     let u = c .before in
     let a = u .before .before .before .before .before .args in
-    let k = u .before .before .before .digit-count .ensures .0 in
+    let k = u .before .before .before .digit-count .ensures .count in
     let room : a .at + length (decimal (a .n)) ≤ length (now (a .out)) = omega (arith, k) in
     rw k (digits-end (now (a .out)) (a .at) (a .n) (u .loop .i) (u .loop .m) (u .loop .out) room (omega arith) (u .loop .inv .3) (rw k at (u .loop .inv .4)))
 
