@@ -1,12 +1,16 @@
 -- Laws of the words that every crate's definitions share.
-use Prim.Native.Nat.{ℕ, _<_}
-use mathlib.Core.Path.{_≡_, refl, sym}
+use Prim.Native.Nat.{ℕ, zero, suc, _+_, _<_}
+use mathlib.Core.Path.{_≡_, refl, sym, ap, _∙_}
 use mathlib.Core.Bool.{Bool, true, false, _&&_, _||_, true≢false}
+use mathlib.Core.List.{[], _∷_, _++_}
+use native.Mathlib.Nat.{add-zero, not-suc-le-zero, le-of-suc-le-suc}
 use native.Mathlib.Omega.{arith}
 use lib.Dec.{eqb}
+use lib.ListN.{length, getD}
 use borrow.Author.Tests.{eq-eqb, ne-eqb, eqb-true, eqb-false}
-use Rattle.bits.specs.Basics.{orElse, unless}
+use Rattle.bits.specs.Basics.{orElse, unless, valuesFrom}
 
+-- ---- tests
 pub both-true : (a b : Bool) → (a && b) ≡ true → (a ≡ true) × (b ≡ true)
 both-true true b e = (refl, e)
 both-true false b e = absurd (true≢false (sym e))
@@ -40,3 +44,26 @@ or-none a b h = go (eqb a 0) refl
 pub unless-none : (b : Bool) (n : ℕ) → 0 < n → unless b n ≡ 0 → b ≡ true
 unless-none true n h e = refl
 unless-none false n h e = absurd (omega arith)
+
+-- ---- the values f j, f (j + 1), ..
+pub length-values : {A : Type 0} (f : ℕ → A) (n j : ℕ) → length (valuesFrom f n j) ≡ n
+unfolding valuesFrom
+length-values f zero j = refl
+length-values f (suc n) j = ap suc (length-values f n (suc j))
+
+-- each by its place
+pub value-at : {A : Type 0} (f : ℕ → A) (n j i : ℕ) (d : A) → i < n → getD (valuesFrom f n j) i d ≡ f (j + i)
+unfolding valuesFrom
+value-at f zero j i d h = absurd (not-suc-le-zero h)
+value-at f (suc n) j zero d h = rw (add-zero j)
+value-at f (suc n) j (suc i) d h =
+    let e : suc j + i ≡ j + suc i = omega arith in
+    value-at f n (suc j) i d (le-of-suc-le-suc h) ∙ ap f e
+
+-- one more
+pub values-more : {A : Type 0} (f : ℕ → A) (n j : ℕ) → valuesFrom f (suc n) j ≡ valuesFrom f n j ++ (f (j + n) ∷ [])
+unfolding valuesFrom
+values-more f zero j = rw (add-zero j)
+values-more f (suc n) j =
+    let e : suc j + n ≡ j + suc n = omega arith in
+    ap (_∷_ (f j)) (values-more f n (suc j) ∙ ap (λ (k : ℕ). valuesFrom f n (suc j) ++ (f k ∷ [])) e)

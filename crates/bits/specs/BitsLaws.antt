@@ -83,6 +83,7 @@ laid-laid bs xs ys at h =
     let hl : at + length (xs ++ ys) ≡ m = rw length-append (omega arith) in
     rw (ht, hd, hl) (simp append-assoc)
 
+-- no bits change nothing
 pub put-nil : (bs : List ℕ) (at : ℕ) → putBits bs at [] ≡ bs
 unfolding putBits afterBits
 put-nil bs at = take-append-drop at bs
@@ -108,6 +109,7 @@ byte-bits b r n z v hv =
     let hz : msb z (v * 2 ^ z) ≡ replicate z 0 = ap (msb z) (sym (add-zero (v * 2 ^ z))) ∙ msb-low z v 0 ∙ msb-zero z in
     rw (msb-split r (n + z), high (b / 2 ^ (n + z)) (n + z) lo, msb-low (n + z), msb-split n z, shl-shr v z, hz)
 
+-- such a byte in a list of bytes is n bits put at bit r of it
 pub put-byte : (p t : List ℕ) (b r n z v : ℕ) → r + (n + z) ≡ 8 → 0 < n → v < 2 ^ n
     → bitsOf (p ++ (b / 2 ^ (n + z) * 2 ^ (n + z) + v * 2 ^ z) ∷ t) ≡ putBits (bitsOf (p ++ b ∷ t)) (8 * length p + r) (msb n v)
 unfolding bitsOf
@@ -145,6 +147,7 @@ put-set s q r n z v hq e h hv =
     rw (hp, ← split-at s q 0 hq) in
     rw (set-split s q _ hq) (put-byte p (drop (suc q) s) (getD s q 0) r n z v e h hv ∙ k)
 
+-- only a number's low bits count
 pub msb-mod : (n x : ℕ) → msb n (x % 2 ^ n) ≡ msb n x
 msb-mod n x = sym (msb-low n (x / 2 ^ n) (x % 2 ^ n)) ∙ ap (msb n) (split x n)
 
@@ -160,6 +163,14 @@ put-more bs at w l n v hn hl h =
     let one : putBits (putBits bs at X) (at + (w - l)) Y ≡ putBits bs at (X ++ Y) =
     subst (λ (m : ℕ). putBits (putBits bs at X) (at + m) Y ≡ putBits bs at (X ++ Y)) (length-msb (w - l) (v / 2 ^ l)) (put-put bs X Y at h) in
     rw (msb-mod n (v / 2 ^ (l - n)), two) one
+
+-- a turn of writing w bits of v: l were left, and the next n of them are put at bit p
+pub put-turn : (bs out next : List ℕ) (at w l n v p part : ℕ) → n ≤ l → l ≤ w → at ≤ length bs → p + l ≡ at + w
+    → out ≡ putBits bs at (msb (w - l) (v / 2 ^ l)) → part ≡ v / 2 ^ (l - n) % 2 ^ n → next ≡ putBits out p (msb n part)
+    → next ≡ putBits bs at (msb (w - (l - n)) (v / 2 ^ (l - n)))
+put-turn bs out next at w l n v p part hn hl h hp before now-part written =
+    let here : p ≡ at + (w - l) = omega arith in
+    written ∙ rw (now-part, here, before) (put-more bs at w l n v hn hl h)
 
 -- the sum of a byte's high bits and lower ones is a byte
 pub byte-lt : (b k x : ℕ) → b < 256 → k ≤ 8 → x < 2 ^ k → b / 2 ^ k * 2 ^ k + x < 256
@@ -189,6 +200,7 @@ pub take-put : (bs xs : List ℕ) (at : ℕ) → at ≤ length bs → take at (p
 unfolding putBits
 take-put bs xs at h = take-at (take at bs) _ at (length-take-le at bs h)
 
+-- then come xs
 pub drop-put : (bs xs : List ℕ) (at : ℕ) → at ≤ length bs → drop at (putBits bs at xs) ≡ xs ++ afterBits bs at xs
 unfolding putBits
 drop-put bs xs at h = drop-at (take at bs) _ at (length-take-le at bs h)
@@ -209,3 +221,7 @@ put-length bs (x ∷ xs) at w h =
     let n : ℕ = at + length (x ∷ xs) in
     let whole : byteEnd n ≤ length bs = omega arith in
     simp (length-append, length-take-le at bs (omega arith), length-replicate, length-drop) (omega arith)
+
+-- the bits of a list of bytes are whole bytes
+pub bits-whole : (s : List ℕ) → length (bitsOf s) % 8 ≡ 0
+bits-whole s = rw length-bitsOf (omega arith)

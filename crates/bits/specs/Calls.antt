@@ -81,6 +81,7 @@ tableRefusal t = orElse (unless (eqb (length t % 3) 0) 5) (unless (goodTable t) 
 pub record Put (refusal : ℕ) (out : List ℕ) (at : ℕ) (xs : List ℕ) (r : Pushed) (left : List ℕ) : Type 0 where
   pub answer : pushedAnswer r ≡ unlessRefused refusal (done (at + length xs))
   pub bits : bitsOf left ≡ pick (eqb refusal 0) (putBits (bitsOf out) at xs) (bitsOf out)
+  pub untouched : (refusal ≡ 0 → ⊥) → left ≡ out
 
 -- the number that the w bits from bit `at` on stand for
 unfoldable pub bitsAt : List ℕ → ℕ → ℕ → Answer Read

@@ -78,8 +78,8 @@ answer-given n a e = rw (eq-eqb n 0 e)
 
 pub put-refused : (n m : ℕ) (out : List ℕ) (at : ℕ) (xs : List ℕ) → m ≡ n → (m ≡ 0 → ⊥) → Put n out at xs (Refused m) out
 put-refused n m out at xs e h =
-    record { answer = answer-refused n m (done (at + length xs)) e h; bits = rw (← e, ne-eqb m 0 h) }
+    record { answer = answer-refused n m (done (at + length xs)) e h; bits = rw (← e, ne-eqb m 0 h); untouched = λ _. refl }
 
 pub put-done : (n : ℕ) (out : List ℕ) (at : ℕ) (xs left : List ℕ) (next : ℕ) → n ≡ 0 → next ≡ at + length xs → bitsOf left ≡ putBits (bitsOf out) at xs
     → Put n out at xs (Next next) left
-put-done n out at xs left next e h b = record { answer = rw (eq-eqb n 0 e, h); bits = rw (eq-eqb n 0 e) b }
+put-done n out at xs left next e h b = record { answer = rw (eq-eqb n 0 e, h); bits = rw (eq-eqb n 0 e) b; untouched = λ no. absurd (no e) }

@@ -4,11 +4,12 @@ use mathlib.Core.Path.{_≡_, refl, sym, ap, _∙_, subst}
 use mathlib.Core.Bool.{Bool, true, false, not, _&&_, true≢false}
 use mathlib.Core.List.{List, [], _∷_, _++_}
 use native.Mathlib.Numerals.{add-one}
+use native.Mathlib.Decide.{decLt}
 use native.Mathlib.Omega.{arith}
 use native.Mathlib.Nat.{not-suc-le-zero, le-of-suc-le-suc, mod-eq-of-lt}
 use lib.Dec.{eqb, leb, ltb}
 use lib.Pow.{shr-lt}
-use lib.ListN.{length, take, drop, getD, length-append, drop-of-length-le}
+use lib.ListN.{length, take, drop, getD, length-append, drop-of-length-le, List·getD-eq-default}
 use lib.Seq.{take-at, take-nil, drop-nil, drop-cons}
 use borrow.Author.Tests.{eqb-true, eq-eqb, eqb-false, ne-eqb, not-true, leb-true, ltb-true}
 use Rattle.bits.specs.BasicsLaws.{both-true, is-false}
@@ -102,6 +103,10 @@ code-at (h ∷ l ∷ n ∷ t) (suc k) lt =
     let e2 : 3 * suc k + 2 ≡ suc (suc (suc (3 * k + 2))) = omega arith in
     rw (e2, e1, e) (code-at t k (omega arith))
 
+-- a code is as long as its entry says
+pub code-length : (t : List ℕ) (k : ℕ) → k < length t / 3 → length (code (codesOf t) k) ≡ codeLen t k
+code-length t k h = rw (code-at t k h) (length-msb (codeLen t k) (codeVal t k))
+
 -- ---- prefix-freeness
 pub apart-at : (c : List ℕ) (cs : List (List ℕ)) (k : ℕ) → k < length cs → apart c cs ≡ true → clash c (code cs k) ≡ false
 unfolding apart
@@ -186,7 +191,15 @@ good-whole (h ∷ l ∷ n ∷ t) e = omega (arith, good-whole t (both-true (good
 pub code-fits : (t : List ℕ) → goodTable t ≡ true → (k : ℕ) → k < length (codesOf t) → length (code (codesOf t) k) ≤ 32
 code-fits t g k h =
     let l : k < length t / 3 = rw length-codesOf at h in
-    rw (code-at t k l, length-msb) (good-is t g .long k l)
+    rw (code-length t k l) (good-is t g .long k l)
+
+-- also where there is no code
+pub code-most : (t : List ℕ) → goodTable t ≡ true → (k : ℕ) → length (code (codesOf t) k) ≤ 32
+code-most t g k =
+    elim (decLt k (length (codesOf t))) [
+      | yes h ↦ code-fits t g k h
+      | no h ↦ rw (List·getD-eq-default (codesOf t) [] {n = k} (omega arith)) (omega arith)
+    ]
 
 -- whole entries taken from either end of a good table are a good table
 pub good-take : (t : List ℕ) (n : ℕ) → goodTable t ≡ true → goodTable (take (3 * n) t) ≡ true

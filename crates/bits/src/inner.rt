@@ -19,7 +19,7 @@ fn byte_with(b: u8, k: u32, z: u32, v: u32) -> u8
     ((w >> k << k) + (v << z)) as u8
 }
 
-// n bits of v from bit `at` on, all in one byte, whose bits after them become 0.
+// The n bits of v from bit `at` on, all in one byte, whose bits behind them become 0.
 fn put_part(out: &mut [u8], at: usize, n: u32, v: u32)
     requires { ⌜ (0 < n) × (at % 8 + n ≤ 8) × (at / 8 < length (now out)) × (v < 2 ^ n) ⌝ }
     ensures { λ _. ⌜ bitsOf (now (out .exit)) ≡ putBits (bitsOf (now (out .entry))) at (msb n v) ⌝ }
@@ -29,13 +29,13 @@ fn put_part(out: &mut [u8], at: usize, n: u32, v: u32)
     out[q] = byte_with(out[q], n + z, z, v);
 }
 
-pub fn lesser(a: u32, b: u32) -> u32
+fn lesser(a: u32, b: u32) -> u32
     ensures { λ r. ⌜ r ≡ min a b ⌝ }
 {
     if a < b { a } else { b }
 }
 
-// n bits of value, from bit `down` up.
+// The n bits of `value` from bit `down` up, bit 0 being the lowest.
 fn part_of(value: u32, down: u32, n: u32) -> u32
     requires { ⌜ (down < 32) × (n ≤ 8) ⌝ }
     ensures { λ r. ⌜ r ≡ value / 2 ^ down % 2 ^ n ⌝ }
@@ -43,7 +43,7 @@ fn part_of(value: u32, down: u32, n: u32) -> u32
     (value >> down) % (1u32 << n)
 }
 
-// The low `width` bits of `value`, highest first, from bit `at` on; the bits after them in the last byte become 0.
+// The low `width` bits of `value`, highest first, from bit `at` on; the bits behind them in the last byte become 0.
 pub fn put_bits(out: &mut [u8], at: usize, width: u32, value: u32) -> usize
     requires { ⌜ (width ≤ 32) × Fits (length (now out)) at width ⌝ }
     ensures { λ r. ⌜ Wrote (now (out .entry)) at (msb width value) r (now (out .exit)) ⌝ }
@@ -81,6 +81,7 @@ pub fn get_bits(s: &[u8], at: usize, n: u32) -> u32
     acc
 }
 
+// The number `acc` with the k bits of `part` put behind it.
 fn joined(acc: u32, k: u32, part: u32) -> u32
     requires { ⌜ (k ≤ 8) × (acc * 2 ^ k + part < 2 ^ 32) ⌝ }
     ensures { λ r. ⌜ r ≡ acc * 2 ^ k + part ⌝ }
@@ -96,6 +97,7 @@ fn begins_bits(x: u64, a: u32, y: u64, b: u32) -> bool
     if a <= b { y >> (b - a) == x } else { false }
 }
 
+// The length that entry i of a table names.
 pub fn entry_len(t: &[u8], i: usize) -> u32
     requires { ⌜ i < length (now t) / 3 ⌝ }
     ensures { λ r. ⌜ r ≡ codeLen (now (t .entry)) i ⌝ }
@@ -103,6 +105,7 @@ pub fn entry_len(t: &[u8], i: usize) -> u32
     t[3 * i + 2] as u32
 }
 
+// The code value of entry i.
 pub fn entry_val(t: &[u8], i: usize) -> u64
     requires { ⌜ i < length (now t) / 3 ⌝ }
     ensures { λ r. ⌜ r ≡ codeVal (now (t .entry)) i ⌝ }
@@ -151,7 +154,7 @@ fn window(s: &[u8], at: usize) -> u32
     if left < 32 { left as u32 } else { 32 }
 }
 
-// The code of the table that stands at bit `at`.
+// The first code of the table that stands at bit `at`.
 pub fn read_code(s: &[u8], at: usize, table: &[u8]) -> CodeRead
     requires { ⌜ Fits (length (now s)) at 0 × (goodTable (now table) ≡ true) ⌝ }
     ensures { λ r. ⌜ r ≡ readCode (codesOf (now (table .entry))) (bitsOf (now (s .entry))) at ⌝ }
@@ -168,7 +171,7 @@ pub fn read_code(s: &[u8], at: usize, table: &[u8]) -> CodeRead
     CodeRead::NoCode
 }
 
-// The code of entry k of the table is written.
+// The code of entry k, from bit `at` on.
 pub fn put_code(out: &mut [u8], at: usize, table: &[u8], k: usize) -> usize
     requires { ⌜ GoodEntry (now table) k × Fits (length (now out)) at (codeLen (now table) k) ⌝ }
     ensures { λ r. ⌜ Wrote (now (out .entry)) at (code (codesOf (now (table .entry))) k) r (now (out .exit)) ⌝ }

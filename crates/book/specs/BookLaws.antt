@@ -1,20 +1,21 @@
 -- Laws of the book: what a book that passes holds. Upper layers cite good-book.
 use Prim.Native.Nat.{ℕ, zero, suc, _+_, _-_, _*_, _/_, _≤_, _<_}
 use mathlib.Core.Path.{_≡_, refl, sym, ap, _∙_}
-use mathlib.Core.Bool.{Bool, true, false, _&&_}
+use mathlib.Core.Bool.{true, _&&_}
 use mathlib.Core.List.{List, [], _∷_, _++_}
 use native.Mathlib.Omega.{arith}
 use native.Mathlib.Nat.{not-suc-le-zero, le-of-suc-le-suc, zero-add}
 use native.Mathlib.Numerals.{add-one}
 use lib.Dec.{eqb}
 use lib.ListN.{length, take, drop, getD, replicate, length-drop, getD-replicate, drop-of-length-le}
-use lib.Seq.{take-nil, take-append-add, getD-append-add, take-take, drop-nil, drop-drop, drop-cons, length-take-le}
-use borrow.Author.Tests.{eqb-true, eq-eqb}
-use Rattle.bits.specs.Basics.{pick, orElse, unless}
+use lib.Seq.{take-nil, take-append-add, getD-append-add, take-take, drop-drop, drop-cons, length-take-le}
+use borrow.Author.Tests.{eqb-true}
+use Rattle.bits.specs.Basics.{unless}
 use Rattle.bits.specs.BasicsLaws.{both-true, or-none, unless-none}
-use Rattle.bits.specs.Codes.{codesOf, goodTable, prefixFree}
-use Rattle.bits.specs.CodesLaws.{length-codesOf, good-take, good-drop}
-use Rattle.book.specs.Book.{bookBytes, codebookBytes, entries, modeTable, vectorTable, meanTable, stageFamily, stageTable, codeTableSizes, eachPrefixFree, codesRefusal, bookRefusal, dataRefusal}
+use Rattle.bits.specs.Codes.{code, codesOf, goodTable, prefixFree}
+use Rattle.bits.specs.Inner.{GoodEntry}
+use Rattle.bits.specs.CodesLaws.{length-codesOf, code-most, good-is, good-take, good-drop}
+use Rattle.book.specs.Book.{bookBytes, codebookBytes, entries, modeTable, vectorTable, meanTable, stageFamily, stageTable, Tables, tablesOf, codeTableSizes, eachPrefixFree, codesRefusal, bookRefusal, dataRefusal}
 use Rattle.book.specs.declared.svq1_vlc.Svq1Half.{Svq1Half}
 use Rattle.book.specs.declared.svq1_vlc.Svq1Half.the-variants.{Intra, Inter}
 
@@ -85,7 +86,7 @@ drop-take (suc a) k (x ∷ l) =
     let e : suc a + k ≡ suc (a + k) = omega arith in
     rw e (drop-take a k l)
 
-part-part : (n a m b : ℕ) (l : List ℕ) → a + n ≤ m → take n (drop a (take m (drop b l))) ≡ take n (drop (b + a) l)
+pub part-part : (n a m b : ℕ) (l : List ℕ) → a + n ≤ m → take n (drop a (take m (drop b l))) ≡ take n (drop (b + a) l)
 part-part n a m b l h =
     let e : m ≡ a + (m - a) = omega arith in
     rw (e, drop-take a (m - a) (drop b l), take-take n (m - a) (drop a (drop b l)) (omega arith), drop-drop a b l)
@@ -103,6 +104,7 @@ abbrev pub means : Svq1Half → ℕ
 means Intra = 256
 means Inter = 512
 
+-- each of the tables by its name
 pub record GoodBook (book : List ℕ) : Type 0 where
   pub size : length book ≡ bookBytes
   pub good : goodTable book ≡ true
@@ -139,6 +141,7 @@ module _ (book : List ℕ) (len : length book ≡ bookBytes) (good : goodTable b
   stage-at Intra d l = level-at 836 d d (omega arith) refl l (omega arith)
   stage-at Inter d l = level-at 884 (6 + d) d (omega arith) (omega arith) l (omega arith)
 
+-- A BOOK THAT PASSES: the sixteen tables, each of its size, good and prefix-free
 pub good-book : (book : List ℕ) → bookRefusal book ≡ 0 → GoodBook book
 unfolding bookRefusal codesRefusal total
 good-book book e =
@@ -162,3 +165,32 @@ unfolding dataRefusal
 data-passes book codebook e =
     let two = or-none (unless (eqb (length codebook) codebookBytes) 5) (bookRefusal book) e in
     (eqb-true (length codebook) codebookBytes (unless-none (eqb (length codebook) codebookBytes) 5 (omega arith) (two .0)), two .1)
+
+-- ---- a half's codes
+-- what a leaf's writer and reader ask of them
+pub record GoodTables (T : Tables) : Type 0 where
+  pub stage-free : (d : ℕ) → d ≤ 5 → prefixFree (T .stage d) ≡ true
+  pub stage-count : (d : ℕ) → d ≤ 5 → length (T .stage d) ≡ 8
+  pub stage-most : (d k : ℕ) → d ≤ 5 → length (code (T .stage d) k) ≤ 32
+  pub mean-free : prefixFree (T .mean) ≡ true
+  pub mean-count : length (T .mean) ≡ means (T .half)
+  pub mean-most : (k : ℕ) → length (code (T .mean) k) ≤ 32
+
+pub good-tables : (book : List ℕ) → bookRefusal book ≡ 0 → (h : Svq1Half) → GoodTables (tablesOf book h)
+good-tables book e h =
+    let g = good-book book e in
+    record {
+      stage-free = λ d l. g .stage h d l .free;
+      stage-count = λ d l. g .stage h d l .count;
+      stage-most = λ d k l. code-most (stageTable d (stageFamily h book)) (g .stage h d l .good) k;
+      mean-free = g .mean h .free;
+      mean-count = g .mean h .count;
+      mean-most = code-most (meanTable h book) (g .mean h .good);
+    }
+
+-- what writing the code of entry k asks
+pub good-entry : (n : ℕ) (t : List ℕ) → GoodCodes n t → (k : ℕ) → k < n → GoodEntry t k
+good-entry n t g k h =
+    let s = g .size in
+    let there : k < length t / 3 = omega arith in
+    record { there = there; long = good-is t (g .good) .long k there }

@@ -4,7 +4,6 @@ use mathlib.Core.Path.{_≡_, sym, _∙_}
 use mathlib.Core.List.{List}
 use native.Mathlib.Numerals.{add-one}
 use native.Mathlib.Omega.{arith}
-use lib.Dec.{eqb}
 use lib.ListN.{length, take, getD, set}
 use lib.Seq.{take-all, take-suc, take-suc-set}
 use borrow.Author.Tests.{eq-eqb, ne-eqb}

@@ -1,19 +1,18 @@
 -- Laws of the house book and the house codebook. Upper layers cite house-book, house-passes and house-sample-at.
-use Prim.Native.Nat.{ℕ, zero, suc, _+_, _-_, _*_, _/_, _%_, _≤_, _<_}
-use mathlib.Core.Path.{_≡_, refl, sym, ap, _∙_}
+use Prim.Native.Nat.{ℕ, zero, suc, _+_, _-_, _*_, _/_, _≤_, _<_}
+use mathlib.Core.Path.{_≡_, refl, ap, _∙_}
 use mathlib.Core.Bool.{Bool, true, false, _&&_}
-use mathlib.Core.List.{List, [], _∷_, _++_}
+use mathlib.Core.List.{List, [], _∷_}
 use native.Mathlib.Omega.{arith}
-use native.Mathlib.Nat.{add-zero, zero-add, not-suc-le-zero, le-of-suc-le-suc}
+use native.Mathlib.Nat.{add-zero, zero-add}
 use lib.Dec.{eqb}
 use lib.IntN.{subℕ}
 use lib.ListN.{length, take, drop, getD}
-use borrow.Author.Tests.{eqb-true, eq-eqb, lt-ltb, le-ltb}
-use Rattle.bits.specs.Basics.{pick, valuesFrom, orElse, unless}
-use Rattle.bits.specs.BasicsLaws.{both-true}
+use borrow.Author.Tests.{eqb-true, lt-ltb, le-ltb}
+use Rattle.bits.specs.BasicsLaws.{both-true, length-values, value-at}
 use Rattle.bits.specs.Bits.{msb}
-use Rattle.bits.specs.Codes.{codeVal, codeLen, codesOf, goodTable, prefixFree}
-use Rattle.book.specs.Book.{bookEntries, bookBytes, codebookBytes, codeTableSizes, eachPrefixFree, codesRefusal, bookRefusal}
+use Rattle.bits.specs.Codes.{codeVal, codeLen, codesOf, goodTable}
+use Rattle.book.specs.Book.{bookEntries, bookBytes, codebookBytes, modeTable, codeTableSizes, eachPrefixFree, codesRefusal, bookRefusal}
 use Rattle.book.specs.House.{logUnder, signedRank, rank, houseValue, houseLength, houseFrom, houseBook, houseSample, signedByte, houseCodebook}
 use Rattle.book.specs.Trie.{none, free, enter, allFree, free-is}
 
@@ -80,6 +79,7 @@ by-test t e =
       passes = rw (rule .0, codes .0, each-free codeTableSizes t (codes .1));
     }
 
+-- THE HOUSE BOOK: one test that antt computes over the whole table shows the rule at each entry and that no table has a clash
 pub house-book : HouseBook houseBook
 unfolding houseBook houseFrom houseTest ruled eachFree goodTable rank signedRank logUnder allFree free enter codesOf msb
 house-book = by-test houseBook refl
@@ -87,21 +87,12 @@ house-book = by-test houseBook refl
 pub house-passes : bookRefusal houseBook ≡ 0
 house-passes = house-book .passes
 
+-- the mode codes, INTER, INTER_4MV, INTRA and SKIP, written out
+pub house-modes : codesOf (modeTable houseBook) ≡ (0 ∷ 1 ∷ 0 ∷ []) ∷ (0 ∷ 1 ∷ 1 ∷ []) ∷ (0 ∷ 0 ∷ 1 ∷ 0 ∷ 0 ∷ []) ∷ (1 ∷ []) ∷ []
+unfolding houseBook houseFrom rank signedRank logUnder codesOf msb
+house-modes = refl
+
 -- ---- the codebook
--- the values one behind the other: their number, and each by its place
-pub length-values : (f : ℕ → ℕ) (n j : ℕ) → length (valuesFrom f n j) ≡ n
-unfolding valuesFrom
-length-values f zero j = refl
-length-values f (suc n) j = ap suc (length-values f n (suc j))
-
-pub value-at : (f : ℕ → ℕ) (n j i : ℕ) → i < n → getD (valuesFrom f n j) i 0 ≡ f (j + i)
-unfolding valuesFrom
-value-at f zero j i h = absurd (not-suc-le-zero h)
-value-at f (suc n) j zero h = rw (add-zero j)
-value-at f (suc n) j (suc i) h =
-    let e : suc j + i ≡ j + suc i = omega arith in
-    value-at f n (suc j) i (le-of-suc-le-suc h) ∙ ap f e
-
 pub length-house-codebook : length houseCodebook ≡ codebookBytes
 unfolding houseCodebook
 length-house-codebook = length-values (λ i. signedByte (houseSample i)) codebookBytes 0
@@ -110,7 +101,7 @@ length-house-codebook = length-values (λ i. signedByte (houseSample i)) codeboo
 pub house-sample-at : (i : ℕ) → i < codebookBytes → getD houseCodebook i 0 ≡ signedByte (houseSample i)
 unfolding houseCodebook
 house-sample-at i h =
-    value-at (λ i. signedByte (houseSample i)) codebookBytes 0 i h ∙ ap (λ (k : ℕ). signedByte (houseSample k)) (zero-add i)
+    value-at (λ i. signedByte (houseSample i)) codebookBytes 0 i 0 h ∙ ap (λ (k : ℕ). signedByte (houseSample k)) (zero-add i)
 
 -- the byte, from the sample raised by 30
 pub low-byte : (m : ℕ) → m < 30 → 226 + m ≡ signedByte (subℕ m 30)

@@ -3,6 +3,7 @@ pub mod Level
 pub mod Book
 pub mod BookLaws
 pub mod Calls
+pub mod LevelLaws
 pub mod House
 pub mod Trie
 pub mod HouseLaws

@@ -8,18 +8,20 @@ ghost use Rattle.book.specs.House.{houseBook, houseCodebook, houseSample
 
 // Mode, vector, intramean, intermean, intrastage, interstage: 932 entries, each the code's high byte, its low byte, its length.
 const HOUSE_BOOK: [u8; 2796] = [
+    // mode
     0,
     2,
-    3,
+    3, // INTER
     0,
     3,
-    3,
+    3, // INTER_4MV
     0,
     4,
-    5,
+    5, // INTRA
     0,
     1,
-    1,
+    1, // SKIP
+    // vector
     0,
     65,
     13,
@@ -212,6 +214,7 @@ const HOUSE_BOOK: [u8; 2796] = [
     0,
     62,
     11,
+    // intramean
     0,
     1,
     1,
@@ -980,6 +983,7 @@ const HOUSE_BOOK: [u8; 2796] = [
     1,
     0,
     17,
+    // intermean
     2,
     1,
     19,
@@ -2516,6 +2520,7 @@ const HOUSE_BOOK: [u8; 2796] = [
     1,
     254,
     17,
+    // intrastage
     0,
     1,
     1,
@@ -2660,6 +2665,7 @@ const HOUSE_BOOK: [u8; 2796] = [
     0,
     8,
     7,
+    // interstage
     0,
     1,
     1,

@@ -1,3 +1,4 @@
+-- `inner::any_start` meets its contract. No entry before `i` has a code that the bits start.
 use Prim.Native.Nat.{ℕ, _-_, _/_, _≤_, _<_}
 use mathlib.Core.Path.{_≡_, sym, _∙_}
 use mathlib.Core.Bool.{false}

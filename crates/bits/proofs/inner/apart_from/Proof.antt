@@ -1,3 +1,4 @@
+-- `inner::apart_from` meets its contract. The test of the codes behind `i` is what is left of it from `j` on; `first` and `second` say what the two comparisons of a turn are.
 use Prim.Native.Nat.{ℕ, _+_, _-_, _/_, _^_, _≤_, _<_}
 use mathlib.Core.Path.{_≡_, refl, sym, _∙_}
 use mathlib.Core.Bool.{not, _&&_}

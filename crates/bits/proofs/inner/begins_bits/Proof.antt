@@ -1,3 +1,4 @@
+-- `inner::begins_bits` meets its contract. A shift drops what the longer number has more; a longer run begins no shorter one.
 use mathlib.Core.Path.{sym}
 use borrow.Author.Needs.{needs}
 use Rattle.bits.specs.Bits.{msb}

@@ -1,3 +1,4 @@
+-- `inner::bits_refusal` meets its contract. 6 first, then what `room_refusal` says.
 use mathlib.Core.Path.{sym, _∙_}
 use borrow.Author.Tests.{le-leb, lt-leb}
 use borrow.Author.Needs.{needs}

@@ -1,3 +1,4 @@
+-- `inner::byte_with` meets its contract. The kept high bits and the new low ones make a byte.
 use Prim.Native.Nat.{_+_, _*_, _/_, _^_, _<_}
 use native.Mathlib.Omega.{arith}
 use borrow.Author.Needs.{needs}

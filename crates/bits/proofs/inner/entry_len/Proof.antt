@@ -1,3 +1,4 @@
+-- `inner::entry_len` meets its contract. The third byte of the entry.
 use Prim.Native.Nat.{_+_, _*_}
 use native.Mathlib.Omega.{arith}
 use borrow.Author.Needs.{needs}

@@ -1,3 +1,4 @@
+-- `inner::entry_val` meets its contract. The first two bytes of the entry, neither above 255, so that nothing wraps.
 use Prim.Native.Nat.{_+_, _*_}
 use native.Mathlib.Omega.{arith}
 use borrow.Author.Needs.{needs}

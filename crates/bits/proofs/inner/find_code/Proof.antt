@@ -1,3 +1,4 @@
+-- `inner::find_code` meets its contract. No entry before `i` has a code that begins the bits.
 use Prim.Native.Nat.{ℕ, _-_, _/_, _≤_, _<_}
 use mathlib.Core.Path.{_≡_, sym, _∙_}
 use mathlib.Core.Bool.{false}

@@ -1,3 +1,4 @@
+-- `inner::get_bits` meets its contract. `acc` is the number of the bits passed; each turn adds those of one byte.
 use Prim.Native.Nat.{ℕ, _+_, _-_, _*_, _/_, _%_, _^_, _≤_}
 use mathlib.Core.Path.{_≡_, sym, _∙_}
 use native.Mathlib.Nat.{lt-of-lt-of-le}

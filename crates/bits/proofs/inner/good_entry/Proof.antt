@@ -1,3 +1,4 @@
+-- `inner::good_entry` meets its contract. The three tests, one behind the other.
 use Prim.Native.Nat.{_*_, _%_, _^_, _≤_}
 use mathlib.Core.Path.{_≡_, sym, ap}
 use native.Mathlib.Omega.{arith}

@@ -1,3 +1,4 @@
+-- `inner::good_table` meets its contract. The test of the whole table is what is left of it from entry `i` on.
 use Prim.Native.Nat.{ℕ, _+_, _-_, _*_, _/_}
 use mathlib.Core.Path.{_≡_, refl, sym, _∙_}
 use mathlib.Core.Bool.{_&&_}

@@ -1,3 +1,4 @@
+-- `inner::part_of` meets its contract. A shift and a remainder; 1 shifted by at most 8 does not wrap.
 use Prim.Native.Nat.{ℕ, _*_, _/_, _%_, _^_, _≤_}
 use mathlib.Core.Path.{_≡_, ap}
 use native.Mathlib.Omega.{arith}

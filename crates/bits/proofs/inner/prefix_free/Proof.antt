@@ -1,3 +1,4 @@
+-- `inner::prefix_free` meets its contract. The test of all codes is what is left of it from code `i` on.
 use Prim.Native.Nat.{ℕ, _+_, _-_, _/_}
 use mathlib.Core.Path.{_≡_, refl, sym, _∙_}
 use mathlib.Core.Bool.{_&&_}

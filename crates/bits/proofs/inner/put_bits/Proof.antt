@@ -1,4 +1,5 @@
-use Prim.Native.Nat.{ℕ, _+_, _-_, _/_, _%_, _^_, _≤_}
+-- `inner::put_bits` meets its contract. All but the last `left` bits stand in the slice; each turn adds those that one byte takes, by put-turn.
+use Prim.Native.Nat.{ℕ, _+_, _-_, _/_, _^_, _≤_}
 use mathlib.Core.Path.{_≡_, refl, _∙_}
 use mathlib.Core.List.{List}
 use native.Mathlib.Omega.{arith}
@@ -7,7 +8,7 @@ use denote.Ref.{now}
 use lib.ListN.{length}
 use lib.Pow.{pow-pos}
 use Rattle.bits.specs.Bits.{msb, bitsOf, putBits}
-use Rattle.bits.specs.BitsLaws.{put-more, put-first, put-last, length-msb, length-bitsOf}
+use Rattle.bits.specs.BitsLaws.{put-turn, put-first, put-last, length-msb, length-bitsOf}
 use Rattle.bits.proofs.inner.put_bits.Statement.{statement}
 use Rattle.bits.proofs.inner.put_bits.Tie as tie
 
@@ -55,20 +56,16 @@ loop-less c = omega arith
 
 loop-again : tie.Need-loop-again Inv-loop μ-loop
 loop-again c =
-    let u = c .before .before .before .before .before .before .before in
-    let s = u .before .before in
-    let l : ℕ = u .loop .left in
-    let n : ℕ = c .before .before .before .before .before .lesser .result in
-    let out₀ : List ℕ = now (s .args .out) in
-    let at : ℕ = s .args .at in
-    let w : ℕ = s .args .width in
-    let v : ℕ = s .args .value in
-    let hn : n ≤ l = omega arith in
-    let p : at + (w - l) ≡ u .loop .p = omega arith in
-    let room : at ≤ length (bitsOf out₀) = omega (arith, length-bitsOf out₀, s) in
-    let more : putBits (bitsOf (u .loop .out)) (u .loop .p) (msb n (v / 2 ^ (l - n) % 2 ^ n)) ≡ putBits (bitsOf out₀) at (msb (w - (l - n)) (v / 2 ^ (l - n))) =
-    rw (u .loop .inv .3, ← p) (put-more (bitsOf out₀) at w l n v hn (u .loop .inv .0) room) in
-    (omega arith, omega arith, c .before .before .put-part .kept .0 ∙ u .loop .inv .2, rw (c .before .before .before .before .part-of .ensures) at (c .before .before .put-part .ensures) ∙ more)
+    let q = c .before .before in
+    let u = q .before .before .before .before .before in
+    let a = u .before .before .args in
+    let out₀ : List ℕ = now (a .out) in
+    let room : a .at ≤ length (bitsOf out₀) = omega (arith, length-bitsOf out₀, u .before .before .pre) in (
+      omega arith,
+      omega arith,
+      q .put-part .kept .0 ∙ u .loop .inv .2,
+      put-turn (bitsOf out₀) _ _ (a .at) (a .width) (u .loop .left) (q .before .before .before .lesser .result) (a .value) (u .loop .p) _ (omega arith) (u .loop .inv .0) room (u .loop .inv .1) (u .loop .inv .3) (q .before .before .part-of .ensures) (q .put-part .ensures),
+    )
 
 same-length : tie.Need-same-length Inv-loop μ-loop
 same-length c = c .before .loop .inv .2

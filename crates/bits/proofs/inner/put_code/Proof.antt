@@ -1,3 +1,4 @@
+-- `inner::put_code` meets its contract. An entry's code is its value in as many bits as its length says.
 use Prim.Native.Nat.{ℕ, _+_, _*_}
 use native.Mathlib.Omega.{arith}
 use denote.Ref.{now}

@@ -1,3 +1,4 @@
+-- `inner::put_part` meets its contract. One byte changes, by put-set.
 use Prim.Native.Nat.{ℕ, _+_, _-_, _*_, _/_, _%_}
 use mathlib.Core.Path.{_≡_}
 use mathlib.Core.List.{List}

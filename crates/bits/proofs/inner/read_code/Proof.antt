@@ -1,3 +1,4 @@
+-- `inner::read_code` meets its contract. Looking at 32 bits is enough, since no code of a good table is longer.
 use Prim.Native.Nat.{ℕ, _-_, _*_, _/_, _^_, _<_, min}
 use mathlib.Core.Path.{_≡_, sym, ap, _∙_}
 use mathlib.Core.List.{List}

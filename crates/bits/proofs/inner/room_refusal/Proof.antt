@@ -1,3 +1,4 @@
+-- `inner::room_refusal` meets its contract. 21 first, then whether the bits left are enough.
 use Prim.Native.Nat.{_-_, _*_}
 use mathlib.Core.Path.{_≡_, sym, _∙_}
 use native.Mathlib.Omega.{arith}

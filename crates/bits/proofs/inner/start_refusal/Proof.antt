@@ -1,3 +1,4 @@
+-- `inner::start_refusal` meets its contract. The two tests of 21.
 use Prim.Native.Nat.{_*_, _^_}
 use mathlib.Core.Path.{sym}
 use borrow.Author.Tests.{le-leb, lt-leb}

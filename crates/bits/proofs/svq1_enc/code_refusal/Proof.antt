@@ -1,3 +1,4 @@
+-- `svq1_enc::code_refusal` meets its contract. The entry's refusals first, then the room's.
 use mathlib.Core.Path.{sym, _∙_}
 use denote.Ref.{now}
 use borrow.Author.Needs.{needs}

@@ -1,10 +1,12 @@
+-- `svq1_enc::entry_refusal` meets its contract. The tests of 5 and 6, one behind the other.
 use Prim.Native.Nat.{ℕ, _/_, _%_}
-use mathlib.Core.Path.{_≡_, sym}
+use mathlib.Core.Path.{_≡_, sym, _∙_}
 use mathlib.Core.List.{List}
 use denote.Ref.{now}
 use lib.ListN.{length}
 use borrow.Author.Tests.{eq-eqb, ne-eqb, lt-ltb, le-ltb}
 use borrow.Author.Needs.{needs}
+use Rattle.bits.specs.Basics.{unless}
 use Rattle.bits.specs.Codes.{goodEntry, codeVal, codeLen}
 use Rattle.bits.specs.Calls.{entryRefusal}
 use Rattle.bits.proofs.svq1_enc.entry_refusal.Statement.{statement}
@@ -30,27 +32,24 @@ entry-len-requires c κs = search needs
 good-entry-requires : tie.Need-good-entry-requires
 good-entry-requires c κs = search needs
 
-returns-3 : tie.Need-returns-3
+-- what is left of the definition once the entry is there
+left : (c : tie.After-good-entry) →
+    let a = c .before .before .before .before .before .before .args in
+    entryRefusal (now (a .table)) (a .position) ≡ unless (c .good-entry .result) 6
 unfolding entryRefusal
-returns-3 c =
-    let g = c .before in
-    let q = g .before .before .before in
+left c =
+    let q = c .before .before .before in
     let a = q .before .before .before .args in
     let t : List ℕ = now (a .table) in
-    let e : goodEntry (codeVal t (a .position)) (codeLen t (a .position)) ≡ g .good-entry .result =
-    sym (rw (← g .before .entry-len .ensures, ← g .before .before .entry-val .ensures) (g .good-entry .ensures)) in
-    sym (rw (eq-eqb (length t % 3) 0 (q .before .if1 .left), lt-ltb (a .position) (length t / 3) (q .if2 .left), e, c .if3 .taken))
+    let e : goodEntry (codeVal t (a .position)) (codeLen t (a .position)) ≡ c .good-entry .result =
+    sym (rw (← c .before .entry-len .ensures, ← c .before .before .entry-val .ensures) (c .good-entry .ensures)) in
+    rw (eq-eqb (length t % 3) 0 (q .before .if1 .left), lt-ltb (a .position) (length t / 3) (q .if2 .left), e)
+
+returns-3 : tie.Need-returns-3
+returns-3 c = sym (left (c .before) ∙ rw (c .if3 .taken))
 
 returns-4 : tie.Need-returns-4
-unfolding entryRefusal
-returns-4 c =
-    let g = c .before in
-    let q = g .before .before .before in
-    let a = q .before .before .before .args in
-    let t : List ℕ = now (a .table) in
-    let e : goodEntry (codeVal t (a .position)) (codeLen t (a .position)) ≡ g .good-entry .result =
-    sym (rw (← g .before .entry-len .ensures, ← g .before .before .entry-val .ensures) (g .good-entry .ensures)) in
-    sym (rw (eq-eqb (length t % 3) 0 (q .before .if1 .left), lt-ltb (a .position) (length t / 3) (q .if2 .left), e, c .if3 .left))
+returns-4 c = sym (left (c .before) ∙ rw (c .if3 .left))
 
 pub entry-refusal-spec : {M : Type 1} → statement M
 entry-refusal-spec =

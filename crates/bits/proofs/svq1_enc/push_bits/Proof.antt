@@ -1,3 +1,4 @@
+-- `svq1_enc::push_bits` meets its contract. Where nothing is refused the bits fit, and `put_bits` writes them.
 use mathlib.Core.Path.{sym, _∙_}
 use native.Mathlib.Omega.{arith}
 use denote.Ref.{now}

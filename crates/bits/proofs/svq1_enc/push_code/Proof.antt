@@ -1,3 +1,4 @@
+-- `svq1_enc::push_code` meets its contract. Where nothing is refused the code fits, and `put_code` writes it.
 use mathlib.Core.Path.{sym, _∙_}
 use denote.Ref.{now}
 use lib.ListN.{length}

@@ -1,3 +1,4 @@
+-- `svq1_vlc::answered` meets its contract. Case by case.
 use mathlib.Core.Path.{sym, ap}
 use borrow.Author.Needs.{needs}
 use Rattle.bits.specs.Calls.{readAnswer}

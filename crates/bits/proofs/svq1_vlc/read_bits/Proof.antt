@@ -1,3 +1,4 @@
+-- `svq1_vlc::read_bits` meets its contract. Where nothing is refused the bits are there, and `get_bits` reads them.
 use mathlib.Core.Path.{sym, _∙_}
 use native.Mathlib.Omega.{arith}
 use denote.Ref.{now}

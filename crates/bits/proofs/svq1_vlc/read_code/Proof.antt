@@ -1,3 +1,4 @@
+-- `svq1_vlc::read_code` meets its contract. The table's refusals, then the start bit's; where there is none, what `inner::read_code` finds.
 use mathlib.Core.Path.{sym, ap, _∙_}
 use denote.Ref.{now}
 use lib.ListN.{length}

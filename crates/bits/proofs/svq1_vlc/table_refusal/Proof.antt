@@ -1,3 +1,4 @@
+-- `svq1_vlc::table_refusal` meets its contract. 5 first, then 6.
 use Prim.Native.Nat.{ℕ, _%_}
 use mathlib.Core.Path.{sym}
 use mathlib.Core.List.{List}

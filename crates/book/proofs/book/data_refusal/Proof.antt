@@ -1,3 +1,4 @@
+-- `book::data_refusal` meets its contract. The codebook's size first, then the book.
 use mathlib.Core.Path.{sym, _∙_}
 use denote.Ref.{now}
 use lib.ListN.{length}

@@ -1,3 +1,4 @@
+-- `book::each_prefix_free` meets its contract. `before` entries are passed, those of the tables from `i` on are left, and the whole test is what is left of it.
 use Prim.Native.Nat.{ℕ, _+_, _-_, _*_, _≤_}
 use mathlib.Core.Path.{_≡_, refl, sym, ap, _∙_}
 use mathlib.Core.Bool.{_&&_}

@@ -1,3 +1,4 @@
+-- `house::copy_in` meets its contract. The first `i` bytes are there.
 use Prim.Native.Nat.{ℕ, _-_, _≤_}
 use mathlib.Core.Path.{_≡_, refl, _∙_}
 use mathlib.Core.List.{List}

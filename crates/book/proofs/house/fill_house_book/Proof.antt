@@ -1,3 +1,4 @@
+-- `house::fill_house_book` meets its contract. A slice of the book's size gets the constant.
 use mathlib.Core.Path.{sym, ap, _∙_}
 use lib.ListN.{length}
 use borrow.Author.Needs.{needs}

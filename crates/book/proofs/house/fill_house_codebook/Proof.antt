@@ -1,3 +1,4 @@
+-- `house::fill_house_codebook` meets its contract. The first `i` bytes are the rule's.
 use Prim.Native.Nat.{ℕ, _-_, _≤_}
 use mathlib.Core.Path.{_≡_, refl, sym, _∙_}
 use mathlib.Core.List.{List}

@@ -1,3 +1,4 @@
+-- `house::house_book` meets its contract. The constant is the rule's list, which antt computes.
 use mathlib.Core.Path.{refl}
 use Rattle.book.specs.House.{houseBook, houseFrom, rank, signedRank, logUnder}
 use Rattle.book.proofs.house.house_book.Statement.{statement}

@@ -1,3 +1,4 @@
+-- `house::house_byte` meets its contract. The sample raised by 30 is below 61; as a byte it is 256 more where it is negative.
 use borrow.Author.Needs.{needs}
 use Rattle.book.specs.HouseLaws.{low-byte, high-byte}
 use Rattle.book.proofs.house.house_byte.Statement.{statement}

@@ -1,11 +1,6 @@
-use Prim.Native.Nat.{ℕ, _+_, _-_, _*_}
-use mathlib.Core.Path.{_≡_, sym}
-use native.Mathlib.Omega.{arith}
-use denote.Ref.{now}
-use lib.ListN.{length}
-use borrow.Author.Tests.{eq-eqb, ne-eqb}
+-- `Svq1Level::family_part` meets its contract. The part from byte 24 × level on.
 use borrow.Author.Needs.{needs}
-use Rattle.book.specs.Calls.{familyPart, familyBytes}
+use Rattle.book.specs.LevelLaws.{family-part-is, family-part-none}
 use Rattle.book.proofs.svq1_blocktree.Svq1Level.family_part.Statement.{statement}
 use Rattle.book.proofs.svq1_blocktree.Svq1Level.family_part.Tie as tie
 
@@ -19,8 +14,7 @@ part-result-end : tie.Need-part-result-end
 part-result-end c = search needs
 
 returns : tie.Need-returns
-unfolding familyPart
-returns c = sym (rw (ne-eqb (length (now (c .before .before .before .args .family))) familyBytes (c .before .if1 .taken)))
+returns c = family-part-none _ _ (c .before .if1 .taken)
 
 number-requires : tie.Need-number-requires
 number-requires c κs = search needs
@@ -41,13 +35,9 @@ part-result-end-2 : tie.Need-part-result-end-2
 part-result-end-2 c = search needs
 
 returns-2 : tie.Need-returns-2
-unfolding familyPart
 returns-2 c =
-    let q = c .before .before in
-    let n : ℕ = c .before .number .result in
-    let k : 24 * n + 24 - 24 * n ≡ 24 = omega arith in
-    let a : 24 * n ≡ 3 * (8 * n) = omega arith in
-    rw (k, eq-eqb (length (now (q .before .before .args .family))) familyBytes (q .if1 .left), ← c .before .number .ensures .0, a)
+    let n = c .before .number in
+    rw (← n .ensures .0) (family-part-is (n .result) _ (c .before .before .if1 .left))
 
 pub family-part-spec : {M : Type 1} → statement M
 family-part-spec =

@@ -1,3 +1,4 @@
+-- `Svq1Level::stage_table` meets its contract. Each half's arm takes the part of its own family.
 use borrow.Author.Needs.{needs}
 use Rattle.book.proofs.svq1_blocktree.Svq1Level.stage_table.Statement.{statement}
 use Rattle.book.proofs.svq1_blocktree.Svq1Level.stage_table.Tie as tie

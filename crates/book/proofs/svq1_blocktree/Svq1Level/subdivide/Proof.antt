@@ -1,3 +1,4 @@
+-- `Svq1Level::subdivide` meets its contract. Each arm is its case of the definition.
 use borrow.Author.Needs.{needs}
 use Rattle.book.proofs.svq1_blocktree.Svq1Level.subdivide.Statement.{statement}
 use Rattle.book.proofs.svq1_blocktree.Svq1Level.subdivide.Tie as tie
