@@ -23,6 +23,7 @@ use Rattle.book_file.specs.HeldLaws.{goodLine}
 use Rattle.book_file.specs.BytesLaws.{threeAt, bytes-are}
 use Rattle.book_file.specs.CallLaws.{one-line, lines-book}
 use Rattle.book_file.specs.FileTextLaws.{file-back}
+use Rattle.book_file.specs.OneFileLaws.{file-text}
 
 -- ---- the lines of a book
 byte-at : (b : List ℕ) (i : ℕ) → All (λ x. x < 256) b → getD b i 0 < 256
@@ -79,10 +80,11 @@ file-accepted book ls bytes passes are =
     (rw back (lines-book ls (are .once) fine (ap length is ∙ good .size) ∙ ap bookRefusal is ∙ passes), rw back is)
 
 -- ---- what is accepted
--- what an accepted file holds: the lines of a good book, which is the book read
+-- what an accepted file is: the text of the lines of a good book, which is the book read
 pub record Accepted (file : List ℕ) : Type 0 where
   pub lines : List Line
   pub read : fileLines file ≡ some lines
+  pub text : file ≡ fileOf lines
   pub are : LinesOf (fileBook file) lines
   pub passes : bookRefusal (fileBook file) ≡ 0
 
@@ -243,4 +245,4 @@ accepted file passes = go (fileLines file) refl (sym passes)
         let fits = file-fits file ls q in
         let once = each-once ls fine in
         let are : LinesOf (bookOf ls) ls = record { once = once; says = all-say ls once ls fits (all-hold ls (at-most-one ls once fits)) } in
-        record { lines = ls; read = q; are = rw q are; passes = rw q (book-passes ls fine) }
+        record { lines = ls; read = q; text = file-text file ls q; are = rw q are; passes = rw q (book-passes ls fine) }

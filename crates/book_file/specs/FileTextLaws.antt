@@ -51,9 +51,12 @@ tables-own = (
 )
 
 -- the tables stand one behind the other from entry s to the book's last
-abbrev Follow : ℕ → List Table → Type 0
+abbrev pub Follow : ℕ → List Table → Type 0
 Follow s [] = s ≡ bookEntries
 Follow s (t ∷ ts) = (t .from ≡ s) × Follow (t .from + t .size) ts
+
+pub tables-follow : Follow 0 fileTables
+tables-follow = (refl, (refl, (refl, (refl, (refl, (refl, refl))))))
 
 placed-in : (ts : List Table) (s e : ℕ) → Follow s ts → All Own ts → s ≤ e → e < bookEntries → Placed e (placeFields ts e)
 unfolding placeFields
@@ -77,7 +80,7 @@ placed-in (t ∷ ts) s e f own h k = go (ltb e (t .from + t .size)) refl (λ i. 
     go false q next = next (ltb-false e (t .from + t .size) q)
 
 placed : (e : ℕ) → e < bookEntries → Placed e (placeFields fileTables e)
-placed e h = placed-in fileTables 0 e (refl, (refl, (refl, (refl, (refl, (refl, refl)))))) tables-own (omega arith) h
+placed e h = placed-in fileTables 0 e tables-follow tables-own (omega arith) h
 
 -- ---- a line is read back
 number-back : (n : ℕ) → n ≤ 65535 → lineNumber (decimal n) ≡ some n

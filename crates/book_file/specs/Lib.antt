@@ -7,4 +7,5 @@ pub mod BytesLaws
 pub mod CallLaws
 pub mod FileText
 pub mod FileTextLaws
+pub mod OneFileLaws
 pub mod BookFileLaws

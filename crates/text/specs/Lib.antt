@@ -5,3 +5,4 @@ pub mod Writing
 pub mod TextLaws
 pub mod WritingLaws
 pub mod PutLaws
+pub mod OneTextLaws

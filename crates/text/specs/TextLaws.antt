@@ -256,7 +256,8 @@ some-piece s (c ∷ t) = go (eqb c s) (pieces s t)
     go false [] = omega arith
     go false (p ∷ ps) = omega arith
 
-ended-step : (l : List ℕ) (ps : List (List ℕ)) → 0 < length ps → allEnded (l ∷ ps) ≡ lineBefore l (allEnded ps)
+-- a line and the pieces behind it
+pub ended-step : (l : List ℕ) (ps : List (List ℕ)) → 0 < length ps → allEnded (l ∷ ps) ≡ lineBefore l (allEnded ps)
 unfolding allEnded
 ended-step l [] h = absurd (omega arith)
 ended-step [] (m ∷ ms) h = go (allEnded (m ∷ ms))
