@@ -14,6 +14,7 @@ use Rattle.bits.specs.BasicsLaws.{or-none, unless-none}
 use Rattle.bits.specs.Codes.{goodTable}
 use Rattle.bits.specs.CodesLaws.{good-at}
 use Rattle.text.specs.Text.{fieldsOf, linesOf}
+use Rattle.text.specs.TextLaws.{none-some}
 use Rattle.book.specs.BookLaws.{good-book}
 use Rattle.book.specs.Book.{bookEntries, bookBytes, codeTableSizes, eachPrefixFree, bookRefusal}
 use Rattle.book_file.specs.BookFile.{Line, lineRead, ontoLines, linesRead, ofLines, fileLines, mentions, onceEach, bytesAt, bytesFrom, bookOf, linesRefusal, refusalRead, fileRefusal, fileBook}
@@ -181,8 +182,8 @@ at-most-one ls once f k = go (ltb k bookEntries) refl
 
 onto-fits : (a : Option Line) (b : Option (List Line)) (ls : List Line) → ((l : Line) → a ≡ some l → LineFits l) → ((ms : List Line) → b ≡ some ms → All LineFits ms)
     → ontoLines a b ≡ some ls → All LineFits ls
-onto-fits none b ls f g q = let z : _≡_ {A = ℕ} 0 1 = cc in absurd (omega arith)
-onto-fits (some l) none ls f g q = let z : _≡_ {A = ℕ} 0 1 = cc in absurd (omega arith)
+onto-fits none b ls f g q = none-some q
+onto-fits (some l) none ls f g q = none-some q
 onto-fits (some l) (some ms) ls f g q = let w : l ∷ ms ≡ ls = cc in rw (← w) (f l refl, g ms refl)
 
 lines-fit : (ts : List (List ℕ)) (ls : List Line) → linesRead ts ≡ some ls → All LineFits ls
@@ -195,7 +196,7 @@ unfolding fileLines
 file-fits file ls = go (linesOf file)
   where
     go : (o : Option (List (List ℕ))) → ofLines o ≡ some ls → All LineFits ls
-    go none q = let z : _≡_ {A = ℕ} 0 1 = cc in absurd (omega arith)
+    go none q = none-some q
     go (some ts) q = lines-fit ts ls q
 
 -- bytes of an entry that has a line

@@ -9,6 +9,7 @@ use lib.ListN.{length, getD, replicate, length-replicate}
 use borrow.Author.Tests.{eq-eqb, ne-eqb}
 use Rattle.bits.specs.Basics.{every, orElse, unless}
 use Rattle.bits.specs.Codes.{goodTable}
+use Rattle.text.specs.TextLaws.{none-some}
 use Rattle.book.specs.Book.{bookEntries, bookBytes, codeTableSizes, eachPrefixFree, codesRefusal, bookRefusal}
 use Rattle.book_file.specs.BookFile.{Line, mentions, onceEach, bookOf, linesRefusal, refusalRead, bookRead, fileLines, fileRefusal, fileBook}
 use Rattle.book_file.specs.Scan.{Held, Unmet, BookFileRead, readFileRefusal, readFileBook, scanLines, scanned, allMet}
@@ -94,7 +95,7 @@ module _ (o : Option (List Line)) (book met : List ℕ) (fresh : Unmet met) wher
   read-bad t q m g = go o q
     where
       go : (p : Option (List Line)) → scanned p (begun book met) ≡ some t → refusalRead p ≡ 6
-      go none q = let z : _≡_ {A = ℕ} 0 1 = cc in absurd (omega arith)
+      go none q = none-some q
       go (some ls) q = rw (scan-once ls book met fresh t q, m, sym (scan-good ls (begun book met) t q) ∙ g)
 
   -- the book that the lines hold, refused as a lent one is
@@ -103,7 +104,7 @@ module _ (o : Option (List Line)) (book met : List ℕ) (fresh : Unmet met) wher
   read-whole t q h m g = go o q
     where
       go : (p : Option (List Line)) → scanned p (begun book met) ≡ some t → (refusalRead p ≡ bookRefusal (t .book)) × (bookRead p ≡ t .book)
-      go none q = let z : _≡_ {A = ℕ} 0 1 = cc in absurd (omega arith)
+      go none q = none-some q
       go (some ls) q =
           let good : every goodLine ls ≡ true = sym (scan-good ls (begun book met) t q) ∙ g in
           let is : bookOf ls ≡ t .book = scan-book ls book met fresh t q h m good in

@@ -12,6 +12,7 @@ use borrow.Author.Tests.{eqb-true, eqb-false, eq-eqb, ltb-true, ltb-false}
 use Rattle.bits.specs.Basics.{pick, every}
 use Rattle.bits.specs.Codes.{goodEntry}
 use Rattle.bits.specs.BasicsLaws.{both-true}
+use Rattle.text.specs.TextLaws.{none-some}
 use Rattle.book_file.specs.BookFile.{Line, mentions, onceEach}
 use Rattle.book_file.specs.Scan.{Held, withEntry, kept, scanLines, allMet}
 
@@ -26,7 +27,7 @@ scan-split l ls s t q = go (eqb (getD (s .met) (l .entry) 0) 0) refl q
     go : (b : Bool) → eqb (getD (s .met) (l .entry) 0) 0 ≡ b → pick b (scanLines ls (kept l s)) none ≡ some t
         → (getD (s .met) (l .entry) 0 ≡ 0) × (scanLines ls (kept l s) ≡ some t)
     go true e h = (eqb-true (getD (s .met) (l .entry) 0) 0 e, h)
-    go false e h = let z : _≡_ {A = ℕ} 0 1 = cc in absurd (omega arith)
+    go false e h = none-some h
 
 pub scan-last : (s t : Held) → scanLines [] s ≡ some t → s ≡ t
 unfolding scanLines
@@ -108,7 +109,7 @@ doubled-before l ls s d =
 
 pub scan-doubled : (ls : List Line) (s : Held) → scanLines ls s ≡ none → Doubled (s .met) ls
 unfolding scanLines
-scan-doubled [] s q = let z : _≡_ {A = ℕ} 0 1 = cc in absurd (omega arith)
+scan-doubled [] s q = none-some (sym q)
 scan-doubled (l ∷ ls) s q = go (eqb (getD (s .met) (l .entry) 0) 0) refl q (scan-doubled ls (kept l s))
   where
     go : (b : Bool) → eqb (getD (s .met) (l .entry) 0) 0 ≡ b → pick b (scanLines ls (kept l s)) none ≡ none

@@ -14,7 +14,7 @@ use Rattle.bits.specs.Basics.{pick, every, All}
 use Rattle.bits.specs.Codes.{goodEntry}
 use Rattle.text.specs.Text.{comma, lineFeed, fieldsOf, linesOf, same}
 use Rattle.text.specs.Reading.{countBefore, lineBefore}
-use Rattle.text.specs.TextLaws.{number-le, count-le, some-piece, pieces-last, pieces-next, lines-none, lines-open, lines-next}
+use Rattle.text.specs.TextLaws.{none-some, number-le, count-le, some-piece, pieces-last, pieces-next, lines-none, lines-open, lines-next}
 use Rattle.book.specs.Book.{bookEntries}
 use Rattle.book_file.specs.BookFile.{Table, Line, fileTables, entryNamed, lineNumber, lineAt, entryField, lineRead, ontoLines, linesRead, ofLines, fileLines}
 use Rattle.book_file.specs.Scan.{Held, codeAt, placeAt, withEntry, kept, scanLines, scanned}
@@ -115,17 +115,17 @@ tables-fit = (lit≤ tt, (lit≤ tt, (lit≤ tt, (lit≤ tt, (lit≤ tt, (lit≤
 
 named-below : (ts : List Table) (name : List ℕ) (p e : ℕ) → All (λ t. t .from + t .size ≤ bookEntries) ts → entryNamed ts name p ≡ some e → e < bookEntries
 unfolding entryNamed
-named-below [] name p e fit q = let z : _≡_ {A = ℕ} 0 1 = cc in absurd (omega arith)
+named-below [] name p e fit q = none-some q
 named-below (t ∷ ts) name p e fit q = go (same (t .name) name) (ltb p (t .size)) refl (named-below ts name p e (fit .1)) q
   where
     go : (a b : Bool) → ltb p (t .size) ≡ b → (entryNamed ts name p ≡ some e → e < bookEntries)
         → pick a (pick b (some (t .from + p)) none) (entryNamed ts name p) ≡ some e → e < bookEntries
     go true true k next h = let v : t .from + p ≡ e = cc in omega (arith, ltb-true p (t .size) k, fit .0)
-    go true false k next h = let z : _≡_ {A = ℕ} 0 1 = cc in absurd (omega arith)
+    go true false k next h = none-some h
     go false b k next h = next h
 
 field-below : (name : List ℕ) (o : Option ℕ) (e : ℕ) → entryField name o ≡ some e → e < bookEntries
-field-below name none e q = let z : _≡_ {A = ℕ} 0 1 = cc in absurd (omega arith)
+field-below name none e q = none-some q
 field-below name (some p) e q = named-below fileTables name p e tables-fit q
 
 -- what is known of a line that was read
@@ -136,23 +136,23 @@ pub record LineFits (l : Line) : Type 0 where
 
 at-fits : (o m k : Option ℕ) (l : Line) → ((e : ℕ) → o ≡ some e → e < bookEntries) → ((n : ℕ) → m ≡ some n → n ≤ 65535) → ((v : ℕ) → k ≡ some v → v ≤ 65535)
     → lineAt o m k ≡ some l → LineFits l
-at-fits none m k l ho hm hk q = let z : _≡_ {A = ℕ} 0 1 = cc in absurd (omega arith)
-at-fits (some e) none k l ho hm hk q = let z : _≡_ {A = ℕ} 0 1 = cc in absurd (omega arith)
-at-fits (some e) (some n) none l ho hm hk q = let z : _≡_ {A = ℕ} 0 1 = cc in absurd (omega arith)
+at-fits none m k l ho hm hk q = none-some q
+at-fits (some e) none k l ho hm hk q = none-some q
+at-fits (some e) (some n) none l ho hm hk q = none-some q
 at-fits (some e) (some n) (some v) l ho hm hk q =
     let w : record { entry = e; long = n; value = v } ≡ l = cc in
     record { entry-below = rw (← w) (ho e refl); long-le = rw (← w) (hm n refl); value-le = rw (← w) (hk v refl) }
 
 pub line-fits : (fs : List (List ℕ)) (l : Line) → lineRead fs ≡ some l → LineFits l
 unfolding lineRead
-line-fits [] l q = let z : _≡_ {A = ℕ} 0 1 = cc in absurd (omega arith)
-line-fits (t ∷ []) l q = let z : _≡_ {A = ℕ} 0 1 = cc in absurd (omega arith)
-line-fits (t ∷ (p ∷ [])) l q = let z : _≡_ {A = ℕ} 0 1 = cc in absurd (omega arith)
-line-fits (t ∷ (p ∷ (n ∷ []))) l q = let z : _≡_ {A = ℕ} 0 1 = cc in absurd (omega arith)
+line-fits [] l q = none-some q
+line-fits (t ∷ []) l q = none-some q
+line-fits (t ∷ (p ∷ [])) l q = none-some q
+line-fits (t ∷ (p ∷ (n ∷ []))) l q = none-some q
 line-fits (t ∷ (p ∷ (n ∷ (v ∷ [])))) l q =
     at-fits (entryField t (lineNumber p)) (lineNumber n) (lineNumber v) l (field-below t (lineNumber p)) (λ m e. number-le 65535 m n e)
     (λ m e. number-le 65535 m v e) q
-line-fits (t ∷ (p ∷ (n ∷ (v ∷ (x ∷ xs))))) l q = let z : _≡_ {A = ℕ} 0 1 = cc in absurd (omega arith)
+line-fits (t ∷ (p ∷ (n ∷ (v ∷ (x ∷ xs))))) l q = none-some q
 
 -- ---- a file's lines from the front
 onto-none : (o : Option Line) → ontoLines o none ≡ none

@@ -72,13 +72,13 @@ fn entry_named(name: &[u8], p: u64) -> EntryRead
 fn read_code(t: &[u8], e: usize) -> LineRead
     ensures { λ r. ⌜ lineTold r ≡ codeAt (some e) (fieldsOf (now (t .entry))) ⌝ }
 {
-    let a = text::find(t, 44);
+    let a = text::find(t, b',');
     if a == t.len() {
         return LineRead::Malformed;
     }
     let next = a + 1;
     let rest = &t[next..];
-    if text::find(rest, 44) < rest.len() {
+    if text::find(rest, b',') < rest.len() {
         return LineRead::Malformed;
     }
     let NumberRead::Number(n) = text::read_number(&t[..a], 65535) else {
@@ -94,13 +94,13 @@ fn read_code(t: &[u8], e: usize) -> LineRead
 fn read_line(t: &[u8]) -> LineRead
     ensures { λ r. ⌜ lineTold r ≡ lineRead (fieldsOf (now (t .entry))) ⌝ }
 {
-    let a = text::find(t, 44);
+    let a = text::find(t, b',');
     if a == t.len() {
         return LineRead::Malformed;
     }
     let next = a + 1;
     let rest = &t[next..];
-    let b = text::find(rest, 44);
+    let b = text::find(rest, b',');
     if b == rest.len() {
         return LineRead::Malformed;
     }
@@ -142,7 +142,7 @@ fn read_lines(file: &[u8], book: &mut [u8], met: &mut [u8]) -> LinesRead
     let mut good = true;
     while at < file.len() {
         let rest = &file[at..];
-        let n = text::find(rest, 10);
+        let n = text::find(rest, b'\n');
         if n == rest.len() {
             return LinesRead::Refused;
         }

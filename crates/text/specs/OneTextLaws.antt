@@ -13,7 +13,7 @@ use Rattle.bits.specs.Basics.{pick, every}
 use Rattle.bits.specs.BasicsLaws.{both-true}
 use Rattle.text.specs.Text.{comma, lineFeed, isDigit, isNumber, valueFrom, numberUpTo, onto, pieces, allEnded, linesOf, fieldsOf, same, digitsBefore, decimal, joined}
 use Rattle.text.specs.Reading.{lineBefore}
-use Rattle.text.specs.TextLaws.{some-piece, ended-step}
+use Rattle.text.specs.TextLaws.{none-some, some-piece, ended-step}
 
 -- ---- a number
 digit-range : (c : ℕ) → isDigit c ≡ true → (48 ≤ c) × (c ≤ 57)
@@ -103,8 +103,8 @@ number-decimal most n t q k = go (isNumber t) (leb (valueFrom 0 t) most) refl q
   where
     go : (a b : Bool) → isNumber t ≡ a → pick (a && b) (some (valueFrom 0 t)) none ≡ some n → t ≡ decimal n
     go true true e h = let v : valueFrom 0 t ≡ n = cc in is-decimal t e (rw v k) ∙ ap decimal v
-    go true false e h = let z : _≡_ {A = ℕ} 0 1 = cc in absurd (omega arith)
-    go false b e h = let z : _≡_ {A = ℕ} 0 1 = cc in absurd (omega arith)
+    go true false e h = none-some h
+    go false b e h = none-some h
 
 -- ---- pieces
 -- pieces with a separator between them
@@ -143,14 +143,14 @@ ended (l ∷ ls) = l ++ (lineFeed ∷ ended ls)
 
 ended-rejoined : (ps ts : List (List ℕ)) → allEnded ps ≡ some ts → rejoined lineFeed ps ≡ ended ts
 unfolding allEnded rejoined ended
-ended-rejoined [] ts q = let z : _≡_ {A = ℕ} 0 1 = cc in absurd (omega arith)
+ended-rejoined [] ts q = none-some q
 ended-rejoined ([] ∷ []) ts q = let e : [] ≡ ts = cc in rw (← e)
-ended-rejoined ((c ∷ t) ∷ []) ts q = let z : _≡_ {A = ℕ} 0 1 = cc in absurd (omega arith)
+ended-rejoined ((c ∷ t) ∷ []) ts q = none-some q
 ended-rejoined (l ∷ (m ∷ ms)) ts q = go (allEnded (m ∷ ms)) (sym (ended-step l (m ∷ ms) (omega arith)) ∙ q) (ended-rejoined (m ∷ ms))
   where
     go : (o : Option (List (List ℕ))) → lineBefore l o ≡ some ts → ((us : List (List ℕ)) → o ≡ some us → rejoined lineFeed (m ∷ ms) ≡ ended us)
         → l ++ (lineFeed ∷ rejoined lineFeed (m ∷ ms)) ≡ ended ts
-    go none h next = let z : _≡_ {A = ℕ} 0 1 = cc in absurd (omega arith)
+    go none h next = none-some h
     go (some us) h next = let e : l ∷ us ≡ ts = cc in rw (← e, next us refl)
 
 -- a text is its lines, each with its line feed

@@ -16,6 +16,10 @@ use Rattle.text.specs.Text.{lineFeed, isDigit, isNumber, valueFrom, numb
 use Rattle.text.specs.Reading.{countBefore, digitOf, digitsFrom, lineBefore, without}
 
 -- ---- tests
+-- nothing is not something
+pub none-some : {A B : Type 0} {x : A} → none ≡ some x → B
+none-some q = let z : _≡_ {A = ℕ} 0 1 = cc in absurd (omega arith)
+
 and-off : (a b : Bool) → b ≡ false → (a && b) ≡ false
 and-off true b e = e
 and-off false b e = refl
@@ -179,8 +183,8 @@ number-le most n t = go (isNumber t) (leb (valueFrom 0 t) most) refl
   where
     go : (a b : Bool) → leb (valueFrom 0 t) most ≡ b → pick (a && b) (some (valueFrom 0 t)) none ≡ some n → n ≤ most
     go true true e q = let v : valueFrom 0 t ≡ n = cc in omega (arith, leb-true (valueFrom 0 t) most e)
-    go true false e q = let z : _≡_ {A = ℕ} 0 1 = cc in absurd (omega arith)
-    go false b e q = let z : _≡_ {A = ℕ} 0 1 = cc in absurd (omega arith)
+    go true false e q = none-some q
+    go false b e q = none-some q
 
 -- ---- pieces
 -- no separator: the text is the one piece

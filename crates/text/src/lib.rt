@@ -45,13 +45,13 @@ pub fn same(t: &[u8], u: &[u8]) -> bool
 fn digit(c: u8) -> u64
     ensures { λ r. ⌜ r ≡ digitOf c ⌝ }
 {
-    if c < 48 {
+    if c < b'0' {
         return 10;
     }
-    if 57 < c {
+    if b'9' < c {
         return 10;
     }
-    (c - 48) as u64
+    (c - b'0') as u64
 }
 
 // The number that a run of digits stands for, where it is at most `most`. The value passes no bound on the way.
@@ -87,7 +87,7 @@ pub fn read_number(t: &[u8], most: u64) -> NumberRead
     if t.len() == 1 {
         return read_digits(t, most);
     }
-    if t[0] == 48 {
+    if t[0] == b'0' {
         return NumberRead::NoNumber;
     }
     read_digits(t, most)
@@ -139,7 +139,7 @@ pub fn put_decimal(out: &mut [u8], at: usize, n: u64) -> usize
     let mut m = n;
     while at < i {
         i -= 1;
-        out[i] = 48 + (m % 10) as u8;
+        out[i] = b'0' + (m % 10) as u8;
         m /= 10;
     }
     at + k
