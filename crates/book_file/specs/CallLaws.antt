@@ -12,7 +12,7 @@ use Rattle.bits.specs.Codes.{goodTable}
 use Rattle.text.specs.TextLaws.{none-some}
 use Rattle.book.specs.Book.{bookEntries, bookBytes, codeTableSizes, eachPrefixFree, codesRefusal, bookRefusal}
 use Rattle.book_file.specs.BookFile.{Line, mentions, onceEach, bookOf, linesRefusal, refusalRead, bookRead, fileLines, fileRefusal, fileBook}
-use Rattle.book_file.specs.Scan.{Held, Unmet, BookFileRead, readFileRefusal, readFileBook, scanLines, scanned, allMet}
+use Rattle.book_file.specs.Scan.{Held, Unmet, begun, BookFileRead, readFileRefusal, readFileBook, scanLines, scanned, allMet}
 use Rattle.book_file.specs.HeldLaws.{goodLine, scan-good, scan-lengths, scan-met, Doubled, scan-doubled, once-at, once-is}
 use Rattle.book_file.specs.BytesLaws.{scan-bytes, bytes-are, table-good}
 
@@ -31,9 +31,6 @@ module _ (ls : List Line) (once : onceEach bookEntries 0 ls ≡ true) where
   lines-book g h = rw (once, g, h, book-good g)
 
 -- ---- what a scan from the start says of a file
-abbrev pub begun : List ℕ → List ℕ → Held
-begun book met = record { book = book; met = met; good = true }
-
 zeros-at : (n k : ℕ) → _≡_ {A = ℕ} (getD (replicate n 0) k 0) 0
 zeros-at zero k = refl
 zeros-at (suc n) zero = refl

@@ -1,7 +1,7 @@
 -- Forms of the definitions of BookFile that reading line after line follows; ScanLaws ties each to its definition (document 01, "The book", refusals 5, 6, 7).
 use Prim.Native.Nat.{ℕ, _+_, _*_, _/_, _%_}
 use mathlib.Core.Path.{_≡_}
-use mathlib.Core.Bool.{Bool, _&&_}
+use mathlib.Core.Bool.{Bool, true, _&&_}
 use mathlib.Core.List.{List, [], _∷_}
 use mathlib.Core.Option.{Option, none, some}
 use lib.Dec.{eqb}
@@ -46,6 +46,10 @@ pub record Held : Type 0 where
   pub book : List ℕ
   pub met : List ℕ
   pub good : Bool
+
+-- before the first line: a book's bytes as they are, and the marks
+abbrev pub begun : List ℕ → List ℕ → Held
+begun book met = record { book = book; met = met; good = true }
 
 -- the three bytes of an entry put into a book, the length's low byte standing for the length
 unfoldable pub withEntry : List ℕ → ℕ → ℕ → ℕ → List ℕ

@@ -1,6 +1,6 @@
 // Book files: the text form of a book of code tables.
 ghost use mathlib.Core.Path.{_≡_};
-ghost use mathlib.Core.Bool.{true, _&&_};
+ghost use mathlib.Core.Bool.{_&&_};
 ghost use mathlib.Core.Option.{some, none};
 ghost use Prim.Native.Nat.{_+_, _*_, _≤_, _<_};
 ghost use lib.Dec.{ltb};
@@ -9,7 +9,7 @@ ghost use Rattle.bits.specs.Basics.{pick};
 ghost use Rattle.text.specs.Text.{fieldsOf};
 ghost use Rattle.book.specs.Book.{bookEntries, bookBytes};
 ghost use Rattle.book_file.specs.BookFile.{fileTables, entryNamed, lineRead, fileLines};
-ghost use Rattle.book_file.specs.Scan.{Held, Unmet, FileHeld, BookFileRead, entryTold, lineTold, heldTold, codeAt, withEntry, scanned, allMet};
+ghost use Rattle.book_file.specs.Scan.{Unmet, begun, FileHeld, BookFileRead, entryTold, lineTold, heldTold, codeAt, withEntry, scanned, allMet};
 use bits::inner;
 use text::NumberRead;
 
@@ -136,7 +136,7 @@ fn both(a: bool, b: bool) -> bool
 // Every line of a file: its entry put into the book and marked as met.
 fn read_lines(file: &[u8], book: &mut [u8], met: &mut [u8]) -> LinesRead
     requires { ⌜ (length (now book) ≡ bookBytes) × (length (now met) ≡ bookEntries) ⌝ }
-    ensures { λ r. ⌜ heldTold r (now (book .exit)) (now (met .exit)) ≡ scanned (fileLines (now (file .entry))) (record { book = now (book .entry); met = now (met .entry); good = true }) ⌝ }
+    ensures { λ r. ⌜ heldTold r (now (book .exit)) (now (met .exit)) ≡ scanned (fileLines (now (file .entry))) (begun (now (book .entry)) (now (met .entry))) ⌝ }
 {
     let mut at = 0;
     let mut good = true;

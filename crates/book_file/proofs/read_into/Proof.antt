@@ -5,8 +5,8 @@ use native.Mathlib.Omega.{arith}
 use borrow.Author.Needs.{needs}
 use denote.Ref.{now}
 use Rattle.book_file.specs.BookFile.{fileLines}
-use Rattle.book_file.specs.Scan.{Held, heldTold, scanned}
-use Rattle.book_file.specs.CallLaws.{begun, file-stopped, file-missing, file-bad-code, file-whole}
+use Rattle.book_file.specs.Scan.{Held, begun, heldTold, scanned}
+use Rattle.book_file.specs.CallLaws.{file-stopped, file-missing, file-bad-code, file-whole}
 use Rattle.book_file.specs.declared.LinesRead.{LinesRead}
 use Rattle.book_file.proofs.read_into.Statement.{statement}
 use Rattle.book_file.proofs.read_into.Tie as tie

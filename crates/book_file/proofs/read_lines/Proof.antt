@@ -1,7 +1,6 @@
 -- `book_file::read_lines` meets its contract: what the lines read so far leave, with the lines left, makes what all lines leave. Assumes nothing.
 use Prim.Native.Nat.{ℕ, _+_, _-_, _≤_, _<_}
 use mathlib.Core.Path.{_≡_, refl, sym, ap, _∙_}
-use mathlib.Core.Bool.{true}
 use mathlib.Core.List.{List}
 use mathlib.Core.Option.{Option, some, none}
 use native.Mathlib.Omega.{arith}
@@ -14,7 +13,7 @@ use Rattle.bits.specs.Basics.{pick}
 use lib.Seq.{length-take-le}
 use Rattle.text.specs.Text.{fieldsOf}
 use Rattle.book_file.specs.BookFile.{Line, lineRead, fileLines}
-use Rattle.book_file.specs.Scan.{Held, lineTold, scanLines, scanned, kept}
+use Rattle.book_file.specs.Scan.{Held, begun, lineTold, scanLines, scanned, kept}
 use Rattle.book_file.specs.ScanLaws.{partFrom, LineFits, line-fits, file-end, file-open, file-bad, file-line, scan-step, kept-is, length-part}
 use Rattle.book_file.proofs.read_lines.Statement.{statement}
 use Rattle.book_file.proofs.read_lines.Tie as tie
@@ -23,7 +22,7 @@ abbrev Inv-loop : tie.InvT-loop
 Inv-loop file book₀ met₀ at₀ good₀ book met at good =
     (at ≤ length file) × (length book ≡ length book₀) × (length met ≡ length met₀)
     × (scanned (fileLines (drop at file)) (record { book = book; met = met; good = good })
-    ≡ scanned (fileLines file) (record { book = book₀; met = met₀; good = true }))
+    ≡ scanned (fileLines file) (begun book₀ met₀))
 
 abbrev μ-loop : tie.MeasureT-loop
 μ-loop file book₀ met₀ at₀ good₀ book met at good = length file - at
@@ -45,7 +44,7 @@ abbrev state : tie.At-loop Inv-loop μ-loop → Held
 state u = record { book = u .loop .book; met = u .loop .met; good = u .loop .good }
 
 abbrev all : tie.At-loop Inv-loop μ-loop → Option Held
-all u = scanned (fileLines (file u)) (record { book = now (u .before .before .before .before .args .book); met = now (u .before .before .before .before .args .met); good = true })
+all u = scanned (fileLines (file u)) (begun (now (u .before .before .before .before .args .book)) (now (u .before .before .before .before .args .met)))
 
 told : (d : tie.After-known-told Inv-loop μ-loop) → lineRead (fieldsOf (take (bytes d) (partFrom (head d .loop .at) (file (head d))))) ≡ some (line d)
 told d = sym (d .before .before .before .read-line .ensures) ∙ ap lineTold (d .before .e .given .1)
