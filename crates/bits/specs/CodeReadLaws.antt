@@ -1,4 +1,4 @@
--- Laws of reading a code: what was written is read back. Upper layers cite read-at, read-put, read-after, code-at-bit, take-code and take-bits.
+-- Laws of reading a code: what was written is read back. Upper layers cite read-at, read-put, read-after, code-at-bit, take-code, take-bits, bits-at-bit and bits-short.
 use Prim.Native.Nat.{ℕ, zero, suc, _+_, _^_, _≤_, _<_, suc-le-suc}
 use mathlib.Core.Path.{_≡_, refl, sym, ap, _∙_}
 use mathlib.Core.Bool.{Bool, true, false, true≢false}
@@ -6,15 +6,15 @@ use mathlib.Core.List.{List, [], _∷_, _++_, append-assoc}
 use native.Mathlib.Omega.{arith}
 use native.Mathlib.Nat.{not-suc-le-zero, le-of-suc-le-suc, mod-eq-of-lt, add-zero, zero-add}
 use lib.Dec.{eqb}
-use lib.ListN.{length, take, drop, length-append}
+use lib.ListN.{length, take, drop, length-append, length-drop}
 use lib.Seq.{take-at, drop-at, drop-drop}
-use borrow.Author.Tests.{le-ltb}
+use borrow.Author.Tests.{le-ltb, lt-ltb}
 use Rattle.bits.specs.Basics.{pick}
 use Rattle.bits.specs.BasicsLaws.{both-true, either-right, is-false}
-use Rattle.bits.specs.Bits.{msb, putBits}
+use Rattle.bits.specs.Bits.{msb, valOf, putBits}
 use Rattle.bits.specs.BitsLaws.{drop-put, drop-after, length-msb}
 use Rattle.bits.specs.ReadLaws.{valOf-msb}
-use Rattle.bits.specs.Codes.{begins, clash, apart, prefixFree, code, firstCode, anyStart, readCode, got, codeGot, takeCode, takeBits}
+use Rattle.bits.specs.Codes.{begins, clash, apart, prefixFree, code, firstCode, anyStart, readCode, got, bad, codeGot, takeCode, takeBits}
 use Rattle.bits.specs.CodesLaws.{begins-append, begins-window, starts-window, eqb-swap, apart-at}
 use Rattle.bits.specs.declared.svq1_vlc.CodeRead.{CodeRead}
 use Rattle.bits.specs.declared.svq1_vlc.CodeRead.the-variants.{Code, NoCode, Ends}
@@ -161,3 +161,14 @@ take-bits w v r h =
       valOf-msb w v,
       mod-eq-of-lt h,
     )
+
+-- taking w bits from bit `at` on: their number, and what stands behind them
+pub bits-at-bit : (w at : ℕ) (bits : List ℕ) → at + w ≤ length bits → takeBits w (drop at bits) ≡ got (valOf (take w (drop at bits))) (drop (at + w) bits)
+unfolding takeBits
+bits-at-bit w at bits h =
+    rw (le-ltb (length (drop at bits)) w (rw length-drop (omega arith)), drop-drop w at bits)
+
+-- and where they end before
+pub bits-short : (w at : ℕ) (bits : List ℕ) → at ≤ length bits → length bits < at + w → takeBits w (drop at bits) ≡ bad 24
+unfolding takeBits
+bits-short w at bits h k = rw (lt-ltb (length (drop at bits)) w (rw length-drop (omega arith)))

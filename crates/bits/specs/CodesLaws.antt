@@ -1,7 +1,7 @@
 -- Laws of tables of codes: what begins a run of bits, a code by its entry, good and prefix-free tables. Upper layers cite code-at, length-codesOf, good-is.
 use Prim.Native.Nat.{ℕ, zero, suc, _+_, _-_, _*_, _/_, _%_, _^_, _≤_, _<_}
 use mathlib.Core.Path.{_≡_, refl, sym, ap, _∙_, subst}
-use mathlib.Core.Bool.{Bool, true, false, not, _&&_, true≢false}
+use mathlib.Core.Bool.{Bool, true, false, not, _&&_, _||_, true≢false}
 use mathlib.Core.List.{List, [], _∷_, _++_}
 use native.Mathlib.Numerals.{add-one}
 use native.Mathlib.Decide.{decLt}
@@ -62,6 +62,26 @@ starts-window (x ∷ c) (y ∷ bs) (suc n) h e = go (eqb y x) refl (λ q. starts
         → (eqb y x && begins (take n bs) c) ≡ (eqb y x && begins bs c)
     go true q next = ap (_&&_ (eqb y x)) (next (rw (eqb-swap x y, q) at e))
     go false q next = rw q
+
+-- of two codes only the shorter can begin the other
+pub clash-short : (c d : List ℕ) → length c ≤ length d → clash c d ≡ begins c d
+unfolding begins
+clash-short [] d h = refl
+clash-short (x ∷ c) [] h = absurd (not-suc-le-zero h)
+clash-short (x ∷ c) (y ∷ d) h = rw (eqb-swap y x) (go (eqb x y) (clash-short c d (le-of-suc-le-suc h)))
+  where
+    go : (t : Bool) → clash c d ≡ begins c d → ((t && begins c d) || (t && begins d c)) ≡ (t && begins c d)
+    go true e = e
+    go false e = refl
+
+pub clash-swap : (c d : List ℕ) → clash c d ≡ clash d c
+clash-swap c d = go (begins c d) (begins d c)
+  where
+    go : (s t : Bool) → (s || t) ≡ (t || s)
+    go true true = refl
+    go true false = refl
+    go false true = refl
+    go false false = refl
 
 -- whether the a bits of x begin the b bits of y, by a shift
 pub begins-msb : (a b x y : ℕ) → a ≤ b → x < 2 ^ a → y < 2 ^ b → begins (msb a x) (msb b y) ≡ eqb (y / 2 ^ (b - a)) x

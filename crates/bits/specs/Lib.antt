@@ -8,5 +8,6 @@ pub mod Codes
 pub mod CodesLaws
 pub mod CodeReadLaws
 pub mod Inner
+pub mod InnerLaws
 pub mod Calls
 pub mod CallsLaws

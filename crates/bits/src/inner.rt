@@ -7,7 +7,7 @@ ghost use lib.ListN.{length, take, drop};
 ghost use Rattle.bits.specs.Bits.{msb, valOf, bitsOf, putBits};
 ghost use Rattle.bits.specs.Inner.{Fits, GoodEntry, Wrote, FirstThatBegins};
 ghost use Rattle.bits.specs.Calls.{startRefusal, roomRefusal, bitsRefusal};
-ghost use Rattle.bits.specs.Codes.{begins, code, codesOf, codeLen, codeVal, anyStart, readCode, apart, prefixFree, goodEntry, goodTable};
+ghost use Rattle.bits.specs.Codes.{begins, clash, code, codesOf, codeLen, codeVal, anyStart, readCode, apart, prefixFree, goodEntry, goodTable};
 use super::svq1_vlc::CodeRead;
 
 // The byte b with its low k bits replaced by v shifted up by z.
@@ -181,6 +181,18 @@ pub fn put_code(out: &mut [u8], at: usize, table: &[u8], k: usize) -> usize
     put_bits(out, at, len, val)
 }
 
+// Whether one of two runs of bits begins the other: only the shorter can.
+fn clash_bits(x: u64, a: u32, y: u64, b: u32) -> bool
+    requires { ⌜ (a ≤ 32) × (b ≤ 32) × (x < 2 ^ a) × (y < 2 ^ b) ⌝ }
+    ensures { λ r. ⌜ r ≡ clash (msb a x) (msb b y) ⌝ }
+{
+    if a <= b {
+        begins_bits(x, a, y, b)
+    } else {
+        begins_bits(y, b, x, a)
+    }
+}
+
 // Whether code i begins no later code, and no later code begins it.
 fn apart_from(table: &[u8], i: usize) -> bool
     requires { ⌜ (i < length (now table) / 3) × (goodTable (now table) ≡ true) ⌝ }
@@ -193,10 +205,7 @@ fn apart_from(table: &[u8], i: usize) -> bool
     while j < n {
         let y = entry_val(table, j);
         let b = entry_len(table, j);
-        if begins_bits(x, a, y, b) {
-            return false;
-        }
-        if begins_bits(y, b, x, a) {
+        if clash_bits(x, a, y, b) {
             return false;
         }
         j += 1;

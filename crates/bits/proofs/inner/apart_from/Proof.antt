@@ -1,4 +1,4 @@
--- `inner::apart_from` meets its contract. The test of the codes behind `i` is what is left of it from `j` on; `first` and `second` say what the two comparisons of a turn are.
+-- `inner::apart_from` meets its contract. The test of the codes behind `i` is what is left of it from `j` on.
 use Prim.Native.Nat.{ℕ, _+_, _-_, _/_, _^_, _≤_, _<_}
 use mathlib.Core.Path.{_≡_, refl, sym, _∙_}
 use mathlib.Core.Bool.{not, _&&_}
@@ -6,7 +6,7 @@ use mathlib.Core.List.{List}
 use native.Mathlib.Omega.{arith}
 use denote.Ref.{now}
 use lib.ListN.{length, drop}
-use Rattle.bits.specs.Codes.{begins, clash, codesOf, apart, code}
+use Rattle.bits.specs.Codes.{clash, codesOf, apart, code}
 use Rattle.bits.specs.CodesLaws.{code-at, length-codesOf, apart-step, apart-end, good-is}
 use Rattle.bits.proofs.inner.apart_from.Statement.{statement}
 use Rattle.bits.proofs.inner.apart_from.Tie as tie
@@ -53,60 +53,38 @@ good c =
       rw (c .entry-len2 .ensures, c .before .entry-val2 .ensures) (g .small j h),
     )
 
--- what the two tests say
-first : (c : tie.After-begins-bits Inv-loop μ-loop) →
+-- what the test says
+tested : (c : tie.After-clash-bits Inv-loop μ-loop) →
     let u = c .before .before .before .before in
     let s = u .before .before .before .before in
     let cs = codesOf (now (s .args .table)) in
-    c .begins-bits .result ≡ begins (code cs (s .args .i)) (code cs (u .loop .j))
-first c =
+    c .clash-bits .result ≡ clash (code cs (s .args .i)) (code cs (u .loop .j))
+tested c =
     let u = c .before .before .before .before in
     let x = u .before in
     let s = x .before .before .before in
     let t : List ℕ = now (s .args .table) in
     rw (code-at t (s .args .i) (s .pre .0), code-at t (u .loop .j) (omega arith), ← x .entry-len .ensures, ← x .before .entry-val .ensures, ← c .before .entry-len2 .ensures, ← c .before .before .entry-val2 .ensures)
-    (c .begins-bits .ensures)
-
-second : (c : tie.After-begins-bits2 Inv-loop μ-loop) →
-    let u = c .before .before .before .before .before .before in
-    let s = u .before .before .before .before in
-    let cs = codesOf (now (s .args .table)) in
-    c .begins-bits2 .result ≡ begins (code cs (u .loop .j)) (code cs (s .args .i))
-second c =
-    let l = c .before .before .before in
-    let u = l .before .before .before in
-    let x = u .before in
-    let s = x .before .before .before in
-    let t : List ℕ = now (s .args .table) in
-    rw (code-at t (s .args .i) (s .pre .0), code-at t (u .loop .j) (omega arith), ← x .entry-len .ensures, ← x .before .entry-val .ensures, ← l .entry-len2 .ensures, ← l .before .entry-val2 .ensures)
-    (c .begins-bits2 .ensures)
+    (c .clash-bits .ensures)
 
 -- a turn's step of the definition
-step : (c : tie.In-loop Inv-loop μ-loop) →
-    let u = c .before in
+step : (c : tie.After-clash-bits Inv-loop μ-loop) →
+    let u = c .before .before .before .before in
     let s = u .before .before .before .before in
     let cs = codesOf (now (s .args .table)) in
     let d = code cs (s .args .i) in
-    apart d (drop (s .args .i + 1) cs) ≡ (not (clash d (code cs (u .loop .j))) && apart d (drop (u .loop .j + 1) cs))
+    apart d (drop (s .args .i + 1) cs) ≡ (not (c .clash-bits .result) && apart d (drop (u .loop .j + 1) cs))
 step c =
-    let u = c .before in
+    let u = c .before .before .before .before in
     let s = u .before .before .before .before in
     let t : List ℕ = now (s .args .table) in
-    u .loop .inv ∙ apart-step _ (codesOf t) (u .loop .j) (omega (arith, length-codesOf t))
+    u .loop .inv ∙ apart-step _ (codesOf t) (u .loop .j) (omega (arith, length-codesOf t)) ∙ rw (← tested c)
 
-begins-bits-requires : tie.Need-begins-bits-requires Inv-loop μ-loop
-begins-bits-requires c κs = good c
+clash-bits-requires : tie.Need-clash-bits-requires Inv-loop μ-loop
+clash-bits-requires c κs = good c
 
 returns : tie.Need-returns Inv-loop μ-loop
-returns c = sym (step (c .before .before .before .before) ∙ rw (sym (first (c .before)) ∙ c .if1 .taken))
-
-begins-bits-requires-2 : tie.Need-begins-bits-requires-2 Inv-loop μ-loop
-begins-bits-requires-2 c κs =
-    let g = good (c .before .before) in
-    (g .1, g .0, g .3, g .2)
-
-returns-2 : tie.Need-returns-2 Inv-loop μ-loop
-returns-2 c = sym (step (c .before .before .before .before .before .before) ∙ rw (sym (first (c .before .before .before)) ∙ c .before .before .if1 .left, sym (second (c .before)) ∙ c .if2 .taken))
+returns c = sym (step (c .before) ∙ rw (c .if1 .taken))
 
 add-j-2 : tie.Need-add-j-2 Inv-loop μ-loop
 add-j-2 c = omega arith
@@ -115,10 +93,10 @@ loop-less : tie.Need-loop-less Inv-loop μ-loop
 loop-less c = omega arith
 
 loop-again : tie.Need-loop-again Inv-loop μ-loop
-loop-again c = step (c .before .before .before .before .before .before) ∙ rw (sym (first (c .before .before .before)) ∙ c .before .before .if1 .left, sym (second (c .before)) ∙ c .if2 .left)
+loop-again c = step (c .before) ∙ rw (c .if1 .left)
 
-returns-3 : tie.Need-returns-3 Inv-loop μ-loop
-returns-3 c =
+returns-2 : tie.Need-returns-2 Inv-loop μ-loop
+returns-2 c =
     let t : List ℕ = now (c .before .before .before .before .before .args .table) in
     sym (c .before .loop .inv ∙ apart-end _ (codesOf t) (c .before .loop .j) (omega (arith, length-codesOf t)))
 
@@ -134,11 +112,9 @@ apart-from-spec =
     loop-holds
     entry-val-requires-2
     entry-len-requires-2
-    begins-bits-requires
+    clash-bits-requires
     returns
-    begins-bits-requires-2
-    returns-2
     add-j-2
     loop-less
     loop-again
-    returns-3)
+    returns-2)
