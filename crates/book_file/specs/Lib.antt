@@ -1,2 +1,11 @@
--- The definitions that the contracts of this crate cite.
+-- The definitions that the contracts of this crate cite; the laws that callers cite stand in the files named `..Laws`.
 pub mod BookFile
+pub mod Scan
+pub mod ScanLaws
+pub mod HeldLaws
+pub mod BytesLaws
+pub mod CallLaws
+pub mod FileText
+pub mod FileTextLaws
+pub mod OneFileLaws
+pub mod BookFileLaws
