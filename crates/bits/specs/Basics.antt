@@ -39,7 +39,7 @@ unfoldable pub valuesFrom : {A : Type 0} → (ℕ → A) → ℕ → ℕ → Lis
 valuesFrom f zero j = []
 valuesFrom f (suc n) j = f j ∷ valuesFrom f n (suc j)
 
--- refusals, lowest number first (document 01, "Refused for what came in"): the first of two that is one; 0 is none
+-- refusals (document 01, "Refused for what came in"): the first of two that is one, 0 being none. Calls list theirs lowest number first
 abbrev pub orElse : ℕ → ℕ → ℕ
 orElse a b = pick (eqb a 0) b a
 
@@ -50,6 +50,11 @@ unless b n = pick b 0 n
 -- the signed number that a two's complement byte stands for
 abbrev pub signedOf : ℕ → ℤ
 signedOf n = pick (ltb n 128) (pos n) (negsuc (255 - n))
+
+-- the two's complement byte of a signed number
+abbrev pub signedByte : ℤ → ℕ
+signedByte (pos n) = n
+signedByte (negsuc n) = 255 - n
 
 -- the natural number that a signed one is, 0 below 0
 abbrev pub natural : ℤ → ℕ

@@ -9,11 +9,7 @@ use Rattle.bits.specs.Codes.{codesOf, goodTable, prefixFree}
 use Rattle.book.specs.declared.svq1_vlc.Svq1Half.{Svq1Half}
 use Rattle.book.specs.declared.svq1_vlc.Svq1Half.the-variants.{Intra, Inter}
 
--- entries of mode, vector, intramean, intermean, intrastage, interstage, in the order in which a lent book holds them
-abbrev pub tableSizes : List ℕ
-tableSizes = 4 ∷ 64 ∷ 256 ∷ 512 ∷ 48 ∷ 48 ∷ []
-
--- entries in all, and bytes: three an entry
+-- a lent book holds mode, vector, intramean, intermean, intrastage, interstage in this order: 4 + 64 + 256 + 512 + 48 + 48 entries, of three bytes each
 abbrev pub bookEntries : ℕ
 bookEntries = 932
 

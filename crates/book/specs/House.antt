@@ -4,7 +4,7 @@ use mathlib.Core.Bool.{Bool, true, false}
 use mathlib.Core.List.{List, [], _∷_, _++_}
 use lib.Dec.{ltb}
 use lib.IntN.{ℤ, pos, negsuc, subℕ}
-use Rattle.bits.specs.Basics.{pick, valuesFrom}
+use Rattle.bits.specs.Basics.{pick, valuesFrom, signedByte}
 use Rattle.book.specs.Book.{bookEntries, codebookBytes}
 
 -- floor of the logarithm to base 2, of a number below 2^fuel
@@ -45,10 +45,6 @@ houseBook = houseFrom bookEntries 0
 abbrev pub houseSample : ℕ → ℤ
 houseSample i = subℕ ((37 * i + i / 16) % 61) 30
 
--- as the two's complement byte that stands in memory
-abbrev pub signedByte : ℤ → ℕ
-signedByte (pos n) = n
-signedByte (negsuc n) = 255 - n
-
+-- the codebook as it stands in memory, in two's complement bytes
 unfoldable pub houseCodebook : List ℕ
 houseCodebook = valuesFrom (λ i. signedByte (houseSample i)) codebookBytes 0

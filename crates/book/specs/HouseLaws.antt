@@ -13,7 +13,8 @@ use Rattle.bits.specs.BasicsLaws.{both-true, length-values, value-at}
 use Rattle.bits.specs.Bits.{msb}
 use Rattle.bits.specs.Codes.{codeVal, codeLen, codesOf, goodTable}
 use Rattle.book.specs.Book.{bookEntries, bookBytes, codebookBytes, modeTable, codeTableSizes, eachPrefixFree, codesRefusal, bookRefusal}
-use Rattle.book.specs.House.{logUnder, signedRank, rank, houseValue, houseLength, houseFrom, houseBook, houseSample, signedByte, houseCodebook}
+use Rattle.book.specs.House.{logUnder, signedRank, rank, houseValue, houseLength, houseFrom, houseBook, houseSample, houseCodebook}
+use Rattle.bits.specs.Basics.{signedByte}
 use Rattle.book.specs.Trie.{none, free, enter, allFree, free-is}
 
 -- ---- the test that antt computes

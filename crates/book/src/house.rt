@@ -4,7 +4,8 @@ ghost use Prim.Native.Nat.{_<_};
 ghost use lib.ListN.{length};
 ghost use Rattle.book.specs.Book.{bookBytes, codebookBytes};
 ghost use Rattle.book.specs.Calls.{Filled};
-ghost use Rattle.book.specs.House.{houseBook, houseCodebook, houseSample, signedByte};
+ghost use Rattle.book.specs.House.{houseBook, houseCodebook, houseSample};
+ghost use Rattle.bits.specs.Basics.{signedByte};
 
 // Mode, vector, intramean, intermean, intrastage, interstage: 932 entries, each the code's high byte, its low byte, its length.
 const HOUSE_BOOK: [u8; 2796] = [

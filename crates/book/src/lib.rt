@@ -1,4 +1,4 @@
-// The book of code tables: its parts, its refusals, the house book, and book files.
+// The book of code tables: its parts, its refusals, and the house book.
 pub mod book;
 pub mod house;
 pub mod svq1_blocktree;

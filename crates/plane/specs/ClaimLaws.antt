@@ -17,7 +17,7 @@ use Rattle.bits.specs.BitsLaws.{put-nil, put-put, drop-put, put-length, length-
 use Rattle.bits.specs.Calls.{startRefusal}
 use Rattle.book.specs.Book.{bookRefusal, dataRefusal}
 use Rattle.book.specs.BookLaws.{data-passes}
-use Rattle.book.specs.House.{signedByte}
+use Rattle.bits.specs.Basics.{signedByte}
 use Rattle.leaf.specs.Leaf.{sse}
 use Rattle.motion.specs.Grid.{part}
 use Rattle.motion.specs.GridLaws.{part-own, part-other, agree-whole, agree-take}

@@ -8,7 +8,7 @@ use lib.ListN.{length, drop}
 use Rattle.bits.specs.Basics.{pick}
 use Rattle.bits.specs.Bits.{putBits}
 use Rattle.bits.specs.Codes.{Got, got, bad}
-use Rattle.book.specs.House.{signedByte}
+use Rattle.bits.specs.Basics.{signedByte}
 use Rattle.motion.specs.declared.svq1_motion_predictor.Svq1Mv.{Svq1Mv}
 use Rattle.motion.specs.Neighbours.{Near, nearOf}
 use Rattle.motion.specs.Grid.{putPart}

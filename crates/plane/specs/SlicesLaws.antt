@@ -6,7 +6,7 @@ use native.Mathlib.Omega.{arith}
 use native.Mathlib.Nat.{mul-assoc}
 use mathlib.Core.List.{List, map}
 use lib.ListN.{length, drop}
-use Rattle.book.specs.House.{signedByte}
+use Rattle.bits.specs.Basics.{signedByte}
 use Rattle.motion.specs.Grid.{putPart}
 use Rattle.motion.specs.GridLaws.{Agree, Holds, agree-put, length-put, in-owner, put-past}
 use Rattle.motion.specs.NeighboursLaws.{near-same}
