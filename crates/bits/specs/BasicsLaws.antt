@@ -5,6 +5,7 @@ use mathlib.Core.Bool.{Bool, true, false, _&&_, _||_, true≢false}
 use mathlib.Core.List.{[], _∷_, _++_}
 use native.Mathlib.Nat.{add-zero, not-suc-le-zero, le-of-suc-le-suc}
 use native.Mathlib.Omega.{arith}
+use native.Mathlib.Decide.{ℕ-discrete}
 use lib.Dec.{eqb}
 use lib.ListN.{length, getD}
 use borrow.Author.Tests.{eq-eqb, ne-eqb, eqb-true, eqb-false}
@@ -67,3 +68,15 @@ values-more f zero j = rw (add-zero j)
 values-more f (suc n) j =
     let e : suc j + n ≡ j + suc n = omega arith in
     ap (_∷_ (f j)) (values-more f n (suc j) ∙ ap (λ (k : ℕ). valuesFrom f n (suc j) ++ (f k ∷ [])) e)
+
+-- ---- a rule at every number below n, by one computed test
+unfoldable pub below : (ℕ → Bool) → ℕ → Bool
+below f zero = true
+below f (suc n) = f n && below f n
+
+pub below-at : (f : ℕ → Bool) (n i : ℕ) → below f n ≡ true → i < n → f i ≡ true
+unfolding below
+below-at f zero i e h = absurd (omega arith)
+below-at f (suc n) i e h =
+    let two = both-true (f n) (below f n) e in
+    elim (ℕ-discrete i n) [ yes q ↦ rw q (two .0) | no q ↦ below-at f n i (two .1) (omega arith) ]

@@ -1,27 +1,13 @@
 -- The two directions of the raster order are inverse to each other at L0 to L3: one computed test over every byte of every level.
 -- Assumes nothing.
-use mathlib.Core.Path.{_≡_, refl, sym}
-use mathlib.Core.Bool.{Bool, true, false, _&&_, true≢false}
+use mathlib.Core.Path.{_≡_, refl}
+use mathlib.Core.Bool.{Bool, true, false, _&&_}
 use Prim.Native.Nat.{ℕ, zero, suc, _<_}
-use native.Mathlib.Omega.{arith}
-use native.Mathlib.Decide.{ℕ-discrete}
 use lib.Dec.{eqb, ltb}
 use borrow.Author.Tests.{eqb-true, ltb-true}
-use Rattle.bits.specs.BasicsLaws.{both-true}
+use Rattle.bits.specs.BasicsLaws.{both-true, below, below-at}
 use Rattle.book.specs.Level.{area}
 use Rattle.leaf.specs.Codebook.{rasterOf, byteOf}
-
--- the test holds below n
-unfoldable below : (ℕ → Bool) → ℕ → Bool
-below f zero = true
-below f (suc n) = f n && below f n
-
-below-at : (f : ℕ → Bool) (n i : ℕ) → below f n ≡ true → i < n → f i ≡ true
-unfolding below
-below-at f zero i e h = absurd (omega arith)
-below-at f (suc n) i e h =
-    let two = both-true (f n) (below f n) e in
-    elim (ℕ-discrete i n) [ yes q ↦ rw q (two .0) | no q ↦ below-at f n i (two .1) (omega arith) ]
 
 -- at level d, byte or place b goes there and back, and stays in the vector
 there-and-back : ℕ → ℕ → Bool

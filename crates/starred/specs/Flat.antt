@@ -5,12 +5,12 @@ use mathlib.Core.Bool.{Bool, true, false, not, _&&_, true≢false}
 use mathlib.Core.List.{List, [], _∷_, _++_}
 use Prim.Native.Nat.{ℕ, zero, suc, _+_, _-_, _/_, _≤_, _<_}
 use native.Mathlib.Omega.{arith}
-use native.Mathlib.Decide.{ℕ-discrete}
 use lib.Dec.{eqb, leb, eqb·suc-zero}
 use borrow.Author.Tests.{eqb-true, not-true}
 use lib.ListN.{length, getD, replicate}
 use lib.IntN.{ℤ, pos, negsuc}
 use Rattle.bits.specs.Basics.{pick, natural}
+use Rattle.bits.specs.BasicsLaws.{both-true, below, below-at}
 use Rattle.bits.specs.Bits.{msb}
 use Rattle.bits.specs.Codes.{codesOf}
 use Rattle.book.specs.Level.{area}
@@ -31,29 +31,14 @@ use Rattle.tree.specs.PlanLaws.{splits-same}
 use Rattle.tree.specs.TreeBits.{Node, Off, Split, Ends, isSplit, grow, planTree}
 use Rattle.macroblock.specs.Choice.{skipsLeaves}
 
--- ---- tests over numbers and lists
-unfoldable below : (ℕ → Bool) → ℕ → Bool
-below f zero = true
-below f (suc n) = f n && below f n
-
-and-true : (a b : Bool) → a && b ≡ true → (a ≡ true) × (b ≡ true)
-and-true true b e = (refl, e)
-and-true false b e = absurd (true≢false (sym e))
-
-below-at : (f : ℕ → Bool) (n i : ℕ) → below f n ≡ true → i < n → f i ≡ true
-unfolding below
-below-at f zero i e h = absurd (omega arith)
-below-at f (suc n) i e h =
-    let two = and-true (f n) (below f n) e in
-    elim (ℕ-discrete i n) [ yes q ↦ rw q (two .0) | no q ↦ below-at f n i (two .1) (omega arith) ]
-
+-- ---- tests over lists
 same-is : (s t : List ℕ) → same s t ≡ true → s ≡ t
 unfolding same
 same-is [] [] e = refl
 same-is [] (d ∷ u) e = absurd (true≢false (sym e))
 same-is (c ∷ t) [] e = absurd (true≢false (sym e))
 same-is (c ∷ t) (d ∷ u) e =
-    let two = and-true (eqb c d) (same t u) e in
+    let two = both-true (eqb c d) (same t u) e in
     rw (eqb-true c d (two .0), same-is t u (two .1))
 
 natural-is : (z : ℤ) (n : ℕ) → natural z ≡ suc n → z ≡ pos (suc n)
@@ -104,8 +89,8 @@ exact h d l =
     let p = flat (area d) 0 in
     let a = eqb (natural (meanOf h (residual t p) (length t))) 100 in
     let b = eqb (sse t (samples (seeded (pos 100) p))) 0 in
-    let two = and-true (a && b) (not (leb (sse t p) 0)) (below-at (exactAt h) 6 d (exact-all h) l) in
-    let one = and-true a b (two .0) in
+    let two = both-true (a && b) (not (leb (sse t p) 0)) (below-at (exactAt h) 6 d (exact-all h) l) in
+    let one = both-true a b (two .0) in
     record {
       mean = natural-is (meanOf h (residual t p) (length t)) 99 (eqb-true (natural (meanOf h (residual t p) (length t))) 100 (one .0));
       met = eqb-true (sse t (samples (seeded (pos 100) p))) 0 (one .1);

@@ -1,8 +1,10 @@
 -- The definitions that the contracts of this crate cite; the laws that callers cite stand in the files named `..Laws`.
 pub mod Blocks
 pub mod BlocksLaws
+pub mod PlaceLaws
 pub mod Plan
 pub mod RowsLaws
+pub mod Turns
 pub mod GeometryLaws
 pub mod PlanLaws
 pub mod SumLaws
