@@ -10,6 +10,7 @@ pub mod PlanLaws
 pub mod SumLaws
 pub mod TreeBits
 pub mod TreeLaws
+pub mod Nodes
 pub mod ChoiceLaws
 pub mod PlanClaim
 pub mod PlanClaimLaws

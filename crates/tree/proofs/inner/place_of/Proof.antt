@@ -12,13 +12,13 @@ row-of-requires : tie.Need-row-of-requires
 row-of-requires c κs = search needs
 
 mul-result : tie.Need-mul-result
-mul-result c = omega (arith, mul-le-mul (@pre .1) (@row-of .ensures .1))
+mul-result c = omega (arith, mul-le-mul (c .before .pre .1) (c .row-of .ensures .1))
 
 column-of-requires : tie.Need-column-of-requires
 column-of-requires c κs = search needs
 
 add-result : tie.Need-add-result
-add-result c = omega (arith, mul-le-mul (@pre .1) (@row-of .ensures .1))
+add-result c = omega (arith, mul-le-mul (c .before .before .pre .1) (c .before .row-of .ensures .1))
 
 returns : tie.Need-returns
 returns c = 

@@ -1,0 +1,21 @@
+-- The block records of the code as the definitions' nodes.
+use mathlib.Core.List.{List, map}
+use Prim.Native.Nat.{ℕ}
+use Rattle.leaf.specs.Raised.{leafOf}
+use Rattle.tree.specs.declared.svq1_enc_tree.TreeNode.{TreeNode}
+use Rattle.tree.specs.declared.svq1_enc_tree.TreeNode.the-variants as node
+use Rattle.tree.specs.declared.svq1_enc_tree.Block.{Block}
+use Rattle.tree.specs.TreeBits.{Node, Off, Split, Ends}
+
+-- a node and its stage indices
+abbrev pub nodeAs : TreeNode → List ℕ → Node
+nodeAs node.Off js = Off
+nodeAs node.Split js = Split
+nodeAs (node.Leaf c) js = Ends (leafOf c js)
+
+abbrev pub nodeOf : Block → Node
+nodeOf b = nodeAs (b .node) (b .stages)
+
+-- the tree of an array of block records
+unfoldable pub treeOf : List Block → List Node
+treeOf bs = map nodeOf bs
