@@ -6,6 +6,7 @@ pub mod Plan
 pub mod RowsLaws
 pub mod Turns
 pub mod GeometryLaws
+pub mod Subtree
 pub mod PlanLaws
 pub mod SumLaws
 pub mod TreeBits

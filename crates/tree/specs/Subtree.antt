@@ -1,0 +1,77 @@
+-- The blocks of a plan that is made for a block of level d alone: those under the first block of that level.
+-- Assumes nothing.
+use mathlib.Core.Path.{_≡_, refl, sym}
+use mathlib.Core.Bool.{Bool, true, false, not, _&&_, _||_, true≢false}
+use Prim.Native.Nat.{ℕ, zero, suc, _+_, _-_, _*_, _^_, _≤_, _<_}
+use native.Mathlib.Omega.{arith}
+use native.Mathlib.Nat.{mul-le-mul-left}
+use lib.Dec.{leb, ltb}
+use borrow.Author.Tests.{leb-true}
+use Rattle.bits.specs.BasicsLaws.{both-true, below, below-at}
+use Rattle.book.specs.Level.{width, height, area}
+use Rattle.tree.specs.Blocks.{blockCount, left, right, level, first, placeUnder, place}
+use Rattle.tree.specs.RowsLaws.{Inside}
+use Rattle.tree.specs.GeometryLaws.{In}
+
+-- block i lies under the first block of level d: of its level's blocks it is among the first 2^(d - level)
+unfoldable pub inTree : ℕ → ℕ → Bool
+inTree d i = leb (level i) d && ltb (i - first (level i)) (2 ^ (d - level i))
+
+implies : (a b : Bool) → not a || b ≡ true → a ≡ true → b ≡ true
+implies true b e h = e
+implies false b e h = absurd (true≢false (sym h))
+
+-- ---- it lies in a plane of that block's size: one computed test over all levels and blocks
+last-row : ℕ → ℕ → Bool
+last-row d i = leb (place (width d) i + width d * (height (level i) - 1) + width (level i)) (area d)
+
+lies : ℕ → Bool
+lies d = below (λ i. not (inTree d i) || last-row d i) blockCount
+
+all-lie : below lies 6 ≡ true
+unfolding below lies inTree last-row place placeUnder
+all-lie = refl
+
+height-some : (d : ℕ) → d ≤ 5 → 1 ≤ height d
+height-some zero h = omega arith
+height-some (suc zero) h = omega arith
+height-some (suc (suc zero)) h = omega arith
+height-some (suc (suc (suc zero))) h = omega arith
+height-some (suc (suc (suc (suc zero)))) h = omega arith
+height-some (suc (suc (suc (suc (suc zero))))) h = omega arith
+height-some (suc (suc (suc (suc (suc (suc d)))))) h = absurd (omega arith)
+
+pub in-plane : (d i : ℕ) → d ≤ 5 → i < blockCount → inTree d i ≡ true → In (width d) (level i) i (area d)
+unfolding lies last-row
+in-plane d i f h t =
+    let e = implies (inTree d i) (last-row d i) (below-at (λ k. not (inTree d k) || last-row d k) blockCount i (below-at lies 6 d all-lie (omega arith)) h) t in
+    let l = leb-true (place (width d) i + width d * (height (level i) - 1) + width (level i)) (area d) e in
+    record { row = λ k r. omega (arith, mul-le-mul-left {m = k} {n = height (level i) - 1} (width d) (omega arith)) }
+
+-- ---- so do its parts, and the root is one of them
+parts-in : ℕ → ℕ → Bool
+parts-in d i = not (inTree d i) || (inTree d (left i) && inTree d (right i))
+
+parted : ℕ → Bool
+parted d = below (parts-in d) 31
+
+all-parted : below parted 6 ≡ true
+unfolding below parted parts-in inTree
+all-parted = refl
+
+pub tree-parts : (d i : ℕ) → d ≤ 5 → i < 31 → inTree d i ≡ true → (inTree d (left i) ≡ true) × (inTree d (right i) ≡ true)
+unfolding parted parts-in
+tree-parts d i f h t =
+    both-true (inTree d (left i)) (inTree d (right i))
+    (implies (inTree d i) (inTree d (left i) && inTree d (right i)) (below-at (parts-in d) 31 i (below-at parted 6 d all-parted (omega arith)) h) t)
+
+rooted : ℕ → Bool
+rooted d = inTree d (first d)
+
+all-rooted : below rooted 6 ≡ true
+unfolding below rooted inTree
+all-rooted = refl
+
+pub tree-root : (d : ℕ) → d ≤ 5 → inTree d (first d) ≡ true
+unfolding rooted
+tree-root d f = below-at rooted 6 d all-rooted (omega arith)
