@@ -12,6 +12,7 @@ pub mod SumLaws
 pub mod TreeBits
 pub mod TreeLaws
 pub mod Nodes
+pub mod Planned
 pub mod ChoiceLaws
 pub mod PlanClaim
 pub mod PlanClaimLaws
