@@ -16,3 +16,4 @@ pub mod Planned
 pub mod ChoiceLaws
 pub mod PlanClaim
 pub mod PlanClaimLaws
+pub mod PlannedLaws

@@ -27,8 +27,8 @@ use Rattle.tree.specs.Blocks.{blockCount, left, right, level, first, blo
 use Rattle.tree.specs.BlocksLaws.{level-0, level-le, At, at-parts}
 use Rattle.tree.specs.RowsLaws.{bytes-gather}
 use Rattle.tree.specs.GeometryLaws.{In, at-first, in-first, in-parts, first-whole, length-block, error-most, error-is, shown, length-shown, bytes-shown}
-use Rattle.tree.specs.Plan.{Weight, Planning, total, pruned, stride, root, leafAt, shownAt, weightAt, planWeight, planSplits, prunedCost}
-use Rattle.tree.specs.PlanLaws.{Under, most-bits, planned-under, optimal, room, own-plan, splits-zero}
+use Rattle.tree.specs.Plan.{Weight, Planning, total, pruned, stride, root, leafAt, shownAt, weightAt, planWeight, planSplits, prunedCost, planned}
+use Rattle.tree.specs.PlanLaws.{Under, most-bits, most-err, planned-under, optimal, room, own-plan, splits-zero}
 use Rattle.tree.specs.TreeBits.{Node, Off, Split, Ends, planTree, treeBits, readTree, treeShown, planningOf}
 use Rattle.tree.specs.TreeLaws.{Stands, tree-read}
 use Rattle.tree.specs.ChoiceLaws.{choice, tree, bits-are, shown-are}
@@ -104,6 +104,14 @@ module _ (g : Planning) (p : Planned g) where
         rw (counts i) (leaf-most (g .tables) (p .tables) (level i) (leafAt g i) e (allowed i)),
         rw (errs i) (omega (arith, error-most s (level i) i (g .target) (show i) e (p .target-bytes) (bytes-show i) (lens i (o .0 .1) at))),
       )
+
+  -- the same for every block that lies in the plane: what it weighs as a leaf and in the plan
+  pub leaf-under : (i : ℕ) → i < blockCount → In s (level i) i n → Under 88 (2 ^ 24) (weightAt g i)
+  leaf-under i h o = small (level i) i ((refl, h), o)
+
+  pub plan-under : (i : ℕ) → i < blockCount → In s (level i) i n
+      → Under (most-bits 88 (level i)) (most-err (2 ^ 24) (level i)) (planned (weightAt g) (g .lambda) (level i) i)
+  plan-under i h o = planned-under (weightAt g) (g .lambda) 88 (2 ^ 24) Ok ok-parts small (level i) i ((refl, h), o)
 
   ok-root : Ok (g .level) (root g)
   ok-root = (at-first (g .level) (p .five), in-first (g .level) (p .five))

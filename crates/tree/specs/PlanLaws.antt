@@ -114,7 +114,7 @@ module _ (leaf : ℕ → Weight) (lambda b e : ℕ) (Ok : ℕ → ℕ → Type 0
       (pruned leaf cut d (left i)) (pruned leaf cut d (right i)) (leaf i) (omega arith) (omega arith) h
       (optimal cut d (left i) (p .0) below) (optimal cut d (right i) (p .1) below) (cut i)
 
--- the most that a plan of a block weighs at lambdabda up to 2^48, with leaves of at most 88 bits and an error of at most 2^24
+-- the most that a plan of a block weighs at lambda up to 2^48, with leaves of at most 88 bits and an error of at most 2^24
 pub room : (lambda d : ℕ) → lambda ≤ 2 ^ 48 → d ≤ 5 → most-err (2 ^ 24) d + lambda * most-bits 88 d < 2 ^ 64
 room lambda zero h f = omega arith
 room lambda (suc zero) h f = omega arith

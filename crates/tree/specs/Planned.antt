@@ -8,32 +8,32 @@ use lib.Dec.{ltb}
 use borrow.Author.Tests.{lt-ltb, le-ltb}
 use Rattle.bits.specs.Basics.{pick}
 use Rattle.tree.specs.Plan.{Weight, cost, joined, flagged, cheaper}
-use Rattle.tree.specs.declared.svq1_enc_tree.Planned.{Planned}
+use Rattle.tree.specs.declared.svq1_enc_tree.PlannedBlock.{PlannedBlock}
 
 abbrev pub costOf : ℕ → ℕ → ℕ → ℕ
 costOf lambda bits err = cost lambda (record { bits = bits; err = err })
 
 -- what a record weighs
-abbrev pub weigh : Planned → Weight
+abbrev pub weigh : PlannedBlock → Weight
 weigh b = record { bits = b .bits; err = b .error }
 
 -- sums over a whole tree stay far below 32 bits
-pub record Light (b : Planned) : Type 0 where
+pub record Light (b : PlannedBlock) : Type 0 where
   pub bits : b .bits < 65536
   pub error : b .error < 2 ^ 30
 
 -- the leaf l as what it or a split weighs
-abbrev pub decidedAs : Bool → Planned → Weight → Planned
+abbrev pub decidedAs : Bool → PlannedBlock → Weight → PlannedBlock
 decidedAs split l w = record { split = split; bits = w .bits; error = w .err; code = l .code; stages = l .stages }
 
 -- a leaf, or a split where that is strictly cheaper
-unfoldable pub decided : ℕ → Planned → Planned → Planned → Planned
+unfoldable pub decided : ℕ → PlannedBlock → PlannedBlock → PlannedBlock → PlannedBlock
 decided lambda l x y =
     pick (cheaper lambda (joined (weigh x) (weigh y)) (flagged (weigh l)))
     (decidedAs true l (joined (weigh x) (weigh y))) (decidedAs false l (flagged (weigh l)))
 
 -- the two ways to decide, by the costs p and q as they were computed
-module _ (lambda : ℕ) (l x y : Planned) (p q : ℕ) (hp : p ≡ cost lambda (joined (weigh x) (weigh y))) (hq : q ≡ cost lambda (flagged (weigh l))) where
+module _ (lambda : ℕ) (l x y : PlannedBlock) (p q : ℕ) (hp : p ≡ cost lambda (joined (weigh x) (weigh y))) (hq : q ≡ cost lambda (flagged (weigh l))) where
   pub decided-split : p < q → decidedAs true l (joined (weigh x) (weigh y)) ≡ decided lambda l x y
   unfolding decided
   decided-split h = sym (rw (← hp, ← hq, lt-ltb p q h))

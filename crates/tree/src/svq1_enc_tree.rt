@@ -48,7 +48,7 @@ pub fn cost(lambda: u64, bits: u32, error: u32) -> u64
 }
 
 // What is planned for a block: whether it is split, and its bits and its error as that. Its leaf choice stands there either way.
-pub struct Planned {
+pub struct PlannedBlock {
     pub split: bool,
     pub bits: u32,
     pub error: u32,
@@ -57,7 +57,7 @@ pub struct Planned {
 }
 
 // The leaf `l`, or a split into parts planned as `x` and `y` if that is strictly cheaper.
-fn decide(lambda: u64, l: Planned, x: Planned, y: Planned) -> Planned
+fn decide(lambda: u64, l: PlannedBlock, x: PlannedBlock, y: PlannedBlock) -> PlannedBlock
     requires { ⌜ Light l × Light x × Light y ⌝ }
     ensures { λ r. ⌜ r ≡ decided lambda l x y ⌝ }
 {
@@ -67,8 +67,8 @@ fn decide(lambda: u64, l: Planned, x: Planned, y: Planned) -> Planned
     let code = l.code;
     let stages = l.stages;
     if cost(lambda, split_bits, split_error) < cost(lambda, leaf_bits, l.error) {
-        Planned { split: true, bits: split_bits, error: split_error, code: code, stages: stages }
+        PlannedBlock { split: true, bits: split_bits, error: split_error, code: code, stages: stages }
     } else {
-        Planned { split: false, bits: leaf_bits, error: l.error, code: code, stages: stages }
+        PlannedBlock { split: false, bits: leaf_bits, error: l.error, code: code, stages: stages }
     }
 }
