@@ -75,3 +75,19 @@ all-rooted = refl
 pub tree-root : (d : ℕ) → d ≤ 5 → inTree d (first d) ≡ true
 unfolding rooted
 tree-root d f = below-at rooted 6 d all-rooted (omega arith)
+
+-- the blocks of a level are numbered from its first
+all-behind : below (λ i. leb (first (level i)) i) blockCount ≡ true
+unfolding below
+all-behind = refl
+
+pub behind : (i : ℕ) → i < blockCount → first (level i) ≤ i
+behind i h = leb-true (first (level i)) i (below-at (λ k. leb (first (level k)) k) blockCount i all-behind h)
+
+-- ---- a block of that plane, of n samples, and room for it
+pub record BlockIn (d i n m : ℕ) : Type 0 where
+  pub five : d ≤ 5
+  pub block : i < blockCount
+  pub under : inTree d i ≡ true
+  pub plane : n ≡ area d
+  pub room : m ≡ area (level i)

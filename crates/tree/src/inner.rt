@@ -1,12 +1,18 @@
 // Functions that only the crates of this repository call. Most have a `requires`: the caller, proved too, meets it.
 ghost use mathlib.Core.Path.{_≡_};
-ghost use Prim.Native.Nat.{ℕ, _+_, _-_, _*_, _<_, _≤_};
+ghost use Prim.Native.Nat.{ℕ, _+_, _-_, _*_, _^_, _<_, _≤_};
 ghost use lib.ListN.{length};
 ghost use lib.Seq.{sets};
-ghost use Rattle.tree.specs.Blocks.{gather, paint, level, place};
+ghost use mathlib.Core.Bool.{true};
+ghost use Rattle.book.specs.Book.{bookBytes, meanTable, stageFamily, stageTable};
+ghost use Rattle.book.specs.Level.{levelNumber, width, area};
+ghost use Rattle.tree.specs.Blocks.{gather, paint, level, place, first, blockOf};
 ghost use Rattle.tree.specs.RowsLaws.{Inside};
 ghost use Rattle.tree.specs.Turns.{Rows};
 ghost use Rattle.tree.specs.PlaceLaws.{rowOf, columnOf};
+ghost use Rattle.tree.specs.Subtree.{inTree, BlockIn};
+use book::svq1_blocktree::Svq1Level;
+use book::svq1_vlc::Svq1Half;
 
 // The run `xs` into `out` from sample `at` on.
 fn put_row(out: &mut [u8], at: usize, xs: &[u8])
@@ -227,4 +233,108 @@ pub fn place_of(s: usize, i: usize) -> usize
     ensures { λ r. ⌜ (r ≡ place s i) × (r ≤ 65536) ⌝ }
 {
     s * row_of(i) + column_of(i)
+}
+
+// The level of this number.
+pub fn level_at(d: usize) -> Svq1Level
+    requires { ⌜ d ≤ 5 ⌝ }
+    ensures { λ r. ⌜ levelNumber r ≡ d ⌝ }
+{
+    match d {
+        0 => Svq1Level::L0,
+        1 => Svq1Level::L1,
+        2 => Svq1Level::L2,
+        3 => Svq1Level::L3,
+        4 => Svq1Level::L4,
+        _ => Svq1Level::L5,
+    }
+}
+
+// A half's mean table of a book.
+pub fn mean_table(book: &[u8], half: Svq1Half) -> &[u8]
+    requires { ⌜ length (now book) ≡ bookBytes ⌝ }
+    ensures { λ r. ⌜ now r ≡ meanTable half (now (book .entry)) ⌝ }
+{
+    match half {
+        Svq1Half::Intra => &book[204..972],
+        Svq1Half::Inter => &book[972..2508],
+    }
+}
+
+// A half's stage table of a level, of a book.
+pub fn stage_table(book: &[u8], half: Svq1Half, d: usize) -> &[u8]
+    requires { ⌜ (length (now book) ≡ bookBytes) × (d ≤ 5) ⌝ }
+    ensures { λ r. ⌜ now r ≡ stageTable d (stageFamily half (now (book .entry))) ⌝ }
+{
+    let level = level_at(d);
+    level.stage_table(&book[2508..2652], &book[2652..2796], half)
+}
+
+// The first block of level d.
+pub fn first_of(d: usize) -> usize
+    requires { ⌜ d ≤ 5 ⌝ }
+    ensures { λ r. ⌜ (r ≡ first d) × (r ≤ 31) ⌝ }
+{
+    if d < 1 {
+        return 31;
+    }
+    if d < 2 {
+        return 15;
+    }
+    if d < 3 {
+        return 7;
+    }
+    if d < 4 {
+        return 3;
+    }
+    if d < 5 {
+        return 1;
+    }
+    0
+}
+
+// How many blocks of a level lie under a block `n` levels above it.
+fn blocks_under(n: usize) -> usize
+    requires { ⌜ n ≤ 5 ⌝ }
+    ensures { λ r. ⌜ r ≡ 2 ^ n ⌝ }
+{
+    if n < 1 {
+        return 1;
+    }
+    if n < 2 {
+        return 2;
+    }
+    if n < 3 {
+        return 4;
+    }
+    if n < 4 {
+        return 8;
+    }
+    if n < 5 {
+        return 16;
+    }
+    32
+}
+
+// Whether block i lies under the first block of level d.
+pub fn in_tree(d: usize, i: usize) -> bool
+    requires { ⌜ (d ≤ 5) × (i < 63) ⌝ }
+    ensures { λ r. ⌜ r ≡ inTree d i ⌝ }
+{
+    let e = level_of(i);
+    if d < e {
+        return false;
+    }
+    i - first_of(e) < blocks_under(d - e)
+}
+
+// Block i of a plane that is a block of level d.
+pub fn block_of(m: &[u8], d: usize, i: usize, out: &mut [u8])
+    requires { ⌜ BlockIn d i (length (now m)) (length (now out)) ⌝ }
+    ensures { λ _. ⌜ now (out .exit) ≡ blockOf (width d) (level i) i (now (m .entry)) ⌝ }
+{
+    let whole = level_at(d).block_dims();
+    let dims = level_at(level_of(i)).block_dims();
+    let s = whole.width;
+    gather_block(m, s, place_of(s, i), dims.width, dims.height, out);
 }
