@@ -3,13 +3,16 @@ use mathlib.Core.Path.{_≡_}
 use mathlib.Core.Bool.{Bool}
 use mathlib.Core.List.{List}
 use Prim.Native.Nat.{ℕ, _+_, _*_, _≤_, _<_}
+use lib.Dec.{ltb}
 use lib.ListN.{length}
+use Rattle.bits.specs.Basics.{pick}
 use Rattle.book.specs.declared.svq1_vlc.Svq1Half.{Svq1Half}
 use Rattle.leaf.specs.declared.svq1_enc_leaf.LeafCode.{LeafCode}
-use Rattle.leaf.specs.Leaf.{Leaf, Vectors, sse, leafShown, codedLeaf, leafRule}
+use Rattle.leaf.specs.Codebook.{pageOffset, vectorAt}
+use Rattle.leaf.specs.Leaf.{Leaf, Vectors, sse, leafShown, codedLeaf, leafRule, capAt}
 use Rattle.leaf.specs.Raised.{vectorsIn, leafOf}
 
--- a block of 1 to 256 samples, a predictor, room for sums and samples, and six stages of sixteen vectors behind `base`
+-- a block of 1 to 256 samples, a predictor, room for sums and samples, and at most six stages, each of sixteen vectors, from `base` on
 pub record Ready (t p a out book : List ℕ) (base cap : ℕ) : Type 0 where
   pub few : length t ≤ 256
   pub some : 1 ≤ length t
@@ -17,7 +20,7 @@ pub record Ready (t p a out book : List ℕ) (base cap : ℕ) : Type 0 where
   pub sums : length a ≡ length t
   pub shown : length out ≡ length t
   pub stages : cap ≤ 6
-  pub page : base + length t * 96 ≤ length book
+  pub page : base + length t * 16 * cap ≤ length book
 
 -- a leaf, its error and the samples that it shows
 pub record Leafed (vs : Vectors) (t p : List ℕ) (l : Leaf) (code : LeafCode) (stages : List ℕ) (error : ℕ) (out : List ℕ) : Type 0 where
@@ -35,3 +38,14 @@ abbrev pub Chosen : Svq1Half → List ℕ → List ℕ → List ℕ → ℕ → 
 Chosen h t p book base cap allowSkip code stages error out =
     let vs = vectorsIn book base (length t) in
     Leafed vs t p (leafRule h vs cap allowSkip t p) code stages error out
+
+-- ---- the same by level
+-- where the search of a level's leaves looks for vectors in the raised codebook; L4 and L5 have none
+abbrev pub pageStart : Svq1Half → ℕ → ℕ
+pageStart h d = pick (ltb d 4) (pageOffset h d) 0
+
+-- the leaf that the rules choose at level d by the codebook as it is lent
+abbrev pub LeafFound : List ℕ → Svq1Half → ℕ → ℕ → Bool → List ℕ → List ℕ → LeafCode → List ℕ → ℕ → List ℕ → Type 0
+LeafFound codebook h d cap allowSkip t p code stages error out =
+    let vs = vectorAt codebook h d in
+    Leafed vs t p (leafRule h vs (capAt d cap) allowSkip t p) code stages error out

@@ -10,7 +10,9 @@ pub mod LeafLaws
 pub mod LeafCall
 pub mod Raised
 pub mod RaisedLaws
+pub mod RasterLaws
 pub mod StagesLaws
 pub mod SignedLaws
 pub mod Inner
 pub mod InnerLaws
+pub mod AgreeLaws

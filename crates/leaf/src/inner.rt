@@ -1,13 +1,15 @@
 // Functions that only the crates of this repository call. Most have a `requires`: the caller, proved too, meets it.
 // The leaf search keeps each sum as an unsigned 16-bit number, the sum plus a bias: 256 for the mean and 128 more for each stage.
 ghost use mathlib.Core.Path.{_≡_};
-ghost use Prim.Native.Nat.{ℕ, _+_, _-_, _*_, _<_, _≤_, min};
+ghost use Prim.Native.Nat.{ℕ, _+_, _-_, _*_, _%_, _<_, _≤_, min};
 ghost use lib.ListN.{length, take, drop, getD};
 ghost use lib.IntN.{subℕ};
 ghost use Rattle.bits.specs.Basics.{gap};
+ghost use Rattle.book.specs.Book.{codebookBytes};
+ghost use Rattle.leaf.specs.Codebook.{byteOf};
 ghost use Rattle.leaf.specs.Mean.{residual, meanOf, saturate};
 ghost use Rattle.leaf.specs.Leaf.{sse, plus, samples, seeded, argmin};
-ghost use Rattle.leaf.specs.Raised.{less, sqd, vectorError, Below, Stage, total, plusN, Searched};
+ghost use Rattle.leaf.specs.Raised.{originOf, raisedCodebook, less, sqd, vectorError, Below, Stage, total, plusN, Searched};
 ghost use Rattle.leaf.specs.Inner.{Ready, Coding, Chosen};
 use super::svq1_enc_leaf::LeafChoice;
 use super::svq1_enc_leaf::LeafCode;
@@ -210,7 +212,7 @@ fn search_stages(
     error: u32,
 ) -> Stages
     requires { ⌜ (length (now t) ≤ 256) × (length (now a) ≡ length (now t)) × Below 1000 (now a) × (bias ≤ 1000) ⌝ }
-    requires { ⌜ (cap ≤ 6) × (base + length (now t) * 96 ≤ length (now book)) × (error ≡ sse (now t) (samples (less bias (now a)))) ⌝ }
+    requires { ⌜ (cap ≤ 6) × (base + length (now t) * 16 * cap ≤ length (now book)) × (error ≡ sse (now t) (samples (less bias (now a)))) ⌝ }
     ensures { λ r. ⌜ Searched (now (t .entry)) (now (book .entry)) base cap bias (now (a .entry)) (now (a .exit)) (r .count) (r .error) (r .index) ⌝ }
 {
     let n = t.len();
@@ -388,4 +390,46 @@ pub fn choose_leaf(
         }
     }
     coded
+}
+
+// The byte of a vector that goes to place p, of blocks 8 samples wide: L2 and L3.
+fn tile_byte(p: usize) -> usize
+    requires { ⌜ p < 64 ⌝ }
+    ensures { λ r. ⌜ (r ≡ byteOf 3 p) × (r ≡ byteOf 2 p) × (r < 64) ⌝ }
+{
+    (p / 8 / 4 * 2 + p % 8 / 4) * 16 + (p / 8 % 4 * 4 + p % 8 % 4)
+}
+
+// Where entry i of the raised codebook comes from.
+fn origin_of(i: usize) -> usize
+    requires { ⌜ i < codebookBytes ⌝ }
+    ensures { λ r. ⌜ (r ≡ originOf i) × (r < codebookBytes) ⌝ }
+{
+    if i < 12288 {
+        return i / 64 * 64 + tile_byte(i % 64);
+    }
+    if i < 18432 {
+        return i / 32 * 32 + tile_byte(i % 32);
+    }
+    i
+}
+
+// A two's complement byte plus 128.
+fn raise(b: u8) -> u8
+    ensures { λ r. ⌜ r ≡ (b + 128) % 256 ⌝ }
+{
+    ((b as u16 + 128) % 256) as u8
+}
+
+// The codebook in raster order, each byte plus 128, into `out`.
+pub fn raise_codebook(codebook: &[u8], out: &mut [u8])
+    requires { ⌜ (length (now codebook) ≡ codebookBytes) × (length (now out) ≡ codebookBytes) ⌝ }
+    ensures { λ _. ⌜ now (out .exit) ≡ raisedCodebook (now (codebook .entry)) ⌝ }
+{
+    let mut i = 0;
+    while i < out.len() {
+        let o = origin_of(i);
+        out[i] = raise(codebook[o]);
+        i += 1;
+    }
 }

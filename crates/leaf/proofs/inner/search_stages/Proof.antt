@@ -41,7 +41,7 @@ best-vector-requires c κs =
       same = l .inv .same;
       low = λ i. omega (arith, l .inv .low i);
       small = search needs;
-      room = omega (arith, part-room (length (s .args .t .now)) (l .count) 6 (search needs));
+      room = omega (arith, part-room (length (s .args .t .now)) (l .count) (s .args .cap) (search needs));
     }
 
 same-length : tie.Need-same-length Inv-loop μ-loop
@@ -60,7 +60,7 @@ add-stage-requires : tie.Need-add-stage-requires Inv-loop μ-loop
 add-stage-requires c κs =
     let s = c .before .before .before .before .before .before .before .before .before in
     let l = c .before .before .before .before .before .loop in
-    (omega (arith, part-room (length (s .args .t .now)) (l .count) 6 (search needs)), search needs, (λ i. omega (arith, l .inv .low i)))
+    (omega (arith, part-room (length (s .args .t .now)) (l .count) (s .args .cap) (search needs)), search needs, (λ i. omega (arith, l .inv .low i)))
 
 cast-index : tie.Need-cast-index Inv-loop μ-loop
 cast-index c = search needs
@@ -78,7 +78,7 @@ add-at : tie.Need-add-at Inv-loop μ-loop
 add-at c =
     let s = c .before .before .before .before .before .before .before .before .before .before .before .before in
     let l = c .before .before .before .before .before .before .before .before .loop in
-    omega (arith, part-room (length (s .args .t .now)) (l .count) 6 (search needs))
+    omega (arith, part-room (length (s .args .t .now)) (l .count) (s .args .cap) (search needs))
 
 add-plus : tie.Need-add-plus Inv-loop μ-loop
 add-plus c = search needs
