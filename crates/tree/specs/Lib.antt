@@ -14,3 +14,6 @@ pub mod Nodes
 pub mod ChoiceLaws
 pub mod PlanClaim
 pub mod PlanClaimLaws
+pub mod Walk
+pub mod WalkLaws
+pub mod WalkReadLaws
