@@ -14,15 +14,20 @@ use lib.Seq.{take-suc, take-all, length-take-le}
 use Rattle.bits.specs.Bits.{msb}
 use Rattle.bits.specs.Inner.{Fits, Wrote}
 use Rattle.bits.specs.InnerLaws.{wrote-none, wrote-more, wrote-size}
-use Rattle.book.specs.Book.{Tables, tablesOf}
+use Rattle.book.specs.Book.{Tables, tablesOf, meanTable, stageFamily, stageTable}
 use Rattle.book.specs.declared.svq1_vlc.Svq1Half.{Svq1Half}
 use Rattle.leaf.specs.Leaf.{Leaf}
 use Rattle.leaf.specs.LeafBits.{leafBits}
+use Rattle.leaf.specs.Lent.{lentBits, CodeFits, Writable}
+use Rattle.leaf.specs.LentLaws.{book-bits, book-tables}
+use Rattle.leaf.specs.Raised.{leafOf}
+use Rattle.leaf.specs.declared.svq1_enc_leaf.LeafCode.{LeafCode}
+use Rattle.leaf.specs.declared.svq1_enc_leaf.LeafCode.the-variants as code
 use Rattle.tree.specs.Blocks.{blockCount, level}
 use Rattle.tree.specs.BlocksLaws.{level-le}
 use Rattle.tree.specs.TreeBits.{Node, Off, Split, Ends, isSplit, reached, nodeBits, emit, treeBits}
 use Rattle.tree.specs.Nodes.{nodeOf, treeOf}
-use Rattle.tree.specs.Walk.{leafFlag, LeafRoom, NodeRoom, TreeRoom}
+use Rattle.tree.specs.Walk.{leafFlag, Sound, LeafRoom, NodeRoom, TreeRoom}
 use Rattle.tree.specs.declared.svq1_enc_tree.TreeNode.the-variants as node
 use Rattle.tree.specs.declared.svq1_enc_tree.Block.{Block}
 
@@ -126,6 +131,27 @@ module _ (book : List ℕ) (half : Svq1Half) (d : ℕ) (x : Node) (bytes at : �
           room = record { bytes-fit = omega (arith, leaf-whole .bytes-fit); bits-fit = omega (arith, w .behind, leaf-whole .bits-fit) };
         }
 
+-- ---- a leaf by the tables of a book
+sound-fits : (T : Tables) (d : ℕ) (c : LeafCode) (js : List ℕ) → Sound T d (leafOf c js) → CodeFits (T .half) c
+sound-fits T d code.Skip js a = tt
+sound-fits T d (code.Coded m n) js a = a .place
+
+module _ (book : List ℕ) (half : Svq1Half) (d : ℕ) (stage mean : List ℕ) (is-stage : stage ≡ stageTable d (stageFamily half book)) (is-mean : mean ≡ meanTable half book) where
+  lent-bits : (l : Leaf) → lentBits half stage mean l ≡ leafBits (tablesOf book half) d l
+  lent-bits l = rw (is-stage, is-mean) (book-bits book half d l)
+
+  pub leaf-lent : (c : LeafCode) (js : List ℕ) (bytes at : ℕ) → LeafRoom book half d (leafOf c js) bytes at → Writable half stage mean c js bytes at
+  leaf-lent c js bytes at r =
+      record {
+        tables = rw (is-stage, is-mean) (book-tables book (r .passes) half d (r .deep));
+        known = sound-fits (tablesOf book half) d c js (r .sound);
+        room = rw (lent-bits (leafOf c js)) (r .room);
+      }
+
+  pub leaf-wrote : {out left : List ℕ} {at next : ℕ} (l : Leaf) → Wrote out at (lentBits half stage mean l) next left
+      → Wrote out at (leafBits (tablesOf book half) d l) next left
+  leaf-wrote l w = wrote-as (lentBits half stage mean l) (leafBits (tablesOf book half) d l) (sym (lent-bits l)) w
+
 -- ---- writing block by block
 emit-append : (T : Tables) (j : ℕ) (xs ys : List Node) → emit T j (xs ++ ys) ≡ emit T j xs ++ emit T (j + length xs) ys
 unfolding emit
@@ -158,8 +184,12 @@ module _ (book : List ℕ) (half : Svq1Half) (t : List Node) (len : length t ≡
   few-bits : (i : ℕ) → i ≤ blockCount → length (emit T 0 (take i t)) ≤ length (treeBits T t)
   unfolding treeBits
   few-bits i h =
-      omega (arith, ap (λ (l : List Node). length (emit T 0 l)) (take-append-drop i t), ap length (emit-append T 0 (take i t) (drop i t)),
-      length-append (emit T 0 (take i t)) (emit T (0 + length (take i t)) (drop i t)))
+      omega (
+        arith,
+        ap (λ (l : List Node). length (emit T 0 l)) (take-append-drop i t),
+        ap length (emit-append T 0 (take i t) (drop i t)),
+        length-append (emit T 0 (take i t)) (emit T (0 + length (take i t)) (drop i t)),
+      )
 
   pub emit-begins : Emitting T t old at old at 0
   unfolding emit

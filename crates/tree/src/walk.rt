@@ -19,6 +19,7 @@ use bits::inner::get_bits;
 use bits::inner::put_bits;
 use book::svq1_blocktree::Svq1Level;
 use book::svq1_vlc::Svq1Half;
+use leaf::inner::put_leaf;
 use leaf::svq1_enc_leaf::LeafCode;
 
 // The level of this number.
@@ -69,9 +70,9 @@ fn is_split(b: Block) -> bool
 }
 
 // Whether block i is reached: it is the root, or its parent is split.
-fn is_reached(tree: [Block; 63], root: usize, i: usize) -> bool
+fn is_reached(blocks: [Block; 63], root: usize, i: usize) -> bool
     requires { ⌜ i < 63 ⌝ }
-    ensures { λ r. ⌜ r ≡ reached root (treeOf tree) i ⌝ }
+    ensures { λ r. ⌜ r ≡ reached root (treeOf blocks) i ⌝ }
 {
     if i == root {
         return true;
@@ -79,7 +80,7 @@ fn is_reached(tree: [Block; 63], root: usize, i: usize) -> bool
     if i == 0 {
         return false;
     }
-    let parent = tree[(i - 1) / 2];
+    let parent = blocks[(i - 1) / 2];
     is_split(parent)
 }
 
@@ -95,11 +96,21 @@ fn put_flag(out: &mut [u8], at: usize, d: usize) -> usize
 }
 
 // A leaf at level d.
-fn put_leaf_at(out: &mut [u8], at: usize, code: LeafCode, stages: [u8; 6], d: usize, half: Svq1Half, book: &[u8]) -> usize
+fn put_leaf_at(
+    out: &mut [u8],
+    at: usize,
+    code: LeafCode,
+    stages: [u8; 6],
+    d: usize,
+    half: Svq1Half,
+    book: &[u8],
+) -> usize
     requires { ⌜ LeafRoom (now book) half d (leafOf code stages) (length (now out)) at ⌝ }
     ensures { λ r. ⌜ Wrote (now (out .entry)) at (leafBits (tablesOf (now (book .entry)) half) d (leafOf code stages)) r (now (out .exit)) ⌝ }
 {
-    at
+    let stage = stage_table(book, half, d);
+    let means = mean_table(book, half);
+    put_leaf(out, at, stage, means, half, code, stages)
 }
 
 // A block of level d: nothing where the tree does not reach it, the flag of a split, or a leaf behind its flag.
@@ -120,14 +131,14 @@ fn put_node(out: &mut [u8], at: usize, b: Block, d: usize, half: Svq1Half, book:
 }
 
 // The bits of a tree, from bit `at` on: its blocks by number, which is level by level.
-pub fn emit(tree: [Block; 63], half: Svq1Half, book: &[u8], out: &mut [u8], at: usize) -> usize
-    requires { ⌜ TreeRoom (now book) half (treeOf tree) (length (now out)) at ⌝ }
-    ensures { λ r. ⌜ Wrote (now (out .entry)) at (treeBits (tablesOf (now (book .entry)) half) (treeOf tree)) r (now (out .exit)) ⌝ }
+pub fn emit(blocks: [Block; 63], half: Svq1Half, book: &[u8], out: &mut [u8], at: usize) -> usize
+    requires { ⌜ TreeRoom (now book) half (treeOf blocks) (length (now out)) at ⌝ }
+    ensures { λ r. ⌜ Wrote (now (out .entry)) at (treeBits (tablesOf (now (book .entry)) half) (treeOf blocks)) r (now (out .exit)) ⌝ }
 {
     let mut k = at;
     let mut i = 0;
     while i < 63 {
-        let b = tree[i];
+        let b = blocks[i];
         k = put_node(out, k, b, level_of(i), half, book);
         i += 1;
     }

@@ -21,7 +21,7 @@ add-result : tie.Need-add-result
 add-result c = omega (arith, mul-le-mul (c .before .before .pre .1) (c .before .row-of .ensures .1))
 
 returns : tie.Need-returns
-returns c = 
+returns c =
     let a = c .before .before .args in
     (rw (c .before .row-of .ensures .0, c .column-of .ensures .0) (sym (place-is (a .s) (a .i))), omega (arith, mul-le-mul (c .before .before .pre .1) (c .before .row-of .ensures .1)))
 

@@ -13,17 +13,17 @@ use Rattle.tree.proofs.inner.level_of.Reads as level-of-reads
 use Rattle.tree.proofs.walk.put_node.Reads as put-node-reads
 
 abbrev Inv-loop : tie.InvT-loop
-Inv-loop half book out₀ at tree k₀ i₀ out k i = Emitting (tablesOf book half) (treeOf tree) out₀ at out k i
+Inv-loop half book out₀ at blocks k₀ i₀ out k i = Emitting (tablesOf book half) (treeOf blocks) out₀ at out k i
 
 abbrev μ-loop : tie.MeasureT-loop
-μ-loop half book out₀ at tree k₀ i₀ out k i = 63 - i
+μ-loop half book out₀ at blocks k₀ i₀ out k i = 63 - i
 
 -- src/walk.rt:129:5
 loop-holds : tie.Need-loop-holds Inv-loop μ-loop
 loop-holds c =
     let s = c .before .before in
     let a = s .args in
-    emit-begins (a .book .now) (a .half) (treeOf (a .tree)) (tree-length (a .tree) ∙ search needs) (a .out .now) (a .at) (s .pre)
+    emit-begins (a .book .now) (a .half) (treeOf (a .t1)) (tree-length (a .t1) ∙ search needs) (a .out .now) (a .at) (s .pre)
 
 -- src/walk.rt:130:17
 mul-b : tie.Need-mul-b Inv-loop μ-loop
@@ -43,7 +43,7 @@ put-node-requires c κs =
     let s = c .before .before .before .before .before .before .before in
     let a = s .args in
     let l = c .before .before .before .before .loop in
-    node-room (a .book .now) (a .half) (treeOf (a .tree)) (tree-length (a .tree) ∙ search needs) (a .out .now) (a .at) (s .pre) (l .out) (l .k) (l .i) (l .inv) (search needs) _ (c .level-of .ensures .0) _ (sym (tree-at (a .tree) (l .i)))
+    node-room (a .book .now) (a .half) (treeOf (a .t1)) (tree-length (a .t1) ∙ search needs) (a .out .now) (a .at) (s .pre) (l .out) (l .k) (l .i) (l .inv) (search needs) _ (c .level-of .ensures .0) _ (sym (tree-at (a .t1) (l .i)))
 
 -- src/walk.rt:132:9
 add-i : tie.Need-add-i Inv-loop μ-loop
@@ -59,7 +59,7 @@ loop-again c =
     let s = c .before .before .before .before .before .before .before .before .before .before in
     let a = s .args in
     let l = c .before .before .before .before .before .before .before .loop in
-    emit-turn (a .book .now) (a .half) (treeOf (a .tree)) (tree-length (a .tree) ∙ search needs) (a .out .now) (a .at) (s .pre) (l .out) (l .k) (l .i) (l .inv) (search needs) _ (c .before .before .before .level-of .ensures .0) _ (sym (tree-at (a .tree) (l .i)))
+    emit-turn (a .book .now) (a .half) (treeOf (a .t1)) (tree-length (a .t1) ∙ search needs) (a .out .now) (a .at) (s .pre) (l .out) (l .k) (l .i) (l .inv) (search needs) _ (c .before .before .before .level-of .ensures .0) _ (sym (tree-at (a .t1) (l .i)))
     _ _ (c .before .before .put-node .kept .0) (c .before .before .put-node .ensures)
 
 -- src/walk.rt:123:1
@@ -72,7 +72,7 @@ returns c =
     let s = c .before .before .before .before in
     let a = s .args in
     let l = c .before .loop in
-    emit-ends (a .book .now) (a .half) (treeOf (a .tree)) (tree-length (a .tree) ∙ search needs) (a .out .now) (a .at) (s .pre) (l .out) (l .k) (l .i) (l .inv) (c .loop-test .left)
+    emit-ends (a .book .now) (a .half) (treeOf (a .t1)) (tree-length (a .t1) ∙ search needs) (a .out .now) (a .at) (s .pre) (l .out) (l .k) (l .i) (l .inv) (c .loop-test .left)
 
 pub emit-spec : {M : Type 1} → statement M
 emit-spec =

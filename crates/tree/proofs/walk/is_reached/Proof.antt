@@ -38,7 +38,7 @@ is-split-requires c κs = search needs
 returns-3 : tie.Need-returns-3
 returns-3 c =
     let a = c .before .before .before .before .args in
-    c .is-split .ensures ∙ sym (ap isSplit (tree-at (a .tree) ((a .i - 1) / 2))) ∙ reached-up (a .root) (treeOf (a .tree)) (a .i) (c .before .before .before .if1 .left) (c .before .before .if2 .left)
+    c .is-split .ensures ∙ sym (ap isSplit (tree-at (a .t1) ((a .i - 1) / 2))) ∙ reached-up (a .root) (treeOf (a .t1)) (a .i) (c .before .before .before .if1 .left) (c .before .before .if2 .left)
 
 pub is-reached-spec : {M : Type 1} → statement M
 is-reached-spec =

@@ -76,12 +76,12 @@ same-length-2 c = search needs
 -- src/walk.rt:106:1
 returns-3 : tie.Need-returns-3
 returns-3 c =
-    let s = c .before .before .before .before .before .before .before .before .before .before .before .before .before .before .before in
+    let s = c .before .before .before .before .before .before .before .before .before .before .before .before .before .before in
     let a = s .args in
-    let n = c .before .before .before .before .before .before .before .before .before .before .n in
+    let n = c .before .before .before .before .before .before .before .before .before .n in
     let room = s .pre .room .bits-fit in
     wrote-as _ _ (leaf-bits (tablesOf (a .book .now) (a .half)) (a .d) (nodeOf (a .b)) (leafOf (n .given .0 .0) (a .b .stages)) (ap (λ (n : TreeNode). nodeAs n (a .b .stages)) (n .given .1)))
-    (wrote-more (omega arith) (c .before .before .before .before .before .before .before .put-flag .ensures) (c .before .before .put-leaf-at .ensures))
+    (wrote-more (omega arith) (c .before .before .before .before .before .before .put-flag .ensures) (c .before .before .put-leaf-at .ensures))
 
 pub put-node-spec : {M : Type 1} → statement M
 put-node-spec =

@@ -86,7 +86,7 @@ loop-again c =
     let h = c .before .before .loop-test .taken in
     let r = sym (c .before .is-reached .ensures) in
     ⊎-elim
-    (λ w. moved _ _ _ _ _ _ _ _ _ (w .6) (w .7)
+    (λ w. moved _ _ _ _ _ _ _ _ _ (w .5) (w .6)
     (taken (tablesOf (a .book .now) (a .half)) (f .result) (a .s .now) _ (l .blocks) (l .k) (l .i) (l .inv) h _ (w .1 .ensures .0) (w .2 .result) (r ∙ w .0 .taken) (w .2 .ensures) (w .3 .left)))
     (λ w. moved _ _ _ _ _ _ _ _ _ (w .1) (w .2) (passed (tablesOf (a .book .now) (a .half)) (f .result) (a .s .now) _ (l .blocks) (l .k) (l .i) (l .inv) h (r ∙ w .0 .left)))
     (c .if1 .came)

@@ -52,7 +52,7 @@ add-read-leaf-at c = search needs
 -- src/walk.rt:207:9
 read-leaf-at-requires-2 : tie.Need-read-leaf-at-requires-2
 read-leaf-at-requires-2 c κs =
-    let p = c .before .before .before .before .before .before .before .pre in
+    let p = c .before .before .before .before .before .before .pre in
     record { passes = p .passes; deep = p .deep; from = record { bytes-fit = p .from .bytes-fit; bits-fit = omega arith } }
 
 -- src/walk.rt:207:9
