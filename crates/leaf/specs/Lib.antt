@@ -16,3 +16,5 @@ pub mod SignedLaws
 pub mod Inner
 pub mod InnerLaws
 pub mod AgreeLaws
+pub mod Lent
+pub mod LentLaws

@@ -17,3 +17,6 @@ pub mod ChoiceLaws
 pub mod PlanClaim
 pub mod PlanClaimLaws
 pub mod PlannedLaws
+pub mod Walk
+pub mod WalkLaws
+pub mod WalkReadLaws

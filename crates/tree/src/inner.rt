@@ -4,15 +4,14 @@ ghost use Prim.Native.Nat.{ℕ, _+_, _-_, _*_, _^_, _<_, _≤_};
 ghost use lib.ListN.{length};
 ghost use lib.Seq.{sets};
 ghost use mathlib.Core.Bool.{true};
-ghost use Rattle.book.specs.Book.{bookBytes, meanTable, stageFamily, stageTable};
-ghost use Rattle.book.specs.Level.{levelNumber, width, area};
+ghost use Rattle.book.specs.Level.{width};
 ghost use Rattle.tree.specs.Blocks.{gather, paint, level, place, first, blockOf};
 ghost use Rattle.tree.specs.RowsLaws.{Inside};
 ghost use Rattle.tree.specs.Turns.{Rows};
 ghost use Rattle.tree.specs.PlaceLaws.{rowOf, columnOf};
 ghost use Rattle.tree.specs.Subtree.{inTree, BlockIn};
-use book::svq1_blocktree::Svq1Level;
-use book::svq1_vlc::Svq1Half;
+use super::walk::first_of;
+use super::walk::level_at;
 
 // The run `xs` into `out` from sample `at` on.
 fn put_row(out: &mut [u8], at: usize, xs: &[u8])
@@ -233,64 +232,6 @@ pub fn place_of(s: usize, i: usize) -> usize
     ensures { λ r. ⌜ (r ≡ place s i) × (r ≤ 65536) ⌝ }
 {
     s * row_of(i) + column_of(i)
-}
-
-// The level of this number.
-pub fn level_at(d: usize) -> Svq1Level
-    requires { ⌜ d ≤ 5 ⌝ }
-    ensures { λ r. ⌜ levelNumber r ≡ d ⌝ }
-{
-    match d {
-        0 => Svq1Level::L0,
-        1 => Svq1Level::L1,
-        2 => Svq1Level::L2,
-        3 => Svq1Level::L3,
-        4 => Svq1Level::L4,
-        _ => Svq1Level::L5,
-    }
-}
-
-// A half's mean table of a book.
-pub fn mean_table(book: &[u8], half: Svq1Half) -> &[u8]
-    requires { ⌜ length (now book) ≡ bookBytes ⌝ }
-    ensures { λ r. ⌜ now r ≡ meanTable half (now (book .entry)) ⌝ }
-{
-    match half {
-        Svq1Half::Intra => &book[204..972],
-        Svq1Half::Inter => &book[972..2508],
-    }
-}
-
-// A half's stage table of a level, of a book.
-pub fn stage_table(book: &[u8], half: Svq1Half, d: usize) -> &[u8]
-    requires { ⌜ (length (now book) ≡ bookBytes) × (d ≤ 5) ⌝ }
-    ensures { λ r. ⌜ now r ≡ stageTable d (stageFamily half (now (book .entry))) ⌝ }
-{
-    let level = level_at(d);
-    level.stage_table(&book[2508..2652], &book[2652..2796], half)
-}
-
-// The first block of level d.
-pub fn first_of(d: usize) -> usize
-    requires { ⌜ d ≤ 5 ⌝ }
-    ensures { λ r. ⌜ (r ≡ first d) × (r ≤ 31) ⌝ }
-{
-    if d < 1 {
-        return 31;
-    }
-    if d < 2 {
-        return 15;
-    }
-    if d < 3 {
-        return 7;
-    }
-    if d < 4 {
-        return 3;
-    }
-    if d < 5 {
-        return 1;
-    }
-    0
 }
 
 // How many blocks of a level lie under a block `n` levels above it.
