@@ -1,6 +1,7 @@
 -- The blocks of a plan that is made for a block of level d alone: those under the first block of that level.
 -- Assumes nothing.
-use mathlib.Core.Path.{_≡_, refl, sym}
+use mathlib.Core.Path.{_≡_, refl, sym, _∙_}
+use mathlib.Core.List.{List}
 use mathlib.Core.Bool.{Bool, true, false, not, _&&_, _||_, true≢false}
 use Prim.Native.Nat.{ℕ, zero, suc, _+_, _-_, _*_, _^_, _≤_, _<_}
 use native.Mathlib.Omega.{arith}
@@ -9,9 +10,11 @@ use lib.Dec.{leb, ltb}
 use borrow.Author.Tests.{leb-true}
 use Rattle.bits.specs.BasicsLaws.{both-true, below, below-at}
 use Rattle.book.specs.Level.{width, height, area}
-use Rattle.tree.specs.Blocks.{blockCount, left, right, level, first, placeUnder, place}
+use Rattle.tree.specs.Blocks.{blockCount, left, right, level, first, placeUnder, place, gather, blockOf}
+use Rattle.tree.specs.BlocksLaws.{level-le}
 use Rattle.tree.specs.RowsLaws.{Inside}
-use Rattle.tree.specs.GeometryLaws.{In}
+use Rattle.tree.specs.Turns.{Rows}
+use Rattle.tree.specs.GeometryLaws.{In, area-most}
 
 -- block i lies under the first block of level d: of its level's blocks it is among the first 2^(d - level)
 unfoldable pub inTree : ℕ → ℕ → Bool
@@ -91,3 +94,39 @@ pub record BlockIn (d i n m : ℕ) : Type 0 where
   pub under : inTree d i ≡ true
   pub plane : n ≡ area d
   pub room : m ≡ area (level i)
+
+-- ---- its rows, by the numbers that were computed of it
+wide : (d : ℕ) → d ≤ 5 → (width d ≤ 16) × (height d ≤ 16)
+wide zero h = omega arith
+wide (suc zero) h = omega arith
+wide (suc (suc zero)) h = omega arith
+wide (suc (suc (suc zero))) h = omega arith
+wide (suc (suc (suc (suc zero)))) h = omega arith
+wide (suc (suc (suc (suc (suc zero))))) h = omega arith
+wide (suc (suc (suc (suc (suc (suc d)))))) h = absurd (omega arith)
+
+pub width-most : (d : ℕ) → d ≤ 5 → width d ≤ 16
+width-most d h = wide d h .0
+
+module _ (d i : ℕ) {s h w at : ℕ} where
+  pub block-rows : (n m : ℕ) → BlockIn d i n m → s ≡ width d → h ≡ height (level i) → w ≡ width (level i) → at ≡ place s i → Rows s h w at n m
+  block-rows n m b es eh ew ea =
+      let u = wide d (b .five) in
+      let v = wide (level i) (level-le i) in
+      let e : height (level i) ≤ 16 = v .1 in
+      let a : area d ≤ 256 = area-most d (b .five) in
+      let o : area (level i) ≤ 256 = area-most (level i) (level-le i) in
+      let q : Inside (width d) (height (level i)) (width (level i)) (place (width d) i) n = rw (b .plane) (in-plane d i (b .five) (b .block) (b .under)) in
+      rw (ea, es, eh, ew) (record {
+        inside = q;
+        run = b .room;
+        small = omega (arith, b .plane);
+        begins = omega (arith, b .plane, q .row 0 (height-some (level i) (level-le i)));
+        apart = omega arith;
+        wide = omega arith;
+        long = omega (arith, b .room);
+      })
+
+  pub block-is : (m : List ℕ) → s ≡ width d → h ≡ height (level i) → w ≡ width (level i) → at ≡ place s i → gather s h w at m ≡ blockOf (width d) (level i) i m
+  unfolding blockOf
+  block-is m es eh ew ea = rw (ea, es, eh, ew)

@@ -1,4 +1,5 @@
--- The two tests of the definition.
+
+
 use mathlib.Core.Path.{_≡_, sym, ap, _∙_}
 use Prim.Native.Nat.{ℕ, _-_, _^_}
 use Rattle.tree.specs.Blocks.{first, level}
@@ -27,7 +28,7 @@ first-of-requires c κs = search needs
 
 sub-result : tie.Need-sub-result
 sub-result c = 
-    let f : c .first-of .result ≡ first (level (c .before .before .before .args .i)) = c .first-of .ensures .0 ∙ ap first (c .before .before .level-of .ensures .0) in
+    let f : c .first-of .result ≡ first (level (c .before .before .before .args .i)) = c .first-of .ensures ∙ ap first (c .before .before .level-of .ensures .0) in
     omega (arith, f, behind (c .before .before .before .args .i) (omega (arith, c .before .before .before .pre)))
 
 blocks-under-requires : tie.Need-blocks-under-requires
@@ -38,7 +39,7 @@ unfolding inTree
 returns-2 c = 
     let a = c .before .before .before .before .args in
     let e = c .before .before .before .level-of .ensures .0 in
-    let f : c .before .first-of .result ≡ first (level (a .i)) = c .before .first-of .ensures .0 ∙ ap first e in
+    let f : c .before .first-of .result ≡ first (level (a .i)) = c .before .first-of .ensures ∙ ap first e in
     let n : c .blocks-under .result ≡ 2 ^ (a .d - level (a .i)) = c .blocks-under .ensures ∙ ap (λ (m : ℕ). 2 ^ (a .d - m)) e in
     rw (f, n, le-leb (level (a .i)) (a .d) (omega (arith, c .before .before .if1 .left, e)))
 
