@@ -10,7 +10,7 @@ ghost use Rattle.leaf.specs.Codebook.{byteOf};
 ghost use Rattle.leaf.specs.Mean.{residual, meanOf, saturate, meanPosition, meanAt};
 ghost use Rattle.leaf.specs.Leaf.{sse, plus, samples, seeded, argmin};
 ghost use Rattle.leaf.specs.Raised.{originOf, raisedCodebook, less, sqd, vectorError, Below, Stage, total, plusN, Searched, leafOf};
-ghost use Rattle.leaf.specs.Inner.{Ready, Coding, Chosen};
+ghost use Rattle.leaf.specs.Inner.{Ready, Coding, Chosen, pageStart};
 ghost use mathlib.Core.List.{List};
 ghost use Rattle.bits.specs.Inner.{Fits, Wrote};
 ghost use Rattle.leaf.specs.LeafBits.{stageBits, readSkip, readLeaf};
@@ -689,5 +689,40 @@ pub fn read_leaf(
         CodeRead::Code(k, next) => read_rest(s, next, means, half, level, k),
         CodeRead::NoCode => refused_leaf(10),
         CodeRead::Ends => refused_leaf(24),
+    }
+}
+
+// Where the intra page of level d begins; 0 for L4 and L5, which have none.
+fn intra_page(d: usize) -> usize
+    ensures { λ r. ⌜ r ≡ pageStart Svq1Half.Intra d ⌝ }
+{
+    match d {
+        0 => 21504,
+        1 => 18432,
+        2 => 12288,
+        _ => 0,
+    }
+}
+
+// The same of the inter page.
+fn inter_page(d: usize) -> usize
+    ensures { λ r. ⌜ r ≡ pageStart Svq1Half.Inter d ⌝ }
+{
+    match d {
+        0 => 22272,
+        1 => 19968,
+        2 => 15360,
+        3 => 6144,
+        _ => 0,
+    }
+}
+
+// Where a level's search looks for vectors in the raised codebook.
+pub fn page_start(half: Svq1Half, d: usize) -> usize
+    ensures { λ r. ⌜ r ≡ pageStart half d ⌝ }
+{
+    match half {
+        Svq1Half::Intra => intra_page(d),
+        Svq1Half::Inter => inter_page(d),
     }
 }
