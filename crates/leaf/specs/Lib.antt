@@ -15,6 +15,9 @@ pub mod StagesLaws
 pub mod SignedLaws
 pub mod Inner
 pub mod InnerLaws
+pub mod CodebookCalls
+pub mod CodebookCallsLaws
 pub mod AgreeLaws
 pub mod Lent
 pub mod LentLaws
+pub mod LentReadLaws
