@@ -83,6 +83,7 @@ module _ (g : Planning) where
     where
       c : Bool
       c = decide-by (weigh l) (weigh x) (weigh y)
+
       go : (d : ℕ) → level k ≡ d → PlannedAt k (decided (g .lambda) l x y)
       go zero e = absurd (omega (arith, e, level-part k (left k) h (omega arith) (omega arith)))
       go (suc d) e =

@@ -67,8 +67,20 @@ fn decide(lambda: u64, l: PlannedBlock, x: PlannedBlock, y: PlannedBlock) -> Pla
     let code = l.code;
     let stages = l.stages;
     if cost(lambda, split_bits, split_error) < cost(lambda, leaf_bits, l.error) {
-        PlannedBlock { split: true, bits: split_bits, error: split_error, code: code, stages: stages }
+        PlannedBlock {
+            split: true,
+            bits: split_bits,
+            error: split_error,
+            code: code,
+            stages: stages,
+        }
     } else {
-        PlannedBlock { split: false, bits: leaf_bits, error: l.error, code: code, stages: stages }
+        PlannedBlock {
+            split: false,
+            bits: leaf_bits,
+            error: l.error,
+            code: code,
+            stages: stages,
+        }
     }
 }

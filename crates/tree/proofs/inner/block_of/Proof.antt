@@ -28,7 +28,7 @@ place-of-requires : tie.Need-place-of-requires
 place-of-requires c κs = (c .before .before .before .before .before .before .before .pre .block, omega (arith, c .before .before .before .block-dims .ensures .0 ∙ ap width (c .before .before .before .before .level-at .ensures), width-most (c .before .before .before .before .before .before .before .args .d) (c .before .before .before .before .before .before .before .pre .five)))
 
 gather-block-requires : tie.Need-gather-block-requires
-gather-block-requires c κs = 
+gather-block-requires c κs =
     let q = c .before .before .before .before .before .before .before .before .before .pre in
     let a = c .before .before .before .before .before .before .before .before .before .args in
     let e : levelNumber (c .before .before .before .level-at2 .result) ≡ level (a .i) = c .before .before .before .level-at2 .ensures ∙ c .before .before .before .before .level-of .ensures .0 in
@@ -38,7 +38,7 @@ same-length : tie.Need-same-length
 same-length c = search needs
 
 returns : tie.Need-returns
-returns c = 
+returns c =
     let a = c .before .before .before .before .before .before .before .before .before .before .before .before .args in
     let e : levelNumber (c .before .before .before .before .before .before .level-at2 .result) ≡ level (a .i) = c .before .before .before .before .before .before .level-at2 .ensures ∙ c .before .before .before .before .before .before .before .level-of .ensures .0 in
     c .before .before .gather-block .ensures ∙ block-is (a .d) (a .i) _ (c .before .before .before .before .before .before .before .before .block-dims .ensures .0 ∙ ap width (c .before .before .before .before .before .before .before .before .before .level-at .ensures)) (c .before .before .before .before .before .block-dims2 .ensures .1 ∙ ap height e) (c .before .before .before .before .before .block-dims2 .ensures .0 ∙ ap width e) (c .before .before .before .before .place-of .ensures .0)

@@ -1,17 +1,11 @@
-
-
 use mathlib.Core.Path.{_≡_, sym, ap, _∙_}
 use Prim.Native.Nat.{ℕ, _-_, _^_}
 use Rattle.tree.specs.Blocks.{first, level}
-
-
 use native.Mathlib.Omega.{arith}
-
 use mathlib.Core.Bool.{_&&_}
 use lib.Dec.{leb, ltb}
 use borrow.Author.Tests.{lt-leb, le-leb}
 use borrow.Author.Needs.{needs}
-
 use Rattle.tree.specs.Subtree.{inTree, behind}
 use Rattle.tree.proofs.inner.in_tree.Statement.{statement}
 use Rattle.tree.proofs.inner.in_tree.Tie as tie
@@ -27,7 +21,7 @@ first-of-requires : tie.Need-first-of-requires
 first-of-requires c κs = search needs
 
 sub-result : tie.Need-sub-result
-sub-result c = 
+sub-result c =
     let f : c .first-of .result ≡ first (level (c .before .before .before .args .i)) = c .first-of .ensures ∙ ap first (c .before .before .level-of .ensures .0) in
     omega (arith, f, behind (c .before .before .before .args .i) (omega (arith, c .before .before .before .pre)))
 
@@ -36,7 +30,7 @@ blocks-under-requires c κs = search needs
 
 returns-2 : tie.Need-returns-2
 unfolding inTree
-returns-2 c = 
+returns-2 c =
     let a = c .before .before .before .before .args in
     let e = c .before .before .before .level-of .ensures .0 in
     let f : c .before .first-of .result ≡ first (level (a .i)) = c .before .first-of .ensures ∙ ap first e in
