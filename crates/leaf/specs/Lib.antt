@@ -18,3 +18,4 @@ pub mod InnerLaws
 pub mod AgreeLaws
 pub mod Lent
 pub mod LentLaws
+pub mod Show
