@@ -1,18 +1,23 @@
 -- What writing and reading a leaf by two lent tables asks, and what it leaves: the stage table of the leaf's level and the mean table of its half.
-use Prim.Native.Nat.{ℕ, _+_, _*_, _≤_, _<_}
+use Prim.Native.Nat.{ℕ, zero, suc, _+_, _-_, _*_, _≤_, _<_}
 use mathlib.Core.Path.{_≡_}
 use mathlib.Core.Bool.{true, false}
-use mathlib.Core.List.{List}
-use lib.ListN.{length}
-use Rattle.bits.specs.Codes.{codesOf, codeLen, goodTable}
+use mathlib.Core.List.{List, [], _∷_, _++_}
+use lib.Dec.{eqb}
+use lib.ListN.{length, take, drop, replicate}
+use lib.IntN.{ℤ}
+use Rattle.bits.specs.Basics.{pick}
+use Rattle.bits.specs.Bits.{valOf}
+use Rattle.bits.specs.Codes.{codesOf, codeLen, goodTable, Got, got, bad, then, takeCode}
 use Rattle.bits.specs.Inner.{Fits, GoodEntry}
 use Rattle.book.specs.Book.{Tables}
 use Rattle.book.specs.BookLaws.{means}
 use Rattle.book.specs.declared.svq1_vlc.Svq1Half.{Svq1Half}
-use Rattle.leaf.specs.Mean.{meanPosition}
-use Rattle.leaf.specs.Leaf.{Leaf}
-use Rattle.leaf.specs.LeafBits.{leafBits}
+use Rattle.leaf.specs.Mean.{meanPosition, meanAt}
+use Rattle.leaf.specs.Leaf.{Leaf, skip, coded}
+use Rattle.leaf.specs.LeafBits.{leafBits, readStages, readRest}
 use Rattle.leaf.specs.Raised.{leafOf}
+use Rattle.leaf.specs.declared.inner.ReadLeaf.{ReadLeaf}
 use Rattle.leaf.specs.declared.svq1_enc_leaf.LeafCode.{LeafCode}
 use Rattle.leaf.specs.declared.svq1_enc_leaf.LeafCode.the-variants.{Skip, Coded}
 
@@ -24,12 +29,15 @@ lentTables h stage mean = record { half = h; stage = λ d. codesOf stage; mean =
 abbrev pub lentBits : Svq1Half → List ℕ → List ℕ → Leaf → List ℕ
 lentBits h stage mean l = leafBits (lentTables h stage mean) 0 l
 
--- eight stage entries and as many means as the half has, none of them refused by 6
+-- as many means as the half has, and eight stage entries, none of them refused by 6
+pub record MeanTable (h : Svq1Half) (mean : List ℕ) : Type 0 where
+  pub size : length mean ≡ 3 * means h
+  pub good : goodTable mean ≡ true
+
 pub record LentTables (h : Svq1Half) (stage mean : List ℕ) : Type 0 where
   pub stage-size : length stage ≡ 24
   pub stage-good : goodTable stage ≡ true
-  pub mean-size : length mean ≡ 3 * means h
-  pub mean-good : goodTable mean ≡ true
+  pub means : MeanTable h mean
 
 -- the code's mean has an entry
 abbrev pub CodeFits : Svq1Half → LeafCode → Type 0
@@ -45,3 +53,52 @@ pub record Writable (h : Svq1Half) (stage mean : List ℕ) (c : LeafCode) (js : 
 -- how many bits a leaf of this code has, whatever its six stage indices
 abbrev pub LeafSize : Svq1Half → List ℕ → List ℕ → LeafCode → ℕ → Type 0
 LeafSize h stage mean c r = (js : List ℕ) → length js ≡ 6 → r ≡ length (lentBits h stage mean (leafOf c js))
+
+-- ---- reading
+-- the bit string that a struct answers for: the leaf and the bits left of it, or the refusal
+abbrev pub leafGot : List ℕ → ReadLeaf → Got Leaf
+leafGot bits r = pick (eqb (r .refused) 0) (got (leafOf (r .code) (r .stages)) (drop (r .next) bits)) (bad (r .refused))
+
+-- a leaf's one form in memory: its code counts its stages, and the indices behind them are 0
+abbrev pub padded : List ℕ → List ℕ
+padded js = js ++ replicate (6 - length js) 0
+
+abbrev pub codeOf : Leaf → LeafCode
+codeOf skip = Skip
+codeOf (coded m js) = Coded m (length js)
+
+abbrev pub sixOf : Leaf → List ℕ
+sixOf skip = replicate 6 0
+sixOf (coded m js) = padded js
+
+pub record Clean (c : LeafCode) (js : List ℕ) : Type 0 where
+  pub code : c ≡ codeOf (leafOf c js)
+  pub stages : js ≡ sixOf (leafOf c js)
+
+-- what a refused reading answers
+abbrev pub refusedLeaf : ℕ → ReadLeaf
+refusedLeaf n = record { refused = n; next = 0; code = Skip; stages = replicate 6 0 }
+
+-- the answer r is what reading gives; its next bit lies in the string, its leaf has the one form, and a refused one is `refusedLeaf`
+pub record LeafRead (bits : List ℕ) (g : Got Leaf) (r : ReadLeaf) : Type 0 where
+  pub leaf : leafGot bits r ≡ g
+  pub within : r .next ≤ length bits
+  pub clean : Clean (r .code) (r .stages)
+  pub bare : (r .refused ≡ 0 → ⊥) → r ≡ refusedLeaf (r .refused)
+
+-- the indices of n stages from bit `at` on
+unfoldable pub nibbles : List ℕ → ℕ → ℕ → List ℕ
+nibbles bits at zero = []
+nibbles bits at (suc n) = valOf (take 4 (drop at bits)) ∷ nibbles bits (at + 4) n
+
+-- what stands behind a mean, and a leaf whose mean is m
+abbrev pub readIndices : ℤ → ℕ → List ℕ → Got Leaf
+readIndices m n bits = then (readStages n bits) (λ js q. got (coded m js) q)
+
+-- what stands behind a stage code that counts n stages
+abbrev pub readMean : Svq1Half → List ℕ → ℕ → List ℕ → Got Leaf
+readMean h mean n bits = then (takeCode (codesOf mean) bits) (λ k r. readIndices (meanAt h k) n r)
+
+-- what stands behind the stage code at position k, by the mean table alone
+abbrev pub lentRest : Svq1Half → List ℕ → ℕ → ℕ → List ℕ → Got Leaf
+lentRest h mean d k bits = readRest (lentTables h [] mean) d k bits

@@ -42,7 +42,7 @@ book-tables book e h d l =
     let g = good-book book e in
     let s = g .stage h d l in
     let m = g .mean h in
-    record { stage-size = s .size; stage-good = s .good; mean-size = m .size; mean-good = m .good }
+    record { stage-size = s .size; stage-good = s .good; means = record { size = m .size; good = m .good } }
 
 -- a leaf that may stand somewhere has a mean with an entry
 pub allowed-fits : (T : Tables) (d : ℕ) (c : LeafCode) (js : List ℕ) → Allowed T d (leafOf c js) → CodeFits (T .half) c
@@ -92,7 +92,7 @@ module _ (h : Svq1Half) (stage mean : List ℕ) (t : LentTables h stage mean) (m
     (place : meanPosition h m < means h) (counted : n ≡ min count 6) (placed : k ≡ meanPosition h m) where
   pub coded-entries : GoodEntry stage (n + 1) × GoodEntry mean k
   coded-entries =
-      (entry stage 8 (n + 1) (t .stage-good) (t .stage-size) (omega arith), entry mean (means h) k (t .mean-good) (t .mean-size) (rw placed place))
+      (entry stage 8 (n + 1) (t .stage-good) (t .stage-size) (omega arith), entry mean (means h) k (t .means .good) (t .means .size) (rw placed place))
 
 module _ (h : Svq1Half) (stage mean js : List ℕ) (t : LentTables h stage mean) (six : length js ≡ 6) (m : ℤ) (count n k : ℕ)
     (place : meanPosition h m < means h) (counted : n ≡ min count 6) (placed : k ≡ meanPosition h m) where

@@ -18,4 +18,5 @@ pub mod InnerLaws
 pub mod AgreeLaws
 pub mod Lent
 pub mod LentLaws
+pub mod LentReadLaws
 pub mod Show
