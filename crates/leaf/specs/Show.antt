@@ -2,12 +2,13 @@
 -- Assumes nothing.
 use mathlib.Core.Path.{_≡_, refl, sym, ap, ap₂, _∙_}
 use mathlib.Core.List.{List, [], _∷_}
-use Prim.Native.Nat.{ℕ, suc, _+_, _*_, _≤_, _<_}
+use Prim.Native.Nat.{ℕ, suc, _+_, _*_, _≤_, _<_, min}
 use native.Mathlib.Omega.{arith}
 use native.Mathlib.Numerals.{add-one}
 use lib.IntN.{ℤ, pos, subℕ}
 use lib.ListN.{length, take, drop, getD, length-take, drop-of-length-le}
 use lib.Seq.{drop-cons, getD-take, length-take-le}
+use Rattle.bits.specs.ReadLaws.{take-min}
 use Rattle.book.specs.BookLaws.{means}
 use Rattle.book.specs.declared.svq1_vlc.Svq1Half.{Svq1Half}
 use Rattle.book.specs.declared.svq1_vlc.Svq1Half.the-variants.{Intra, Inter}
@@ -53,10 +54,10 @@ pub record Staging (n size base count : ℕ) (js : List ℕ) : Type 0 where
   pub page : base + n * 16 * count ≤ size
   pub small : (k : ℕ) → k < count → getD js k 0 < 16
 
--- the same for a leaf's code; skip asks nothing
+-- the same for a leaf's code, whose count of stages stands for six at most; skip asks nothing
 abbrev pub CodeShows : Svq1Half → ℕ → ℕ → ℕ → LeafCode → List ℕ → Type 0
 CodeShows h n size base Skip js = Unit
-CodeShows h n size base (Coded m count) js = MeanKnown h m × Staging n size base count js
+CodeShows h n size base (Coded m count) js = MeanKnown h m × Staging n size base (min count 6) js
 
 -- what adding the stages' vectors asks
 pub record Adding (a : List ℕ) (size base count : ℕ) (js : List ℕ) : Type 0 where
@@ -120,9 +121,12 @@ skip-shown vs p = refl
 pub shown-skip : (vs : Vectors) (p js out : List ℕ) (c : LeafCode) → c ≡ Skip → out ≡ p → out ≡ leafShown vs p (leafOf c js)
 shown-skip vs p js out c e o = rw e (o ∙ skip-shown vs p)
 
-pub shown-coded : (vs : Vectors) (p js out : List ℕ) (c : LeafCode) (m z : ℤ) (n : ℕ) → c ≡ Coded m n → z ≡ m → out ≡ leafShown vs p (coded z (take n js))
-    → out ≡ leafShown vs p (leafOf c js)
-shown-coded vs p js out c m z n e q o = rw (e, ← q) o
+few : (js : List ℕ) (count : ℕ) → length js ≡ 6 → take (min count 6) js ≡ take count js
+few js count six = rw (← six) (take-min count js)
+
+pub shown-coded : (vs : Vectors) (p js out : List ℕ) (c : LeafCode) (m z : ℤ) (n k : ℕ) → c ≡ Coded m n → z ≡ m → length js ≡ 6 → k ≡ min n 6
+    → out ≡ leafShown vs p (coded z (take k js)) → out ≡ leafShown vs p (leafOf c js)
+shown-coded vs p js out c m z n k e q six r o = rw (e, ← q, ← few js n six, ← r) o
 
 -- the samples of the sums
 pub coded-shown : (p book a b : List ℕ) (base mean count bias : ℕ) (js out : List ℕ) → length a ≡ length p → less 256 a ≡ seeded (subℕ mean 256) p

@@ -758,7 +758,8 @@ pub fn show_leaf(
         LeafCode::Skip => copy(p, out),
         LeafCode::Coded { mean, count } => {
             let m = raised_mean(half, mean);
-            show_coded(p, a, out, book, base, m, count as usize, stages)
+            let n = stage_count(count);
+            show_coded(p, a, out, book, base, m, n, stages)
         }
     }
 }
