@@ -21,3 +21,4 @@ pub mod AgreeLaws
 pub mod Lent
 pub mod LentLaws
 pub mod LentReadLaws
+pub mod Show

@@ -8,12 +8,13 @@ ghost use Rattle.bits.specs.Basics.{gap, natural};
 ghost use Rattle.book.specs.Book.{codebookBytes};
 ghost use Rattle.leaf.specs.Codebook.{byteOf};
 ghost use Rattle.leaf.specs.Mean.{residual, meanOf, saturate, meanPosition, meanAt};
-ghost use Rattle.leaf.specs.Leaf.{sse, plus, samples, seeded, argmin};
-ghost use Rattle.leaf.specs.Raised.{originOf, raisedCodebook, less, sqd, vectorError, Below, Stage, total, plusN, Searched, leafOf};
+ghost use Rattle.leaf.specs.Leaf.{coded, sse, plus, samples, seeded, staged, leafShown, argmin};
+ghost use Rattle.leaf.specs.Raised.{originOf, raisedCodebook, less, sqd, vectorError, Below, Stage, total, plusN, vectorsIn, Searched, leafOf};
 ghost use Rattle.leaf.specs.Inner.{Ready, Coding, Chosen, pageStart};
 ghost use mathlib.Core.List.{List};
 ghost use Rattle.bits.specs.Inner.{Fits, Wrote};
 ghost use Rattle.leaf.specs.LeafBits.{stageBits, readSkip, readLeaf};
+ghost use Rattle.leaf.specs.Show.{MeanKnown, Sized, Staging, CodeShows, Adding};
 ghost use Rattle.leaf.specs.Lent.{lentBits, LentTables, CodeFits, LeafSize, Writable, lentTables, MeanTable, padded, refusedLeaf, LeafRead, nibbles, readIndices, readMean, lentRest};
 ghost use mathlib.Core.Bool.{_&&_};
 ghost use lib.Dec.{ltb};
@@ -724,5 +725,76 @@ pub fn page_start(half: Svq1Half, d: usize) -> usize
     match half {
         Svq1Half::Intra => intra_page(d),
         Svq1Half::Inter => inter_page(d),
+    }
+}
+
+// A mean kept plus 256, by its position in its half's table.
+fn raised_mean(half: Svq1Half, mean: i16) -> u16
+    requires { ⌜ MeanKnown half mean ⌝ }
+    ensures { λ r. ⌜ (subℕ r 256 ≡ mean) × (r ≤ 511) ⌝ }
+{
+    let k = mean_position(half, mean) as u16;
+    match half {
+        Svq1Half::Intra => 256 + k,
+        Svq1Half::Inter => k,
+    }
+}
+
+// The vectors of the first `count` stages added to the sums `a`.
+fn add_stages(a: &mut [u16], book: &[u8], base: usize, count: usize, stages: [u8; 6])
+    requires { ⌜ Adding (now a) (length (now book)) base count stages ⌝ }
+    ensures { λ _. ⌜ less (256 + 128 * count) (now (a .exit)) ≡ staged (vectorsIn (now (book .entry)) base (length (now (a .entry)))) 0 (less 256 (now (a .entry))) (take count stages) ⌝ }
+{
+    let n = a.len();
+    let mut at = base;
+    let mut k = 0;
+    while k < count {
+        let j = stages[k] as usize;
+        add_stage(a, book, at, j);
+        at += n * 16;
+        k += 1;
+    }
+}
+
+// The samples of a coded leaf over the predictor `p`, into `out`; its mean is kept plus 256, and `a` is scratch.
+fn show_coded(
+    p: &[u8],
+    a: &mut [u16],
+    out: &mut [u8],
+    book: &[u8],
+    base: usize,
+    mean: u16,
+    count: usize,
+    stages: [u8; 6],
+)
+    requires { ⌜ (mean ≤ 511) × Sized (now p) (now a) (now out) × Staging (length (now p)) (length (now book)) base count stages ⌝ }
+    ensures { λ _. ⌜ now (out .exit) ≡ leafShown (vectorsIn (now (book .entry)) base (length (now (p .entry)))) (now (p .entry)) (coded (subℕ mean 256) (take count stages)) ⌝ }
+{
+    seed(a, p, mean);
+    add_stages(a, book, base, count, stages);
+    show(a, bias_of(count), out);
+}
+
+// The samples of a leaf over the predictor `p`, into `out`; `a` is scratch. `book` is the raised codebook, and the page begins at `base`.
+pub fn show_leaf(
+    half: Svq1Half,
+    p: &[u8],
+    a: &mut [u16],
+    out: &mut [u8],
+    book: &[u8],
+    base: usize,
+    code: LeafCode,
+    stages: [u8; 6],
+)
+    requires { ⌜ Sized (now p) (now a) (now out) × CodeShows half (length (now p)) (length (now book)) base code stages ⌝ }
+    ensures { λ _. ⌜ now (out .exit) ≡ leafShown (vectorsIn (now (book .entry)) base (length (now (p .entry)))) (now (p .entry)) (leafOf code stages) ⌝ }
+{
+    match code {
+        LeafCode::Skip => copy(p, out),
+        LeafCode::Coded { mean, count } => {
+            let m = raised_mean(half, mean);
+            let n = stage_count(count);
+            show_coded(p, a, out, book, base, m, n, stages)
+        }
     }
 }

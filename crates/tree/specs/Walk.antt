@@ -26,36 +26,39 @@ leafFlag zero = []
 leafFlag (suc d) = 0 ∷ []
 
 -- a leaf that can be written and shown at level d: skip, or a mean of its half's range with stages that the level has
-abbrev pub Sound : Tables → ℕ → Leaf → Type 0
-Sound T d skip = Unit
-Sound T d (coded m js) = Coded T d m js
+abbrev pub ofHalf : Svq1Half → Tables
+ofHalf h = record { half = h; stage = λ d. []; mean = [] }
 
-abbrev pub SoundNode : Tables → ℕ → Node → Type 0
-SoundNode T d Off = Unit
-SoundNode T d Split = Unit
-SoundNode T d (Ends l) = Sound T d l
+abbrev pub Sound : Svq1Half → ℕ → Leaf → Type 0
+Sound h d skip = Unit
+Sound h d (coded m js) = Coded (ofHalf h) d m js
+
+abbrev pub SoundNode : Svq1Half → ℕ → Node → Type 0
+SoundNode h d Off = Unit
+SoundNode h d Split = Unit
+SoundNode h d (Ends l) = Sound h d l
 
 -- every leaf of a tree is such a leaf
-abbrev pub SoundTree : Tables → List Node → Type 0
-SoundTree T t = (i : ℕ) → SoundNode T (level i) (getD t i Off)
+abbrev pub SoundTree : Svq1Half → List Node → Type 0
+SoundTree h t = (i : ℕ) → SoundNode h (level i) (getD t i Off)
 
 -- a book that passes, a leaf that can be written, and room for its bits
 pub record LeafRoom (book : List ℕ) (half : Svq1Half) (d : ℕ) (l : Leaf) (bytes at : ℕ) : Type 0 where
   pub passes : bookRefusal book ≡ 0
   pub deep : d ≤ 5
-  pub sound : Sound (tablesOf book half) d l
+  pub sound : Sound half d l
   pub room : Fits bytes at (length (leafBits (tablesOf book half) d l))
 
 -- the same of a block, and of a tree
 pub record NodeRoom (book : List ℕ) (half : Svq1Half) (d : ℕ) (x : Node) (bytes at : ℕ) : Type 0 where
   pub passes : bookRefusal book ≡ 0
   pub deep : d ≤ 5
-  pub sound : SoundNode (tablesOf book half) d x
+  pub sound : SoundNode half d x
   pub room : Fits bytes at (length (nodeBits (tablesOf book half) d x))
 
 pub record TreeRoom (book : List ℕ) (half : Svq1Half) (t : List Node) (bytes at : ℕ) : Type 0 where
   pub passes : bookRefusal book ≡ 0
-  pub sound : SoundTree (tablesOf book half) t
+  pub sound : SoundTree half t
   pub room : Fits bytes at (length (treeBits (tablesOf book half) t))
 
 -- ---- reading

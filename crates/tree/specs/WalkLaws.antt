@@ -132,9 +132,9 @@ module _ (book : List ℕ) (half : Svq1Half) (d : ℕ) (x : Node) (bytes at : �
         }
 
 -- ---- a leaf by the tables of a book
-sound-fits : (T : Tables) (d : ℕ) (c : LeafCode) (js : List ℕ) → Sound T d (leafOf c js) → CodeFits (T .half) c
-sound-fits T d code.Skip js a = tt
-sound-fits T d (code.Coded m n) js a = a .place
+sound-fits : (h : Svq1Half) (d : ℕ) (c : LeafCode) (js : List ℕ) → Sound h d (leafOf c js) → CodeFits h c
+sound-fits h d code.Skip js a = tt
+sound-fits h d (code.Coded m n) js a = a .place
 
 module _ (book : List ℕ) (half : Svq1Half) (d : ℕ) (stage mean : List ℕ) (is-stage : stage ≡ stageTable d (stageFamily half book)) (is-mean : mean ≡ meanTable half book) where
   lent-bits : (l : Leaf) → lentBits half stage mean l ≡ leafBits (tablesOf book half) d l
@@ -144,7 +144,7 @@ module _ (book : List ℕ) (half : Svq1Half) (d : ℕ) (stage mean : List ℕ) (
   leaf-lent c js bytes at r =
       record {
         tables = rw (is-stage, is-mean) (book-tables book (r .passes) half d (r .deep));
-        known = sound-fits (tablesOf book half) d c js (r .sound);
+        known = sound-fits half d c js (r .sound);
         room = rw (lent-bits (leafOf c js)) (r .room);
       }
 

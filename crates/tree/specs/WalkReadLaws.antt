@@ -14,13 +14,20 @@ use Rattle.bits.specs.Basics.{pick}
 use Rattle.bits.specs.Bits.{bitsOf, valOf}
 use Rattle.bits.specs.BitsLaws.{length-bitsOf}
 use Rattle.bits.specs.Codes.{Got, got, bad, then}
-use Rattle.book.specs.Book.{Tables}
+use Rattle.book.specs.Book.{Tables, tablesOf, meanTable, stageFamily, stageTable}
+use Rattle.book.specs.declared.svq1_vlc.Svq1Half.{Svq1Half}
+use Rattle.leaf.specs.Leaf.{Leaf}
+use Rattle.leaf.specs.Lent.{lentTables, LeafRead}
+use Rattle.leaf.specs.LentReadLaws.{book-read}
+use Rattle.leaf.specs.Raised.{leafOf}
+use Rattle.leaf.specs.declared.inner.ReadLeaf.{ReadLeaf}
 use Rattle.leaf.specs.LeafBits.{readLeaf}
 use Rattle.tree.specs.Blocks.{blockCount, level, first}
-use Rattle.tree.specs.TreeBits.{Node, Off, Split, reached, asNode, readNode, readIf, readFrom, readTree}
+use Rattle.tree.specs.TreeBits.{Node, Off, Split, Ends, reached, asNode, readNode, readIf, readFrom, readTree}
 use Rattle.tree.specs.Nodes.{nodeOf, treeOf}
 use Rattle.tree.specs.Walk.{nodeGot, treeGot, LeafHere, NodeHere, TreeHere}
 use Rattle.tree.specs.WalkLaws.{tree-set, reached-front}
+use Rattle.tree.specs.declared.svq1_enc_tree.TreeNode.the-variants as node
 use Rattle.tree.specs.declared.svq1_enc_tree.Block.{Block}
 use Rattle.tree.specs.declared.walk.ReadNode.{ReadNode}
 use Rattle.tree.specs.declared.walk.ReadTree.{ReadTree}
@@ -31,6 +38,21 @@ node-done bits g z = sym (rw (eq-eqb (g .refused) 0 z))
 
 node-bad : (bits : List ℕ) (g : ReadNode) → (g .refused ≡ 0 → ⊥) → bad (g .refused) ≡ nodeGot bits g
 node-bad bits g z = sym (rw (ne-eqb (g .refused) 0 z))
+
+-- a leaf by the tables of a book
+as-node : (b : Bool) (l : Leaf) (rest : List ℕ) (n : ℕ) → pick b (got (Ends l) rest) (bad n) ≡ asNode (pick b (got l rest) (bad n))
+as-node true l rest n = refl
+as-node false l rest n = refl
+
+pub leaf-here : (book : List ℕ) (half : Svq1Half) (d : ℕ) (stage mean s : List ℕ) (at : ℕ) (g : ReadLeaf) → stage ≡ stageTable d (stageFamily half book) → mean ≡ meanTable half book
+    → LeafRead (bitsOf s) (readLeaf (lentTables half stage mean) d (drop at (bitsOf s))) g
+    → LeafHere (tablesOf book half) d s at (record { refused = g .refused; next = g .next; block = record { node = node.Leaf (g .code); stages = g .stages } })
+leaf-here book half d stage mean s at g is-stage is-mean l =
+    record {
+      is = as-node (eqb (g .refused) 0) (leafOf (g .code) (g .stages)) (drop (g .next) (bitsOf s)) (g .refused)
+          ∙ ap asNode (l .leaf ∙ rw (is-stage, is-mean) (book-read book half d (drop at (bitsOf s))));
+      within = rw length-bitsOf at (l .within);
+    }
 
 -- a flag stands before a block above L0
 module _ (T : Tables) (d k : ℕ) (bits : List ℕ) where

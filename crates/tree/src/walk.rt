@@ -9,7 +9,7 @@ ghost use Rattle.book.specs.Level.{levelNumber};
 ghost use Rattle.leaf.specs.LeafBits.{leafBits};
 ghost use Rattle.leaf.specs.Raised.{leafOf};
 ghost use Rattle.tree.specs.Blocks.{first};
-ghost use Rattle.tree.specs.TreeBits.{Off, isSplit, reached, nodeBits, treeBits};
+ghost use Rattle.tree.specs.TreeBits.{isSplit, reached, nodeBits, treeBits};
 ghost use Rattle.tree.specs.Nodes.{nodeOf, treeOf};
 ghost use Rattle.tree.specs.Walk.{leafFlag, LeafRoom, NodeRoom, TreeRoom, Reads, LeafHere, NodeHere, TreeHere};
 use super::inner::level_of;
@@ -20,6 +20,7 @@ use bits::inner::put_bits;
 use book::svq1_blocktree::Svq1Level;
 use book::svq1_vlc::Svq1Half;
 use leaf::inner::put_leaf;
+use leaf::inner::read_leaf;
 use leaf::svq1_enc_leaf::LeafCode;
 
 // The level of this number.
@@ -174,25 +175,23 @@ pub fn first_of(d: usize) -> usize
     }
 }
 
-fn off() -> Block
-    ensures { λ r. ⌜ nodeOf r ≡ Off ⌝ }
-{
-    Block {
-        node: TreeNode::Off,
-        stages: [0u8; 6],
-    }
-}
-
 // The leaf of level d that stands at bit `at`.
 fn read_leaf_at(s: &[u8], at: usize, half: Svq1Half, book: &[u8], d: usize) -> ReadNode
     requires { ⌜ Reads (now book) d (length (now s)) at ⌝ }
     ensures { λ r. ⌜ LeafHere (tablesOf (now (book .entry)) half) d (now (s .entry)) at r ⌝ }
 {
-    let block = off();
+    let stage = stage_table(book, half, d);
+    let means = mean_table(book, half);
+    let g = read_leaf(s, at, stage, means, half, d);
+    let code = g.code;
+    let stages = g.stages;
     ReadNode {
-        refused: 24,
-        next: at,
-        block,
+        refused: g.refused,
+        next: g.next,
+        block: Block {
+            node: TreeNode::Leaf(code),
+            stages,
+        },
     }
 }
 
