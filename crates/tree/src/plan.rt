@@ -4,12 +4,23 @@ ghost use mathlib.Core.Path.{_≡_};
 ghost use Prim.Native.Nat.{ℕ, _+_, _<_, _≤_};
 ghost use lib.ListN.{length};
 ghost use Rattle.book.specs.Book.{codebookBytes};
-ghost use Rattle.book.specs.Level.{area};
+ghost use Rattle.book.specs.Level.{width, area};
+ghost use Rattle.tree.specs.Blocks.{level, blockOf};
 ghost use Rattle.leaf.specs.Leaf.{capAt};
-ghost use Rattle.tree.specs.Planning.{LevelReady, LevelLeaf};
+ghost use mathlib.Core.Bool.{true};
+ghost use Rattle.tree.specs.Planning.{LevelReady, LeafReady, LevelLeaf, PlanReady, BlockReady, planningIn};
+ghost use Rattle.tree.specs.PlannedLaws.{LeafAt, PlannedAt, Done};
+use super::inner::block_of;
+use super::inner::in_tree;
+use super::inner::level_of;
+use super::svq1_enc_tree::PlannedBlock;
+use super::svq1_enc_tree::decide;
 use super::walk::level_at;
+use super::walk::mean_table;
+use super::walk::stage_table;
 use book::svq1_vlc::Svq1Half;
 use leaf::inner::choose_leaf;
+use leaf::inner::leaf_bits;
 use leaf::inner::page_start;
 use leaf::svq1_enc_leaf::LeafChoice;
 
@@ -50,4 +61,63 @@ fn level_leaf(
         cap_at(d, cap),
         skip,
     )
+}
+
+// The leaf choice of block i of a block of level d.
+fn leaf_in(
+    half: Svq1Half,
+    raised: &[u8],
+    cap: usize,
+    skip: bool,
+    d: usize,
+    target: &[u8],
+    predictor: &[u8],
+    i: usize,
+) -> LeafChoice
+    requires { ⌜ LeafReady (now raised) d cap i (now target) (now predictor) ⌝ }
+    ensures { λ r. ⌜ LevelLeaf half (now (raised .entry)) (level i) cap skip (blockOf (width d) (level i) i (now (target .entry))) (blockOf (width d) (level i) i (now (predictor .entry))) (r .code) (r .stages) (r .error) ⌝ }
+{
+    let e = level_of(i);
+    let n = level_at(e).vector_length();
+    let mut t = [0u8; 256];
+    let mut p = [0u8; 256];
+    block_of(target, d, i, &mut t[0..n]);
+    block_of(predictor, d, i, &mut p[0..n]);
+    level_leaf(half, raised, e, cap, skip, &t[0..n], &p[0..n])
+}
+
+// Block i of a block of level d as a leaf.
+fn plan_leaf(
+    half: Svq1Half,
+    book: &[u8],
+    codebook: &[u8],
+    raised: &[u8],
+    cap: usize,
+    skip: bool,
+    lambda: u64,
+    d: usize,
+    target: &[u8],
+    predictor: &[u8],
+    i: usize,
+) -> PlannedBlock
+    requires { ⌜ PlanReady half (now book) (now codebook) (now raised) cap skip d (now target) (now predictor) × BlockReady d i ⌝ }
+    ensures { λ r. ⌜ LeafAt (planningIn half (now (book .entry)) (now (codebook .entry)) cap skip lambda d (now (target .entry)) (now (predictor .entry))) i r ⌝ }
+{
+    let l = leaf_in(half, raised, cap, skip, d, target, predictor, i);
+    let code = l.code;
+    let stages = l.stages;
+    let e = level_of(i);
+    let bits = leaf_bits(
+        stage_table(book, half, e),
+        mean_table(book, half),
+        half,
+        code,
+    );
+    PlannedBlock {
+        split: false,
+        bits,
+        error: l.error,
+        code,
+        stages,
+    }
 }

@@ -1,4 +1,3 @@
-
 use Rattle.book.specs.Level.{area}
 use Rattle.tree.specs.GeometryLaws.{area-most}
 use Rattle.tree.specs.PlanningLaws.{level-ready, level-found}
