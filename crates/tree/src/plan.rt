@@ -63,7 +63,28 @@ fn level_leaf(
     )
 }
 
-// The leaf choice of block i of a block of level d.
+// The leaf choice of block i of a block of level d; the block and its predictor are gathered into `t` and `p`.
+fn gathered_leaf(
+    half: Svq1Half,
+    raised: &[u8],
+    cap: usize,
+    skip: bool,
+    d: usize,
+    target: &[u8],
+    predictor: &[u8],
+    i: usize,
+    t: &mut [u8],
+    p: &mut [u8],
+) -> LeafChoice
+    requires { ⌜ LeafReady (now raised) d cap i (now target) (now predictor) × (length (now t) ≡ area (level i)) × (length (now p) ≡ area (level i)) ⌝ }
+    ensures { λ r. ⌜ LevelLeaf half (now (raised .entry)) (level i) cap skip (blockOf (width d) (level i) i (now (target .entry))) (blockOf (width d) (level i) i (now (predictor .entry))) (r .code) (r .stages) (r .error) ⌝ }
+{
+    block_of(target, d, i, t);
+    block_of(predictor, d, i, p);
+    level_leaf(half, raised, level_of(i), cap, skip, t, p)
+}
+
+// The same with scratch of its own.
 fn leaf_in(
     half: Svq1Half,
     raised: &[u8],
@@ -77,13 +98,21 @@ fn leaf_in(
     requires { ⌜ LeafReady (now raised) d cap i (now target) (now predictor) ⌝ }
     ensures { λ r. ⌜ LevelLeaf half (now (raised .entry)) (level i) cap skip (blockOf (width d) (level i) i (now (target .entry))) (blockOf (width d) (level i) i (now (predictor .entry))) (r .code) (r .stages) (r .error) ⌝ }
 {
-    let e = level_of(i);
-    let n = level_at(e).vector_length();
+    let n = level_at(level_of(i)).vector_length();
     let mut t = [0u8; 256];
     let mut p = [0u8; 256];
-    block_of(target, d, i, &mut t[0..n]);
-    block_of(predictor, d, i, &mut p[0..n]);
-    level_leaf(half, raised, e, cap, skip, &t[0..n], &p[0..n])
+    gathered_leaf(
+        half,
+        raised,
+        cap,
+        skip,
+        d,
+        target,
+        predictor,
+        i,
+        &mut t[0..n],
+        &mut p[0..n],
+    )
 }
 
 // Block i of a block of level d as a leaf.
