@@ -1,6 +1,7 @@
 -- The definitions that the contracts of this crate cite; the laws that callers cite stand in the files named `..Laws`.
 pub mod Vectors
 pub mod VectorsLaws
+pub mod ClipLaws
 pub mod Neighbours
 pub mod NeighboursLaws
 pub mod Grid
