@@ -2,10 +2,14 @@
 pub mod Vectors
 pub mod VectorsLaws
 pub mod ClipLaws
+pub mod RaisedLaws
 pub mod Neighbours
 pub mod NeighboursLaws
 pub mod Grid
 pub mod GridLaws
+pub mod PutLaws
 pub mod Compensation
 pub mod Search
+pub mod Cache
+pub mod CacheLaws
 pub mod SearchLaws
