@@ -10,6 +10,10 @@ pub mod GridLaws
 pub mod PutLaws
 pub mod Compensation
 pub mod Search
+pub mod SumLaws
+pub mod Rows
+pub mod RowsLaws
+pub mod EarlyLaws
 pub mod Cache
 pub mod CacheLaws
 pub mod SearchLaws
