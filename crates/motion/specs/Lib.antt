@@ -14,6 +14,9 @@ pub mod SumLaws
 pub mod Rows
 pub mod RowsLaws
 pub mod EarlyLaws
+pub mod Candidates
+pub mod CandidatesLaws
+pub mod ScanLaws
 pub mod Cache
 pub mod CacheLaws
 pub mod SearchLaws
