@@ -1,61 +1,94 @@
+use mathlib.Core.Path.{_≡_, refl, sym, _∙_, ap}
+use Prim.Native.Nat.{ℕ, _+_, _-_, _*_, _/_, _%_, _≤_, _<_}
+use Rattle.motion.specs.Search.{rowsTo}
+use Rattle.motion.specs.Candidates.{spotSearch, shown, Held}
+use Rattle.motion.specs.ScanLaws.{rows-more, rows-start, rows-end}
 use native.Mathlib.Omega.{arith}
 use borrow.Author.Needs.{needs}
 use Rattle.motion.proofs.inner.search.full_best.Statement.{statement}
 use Rattle.motion.proofs.inner.search.full_best.Tie as tie
-use Rattle.motion.proofs.inner.search.full_best.Reads as reads
-use Rattle.motion.proofs.inner.search.full_best.Lts as lts
-use Rattle.motion.proofs.inner.search.row_best.Reads as row-best-reads
-use Rattle.motion.proofs.inner.search.span_of.Reads as span-of-reads
 
 abbrev Inv-loop : tie.InvT-loop
-Inv-loop target reference p sx to best₀ k₀ best k = ?
+Inv-loop target reference p sx to best₀ k₀ best k = (k ≤ to) × (shown best ≡ rowsTo (spotSearch target reference p) (shown best₀) k) × Held best
 
 abbrev μ-loop : tie.MeasureT-loop
-μ-loop target reference p sx to best₀ k₀ best k = ?
+μ-loop target reference p sx to best₀ k₀ best k = to - k
 
--- src/inner/search.rt:167:9
 span-of-requires : tie.Need-span-of-requires Inv-loop μ-loop
 span-of-requires c κs = search needs
 
--- src/inner/search.rt:168:9
 span-of-requires-2 : tie.Need-span-of-requires-2 Inv-loop μ-loop
 span-of-requires-2 c κs = search needs
 
--- src/inner/search.rt:172:5
 loop-holds : tie.Need-loop-holds Inv-loop μ-loop
-loop-holds c = search needs
+loop-holds c =
+    let s = c .before .before .before .before in
+    let a = s .args in
+    let r = s .pre in
+    let q = c .span-of2 .ensures in
+    (omega (arith, q .first, q .some), rows-start (a .target .now) (a .reference .now) (a .p) (r .0 .radius-most) (r .0 .px-low) (r .0 .py-low) (c .span-of2 .result) q (shown (a .first)), r .1)
 
--- src/inner/search.rt:178:18
 add-row-best : tie.Need-add-row-best Inv-loop μ-loop
-add-row-best c = search needs
+add-row-best c =
+    let s = c .before .before .before .before .before .before .before in
+    let a = s .args in
+    let r = s .pre in
+    let q = c .before .before .before .span-of2 .ensures in
+    omega (arith, r .0 .py-low, r .0 .py-high, r .0 .radius-most, q .last)
 
--- src/inner/search.rt:178:18
 sub-row-best : tie.Need-sub-row-best Inv-loop μ-loop
-sub-row-best c = search needs
+sub-row-best c =
+    let s = c .before .before .before .before .before .before .before .before in
+    let a = s .args in
+    let r = s .pre in
+    let q = c .before .before .before .before .span-of2 .ensures in
+    omega (arith, r .0 .py-low, r .0 .py-high, r .0 .radius-most, q .last)
 
--- src/inner/search.rt:178:13
 mul-row-best : tie.Need-mul-row-best Inv-loop μ-loop
-mul-row-best c = search needs
+mul-row-best c =
+    let s = c .before .before .before .before .before .before .before .before in
+    let a = s .args in
+    let r = s .pre in
+    let q = c .before .before .before .before .span-of2 .ensures in
+    omega (arith, r .0 .py-low, r .0 .py-high, r .0 .radius-most, q .last)
 
--- src/inner/search.rt:173:9
 row-best-requires : tie.Need-row-best-requires Inv-loop μ-loop
-row-best-requires c κs = search needs
+row-best-requires c κs =
+    let s = c .before .before .before .before .before .before .before .before in
+    let a = s .args in
+    let r = s .pre in
+    let q = c .before .before .before .before .span-of2 .ensures in
+    (r .0, c .before .before .before .loop .inv .2, c .before .before .before .before .before .span-of .ensures, omega (arith, r .0 .py-low, r .0 .py-high, r .0 .radius-most, q .last))
 
--- src/inner/search.rt:181:9
 add-k : tie.Need-add-k Inv-loop μ-loop
-add-k c = search needs
+add-k c =
+    let s = c .before .before .before .before .before .before .before .before .before in
+    let a = s .args in
+    let r = s .pre in
+    let q = c .before .before .before .before .before .span-of2 .ensures in
+    omega (arith, r .0 .py-low, r .0 .py-high, r .0 .radius-most, q .last)
 
--- src/inner/search.rt:172:5
 loop-less : tie.Need-loop-less Inv-loop μ-loop
-loop-less c = search needs
+loop-less c = omega arith
 
--- src/inner/search.rt:172:5
 loop-again : tie.Need-loop-again Inv-loop μ-loop
-loop-again c = search needs
+loop-again c =
+    let s = c .before .before .before .before .before .before .before .before .before in
+    let a = s .args in
+    let r = s .pre in
+    let q = c .before .before .before .before .before .span-of2 .ensures in
+    let l = c .before .before .before .before .loop in
+    (omega arith, rows-more (a .target .now) (a .reference .now) (a .p) (r .0 .radius-most) (r .0 .px-low) (r .0 .py-low) (shown (a .first)) (l .k) (l .best) (c .row-best .result) (l .inv .1) (c .row-best .ensures .0), c .row-best .ensures .1)
 
--- src/inner/search.rt:163:1
 returns : tie.Need-returns Inv-loop μ-loop
-returns c = search needs
+returns c =
+    let s = c .before .before .before .before .before .before in
+    let a = s .args in
+    let r = s .pre in
+    let q = c .before .before .span-of2 .ensures in
+    let l = c .before .loop in
+    let e : l .k ≡ c .before .before .span-of2 .result .to = omega arith in
+    ((rw e at (l .inv .1)) ∙ rows-end (a .target .now) (a .reference .now) (a .p) (r .0 .radius-most) (r .0 .px-low) (r .0 .py-low) (c .before .before .span-of2 .result) q (shown (a .first)), l .inv .2)
 
 pub full-best-spec : {M : Type 1} → statement M
 full-best-spec =
