@@ -29,7 +29,7 @@ clip-stays (pos n) h = ap pos (omega arith)
 clip-stays (negsuc n) h = ap negsuc (omega arith)
 
 -- a sum's magnitude
-sub-mag : (a b : ℕ) → mag (subℕ a b) ≤ a + b
+pub sub-mag : (a b : ℕ) → mag (subℕ a b) ≤ a + b
 sub-mag a b = go (decLe b a)
   where
     go : Dec (b ≤ a) → mag (subℕ a b) ≤ a + b

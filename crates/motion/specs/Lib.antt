@@ -17,6 +17,8 @@ pub mod EarlyLaws
 pub mod Candidates
 pub mod CandidatesLaws
 pub mod ScanLaws
+pub mod SearchCall
+pub mod SearchCallLaws
 pub mod Cache
 pub mod CacheLaws
 pub mod SearchLaws

@@ -1,0 +1,37 @@
+use mathlib.Core.Path.{_≡_, refl, sym, _∙_, ap}
+use mathlib.Core.Bool.{true, false, _&&_}
+use Prim.Native.Nat.{ℕ, _+_, _-_, _*_, _≤_, _<_}
+use native.Mathlib.Omega.{arith}
+use borrow.Author.Tests.{lt-ltb, le-ltb, le-leb, lt-leb, eq-eqb, ne-eqb, not-true, not-false}
+use mir.ValLaws.{toZ-ofZ}
+use mir.Val.{SFits, toZ, ofZ}
+use mir.Syntax.{w32}
+use lib.IntN.{ℤ, pos, negsuc, _+ℤ_, _-ℤ_}
+use lib.Signed.{leZ}
+use Rattle.motion.specs.Candidates.{lowered}
+use Rattle.motion.specs.ClipLaws.{sub-mag}
+use borrow.Author.Needs.{needs}
+use Rattle.motion.proofs.svq1_enc_inter.lower.Statement.{statement}
+use Rattle.motion.proofs.svq1_enc_inter.lower.Tie as tie
+
+cast-result : tie.Need-cast-result
+cast-result c = search needs
+
+sub-result : tie.Need-sub-result
+sub-result c =
+    let u = c .args .u in
+    let e = toZ-ofZ w32 (pos u) (record { sfits = omega arith }) in
+    let k : toZ w32 u -ℤ pos 1024 ≡ lowered u = rw e refl in
+    let f : SFits w32 (lowered u) = record { sfits = omega (arith, sub-mag u 1024) } in
+    rw k f
+
+returns : tie.Need-returns
+returns c =
+    let u = c .args .u in
+    let e = toZ-ofZ w32 (pos u) (record { sfits = omega arith }) in
+    let k : toZ w32 u -ℤ pos 1024 ≡ lowered u = rw e refl in
+    let f : SFits w32 (lowered u) = record { sfits = omega (arith, sub-mag u 1024) } in
+    rw k (toZ-ofZ w32 (lowered u) f)
+
+pub lower-spec : {M : Type 1} → statement M
+lower-spec = tie.close (tie.spec cast-result sub-result returns)
