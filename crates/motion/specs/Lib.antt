@@ -10,6 +10,8 @@ pub mod GridLaws
 pub mod PutLaws
 pub mod Compensation
 pub mod Search
+pub mod Moved
+pub mod MovedLaws
 pub mod SumLaws
 pub mod Rows
 pub mod RowsLaws
