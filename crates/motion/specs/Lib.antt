@@ -12,6 +12,7 @@ pub mod Compensation
 pub mod Search
 pub mod Moved
 pub mod MovedLaws
+pub mod PartsLaws
 pub mod SumLaws
 pub mod Rows
 pub mod RowsLaws

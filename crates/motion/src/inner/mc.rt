@@ -92,3 +92,57 @@ fn part_clamped(
         j += 1;
     }
 }
+
+// Part q of the macroblock at (x, y), moved by a vector; the other samples stay.
+fn mc_part(
+    out: &mut [u8; 256],
+    reference: &[u8],
+    stride: usize,
+    rows: usize,
+    x: usize,
+    y: usize,
+    v: Svq1Mv,
+    s: usize,
+    cols: usize,
+    q: usize,
+)
+    requires { ⌜ Placed (record { samples = now reference; stride = stride; rows = rows }) x y × Parts s cols q ⌝ }
+    ensures { λ _. ⌜ now (out .exit) ≡ movedPart (record { samples = now (reference .entry); stride = stride; rows = rows }) x y v s cols q (now (out .entry)) ⌝ }
+{
+    let ux = lift(v.x);
+    let uy = lift(v.y);
+    part_clamped(out, reference, stride, rows, x, y, ux, uy, s, cols, q);
+}
+
+// The macroblock at (x, y), moved by a vector.
+pub fn mc_macroblock(
+    out: &mut [u8; 256],
+    reference: &[u8],
+    stride: usize,
+    rows: usize,
+    x: usize,
+    y: usize,
+    v: Svq1Mv,
+)
+    requires { ⌜ Placed (record { samples = now reference; stride = stride; rows = rows }) x y × (length (now out) ≡ 256) ⌝ }
+    ensures { λ _. ⌜ now (out .exit) ≡ movedBlock (record { samples = now (reference .entry); stride = stride; rows = rows }) 16 x y v ⌝ }
+{
+    mc_part(out, reference, stride, rows, x, y, v, 16, 1, 0);
+}
+
+// Its 8x8 quarter q, in raster order, moved by a vector; the other samples stay. Four of them make a macroblock of four vectors.
+pub fn mc_quarter(
+    out: &mut [u8; 256],
+    reference: &[u8],
+    stride: usize,
+    rows: usize,
+    x: usize,
+    y: usize,
+    v: Svq1Mv,
+    q: usize,
+)
+    requires { ⌜ Placed (record { samples = now reference; stride = stride; rows = rows }) x y × (q < 4) ⌝ }
+    ensures { λ _. ⌜ now (out .exit) ≡ movedPart (record { samples = now (reference .entry); stride = stride; rows = rows }) x y v 8 2 q (now (out .entry)) ⌝ }
+{
+    mc_part(out, reference, stride, rows, x, y, v, 8, 2, q);
+}
