@@ -13,6 +13,7 @@ pub mod Search
 pub mod Moved
 pub mod MovedLaws
 pub mod PartsLaws
+pub mod InsideLaws
 pub mod SumLaws
 pub mod Rows
 pub mod RowsLaws

@@ -5,7 +5,7 @@ use mathlib.Core.Path.{_≡_, refl, sym, ap, ap₂, _∙_}
 use mathlib.Core.List.{List, [], _∷_}
 use mathlib.Core.Bool.{Bool, true, false}
 use native.Mathlib.Omega.{arith}
-use native.Mathlib.Nat.{mul-le-mul, mul-le-mul-right, add-mul, one-mul, mul-comm, mul-zero, zero-add}
+use native.Mathlib.Nat.{mul-le-mul, mul-le-mul-right, add-mul, one-mul, mul-comm, mul-zero, mul-pos, zero-add}
 use native.Mathlib.Decide.{decLe, decLt, ℕ-discrete}
 use lib.Dec.{ltb, eqb}
 use lib.IntN.{ℤ, pos, negsuc, subℕ, _+ℤ_}
@@ -111,6 +111,9 @@ module _ (s cols q : ℕ) (p : Parts s cols q) where
       let xs : List ℕ = valuesFrom (λ (k : ℕ). k) 256 0 in
       let e : length xs ≡ 256 = length-list (λ (k : ℕ). k) 256 0 in
       rw e at (entry-steps s cols side-some cols-some q j xs (holds-part xs e) l)
+
+  pub part-corner : (q / cols * s < 256) × (q % cols * s < 256)
+  part-corner = let t = part-steps 0 (mul-pos side-some side-some) in (omega (arith, t .row), omega (arith, t .col))
 
   pub square-most : s * s ≤ 256
   square-most = mul-le-mul (p .sides .most) (p .sides .most)
