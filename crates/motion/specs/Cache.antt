@@ -1,5 +1,5 @@
 -- The vector slices as the functions over them take and leave them (document 01, `svq1_mv_cache.rs`, refusal 20).
-use Prim.Native.Nat.{ℕ, suc, _+_, _*_, _≤_, _<_}
+use Prim.Native.Nat.{ℕ, suc, _*_, _≤_, _<_}
 use mathlib.Core.Path.{_≡_}
 use mathlib.Core.List.{List, map}
 use lib.ListN.{length}

@@ -1,19 +1,18 @@
 -- Laws of the vector slices for the code: a neighbour by the tests that it makes, and a component's byte.
 -- Assumes nothing.
 use Prim.Native.Nat.{ℕ, suc, _+_, _-_, _*_, _/_, _%_, _≤_, _<_}
-use mathlib.Core.Path.{_≡_, refl, sym, ap, ap₂, _∙_}
-use mathlib.Core.Bool.{Bool, true, false, true≢false}
+use mathlib.Core.Path.{_≡_, refl, sym, ap}
+use mathlib.Core.Bool.{true, false, true≢false}
 use mathlib.Core.List.{List}
 use native.Mathlib.Omega.{arith}
 use native.Mathlib.Nat.{mul-comm, mod-lt, div-lt-iff-lt-mul}
-use lib.ListN.{length, getD}
+use lib.ListN.{length}
 use lib.IntN.{ℤ, pos, negsuc, subℕ, _+ℤ_, _-ℤ_}
 use lib.Signed.{ltZ, mag}
 use lib.Arith.{digits-lt}
 use borrow.Author.Tests.{lt-ltb, le-ltb, ltb-true}
 use Rattle.bits.specs.Basics.{signedOf}
 use Rattle.book.specs.House.{signedByte}
-use Rattle.motion.specs.declared.svq1_motion_predictor.Neighbour.{Neighbour}
 use Rattle.motion.specs.declared.svq1_motion_predictor.Neighbour.the-variants.{Absent, Present}
 use Rattle.motion.specs.VectorsLaws.{InRange, range-pos, range-neg}
 use Rattle.motion.specs.Neighbours.{storedAt, neighbourAt}
@@ -21,7 +20,7 @@ use Rattle.motion.specs.Search.{largestSide, blocksAlong}
 use Rattle.motion.specs.Cache.{Slices, Room}
 use Rattle.motion.specs.Grid.{owner}
 use Rattle.motion.specs.GridLaws.{in-owner}
-use Rattle.motion.specs.RaisedLaws.{sub-pos, pos-is}
+use Rattle.motion.specs.RaisedLaws.{pos-is}
 
 module _ (cols rows : ℕ) (vx vy : List ℕ) where
   pub absent-above : (row up : ℕ) (col : ℤ) → row < up → Absent ≡ neighbourAt cols rows vx vy (subℕ row up) col

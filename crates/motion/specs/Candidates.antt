@@ -1,7 +1,7 @@
 -- The search as the code holds it: vectors raised to unsigned numbers, a block inside its canvas, the best so far, and the clipped ranges. What they amount to is in `CandidatesLaws` and `ScanLaws`.
-use Prim.Native.Nat.{ℕ, _+_, _-_, _*_, _/_, _%_, _<_, _≤_, min}
+use Prim.Native.Nat.{ℕ, _+_, _-_, _*_, _/_, _<_, _≤_, min}
 use mathlib.Core.Path.{_≡_}
-use mathlib.Core.Bool.{Bool, true, false, _&&_}
+use mathlib.Core.Bool.{Bool, false, _&&_}
 use mathlib.Core.List.{List}
 use lib.Dec.{leb, ltb}
 use lib.IntN.{ℤ, subℕ}

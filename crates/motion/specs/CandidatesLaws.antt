@@ -21,7 +21,7 @@ use Rattle.motion.specs.declared.inner.search.Candidate.{Candidate}
 use Rattle.motion.specs.Vectors.{inRange, codable}
 use Rattle.motion.specs.Compensation.{Canvas, halfSample, movedSample, movedBlock}
 use Rattle.motion.specs.Search.{Search, inWindow, allowed, errorOf, Best, nothing, best, lowers, consider, fullAt, centre}
-use Rattle.motion.specs.Rows.{cell, rowAt, early, Sides, ReadIn, Summed}
+use Rattle.motion.specs.Rows.{cell, rowAt, early, ReadIn}
 use Rattle.motion.specs.RowsLaws.{half-in}
 use Rattle.motion.specs.SumLaws.{sum-same, sum-rows, sad-sum}
 use Rattle.motion.specs.EarlyLaws.{Judged, early-same, early-judged}

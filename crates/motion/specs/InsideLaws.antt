@@ -3,13 +3,13 @@
 use Prim.Native.Nat.{ℕ, zero, suc, _+_, _-_, _*_, _/_, _%_, _<_, _≤_}
 use mathlib.Core.Path.{_≡_, refl, sym, ap, ap₂, _∙_}
 use mathlib.Core.List.{List}
-use mathlib.Core.Bool.{Bool, true, false, _&&_}
+use mathlib.Core.Bool.{true}
 use native.Mathlib.Omega.{arith}
-use native.Mathlib.Nat.{mul-comm, mod-lt, div-lt-iff-lt-mul, add-zero, div-add-mod', zero-add, add-mul, one-mul}
+use native.Mathlib.Nat.{mul-comm, mod-lt, div-lt-iff-lt-mul, add-zero, zero-add, add-mul, one-mul}
 use native.Mathlib.Numerals.{add-one}
 use lib.Arith.{digits-lt, digits-div, digits-mod}
-use lib.Dec.{leb, eqb}
-use lib.IntN.{ℤ, pos, subℕ, _+ℤ_}
+use lib.Dec.{leb}
+use lib.IntN.{ℤ, pos, _+ℤ_}
 use lib.ListN.{length, getD, set}
 use lib.Seq.{ext-getD}
 use borrow.Author.Tests.{leb-true, eq-eqb, ne-eqb}
@@ -21,7 +21,7 @@ use Rattle.motion.specs.PutLaws.{putTo, put-all}
 use Rattle.motion.specs.Rows.{cell}
 use Rattle.motion.specs.RowsLaws.{half-in, row-fits}
 use Rattle.motion.specs.RaisedLaws.{pos-sub, sub-pos}
-use Rattle.motion.specs.Moved.{movedPart, Parts, Placed, down, downMv, rowSet, InCanvas, cellPart, insideUp}
+use Rattle.motion.specs.Moved.{movedPart, Parts, down, downMv, rowSet, InCanvas, cellPart, insideUp}
 use Rattle.motion.specs.MovedLaws.{side-some, cols-some, part-steps}
 
 -- ---- a row set, one sample after the other

@@ -1,28 +1,25 @@
 -- Laws of compensation as the code does it: clamped reads over raised numbers, and a macroblock made of its parts.
 -- Assumes nothing.
 use Prim.Native.Nat.{ℕ, zero, suc, _+_, _-_, _*_, _/_, _%_, _<_, _≤_}
-use mathlib.Core.Path.{_≡_, refl, sym, ap, ap₂, _∙_}
-use mathlib.Core.List.{List, [], _∷_}
-use mathlib.Core.Bool.{Bool, true, false}
+use mathlib.Core.Path.{_≡_, sym, ap, ap₂, _∙_}
+use mathlib.Core.List.{List}
 use native.Mathlib.Omega.{arith}
 use native.Mathlib.Nat.{mul-le-mul, mul-le-mul-right, add-mul, one-mul, mul-comm, mul-zero, mul-pos, zero-add}
-use native.Mathlib.Decide.{decLe, decLt, ℕ-discrete}
-use lib.Dec.{ltb, eqb}
-use lib.IntN.{ℤ, pos, negsuc, subℕ, _+ℤ_}
+use native.Mathlib.Decide.{decLe, ℕ-discrete}
+use lib.Dec.{eqb}
+use lib.IntN.{ℤ, pos, negsuc, _+ℤ_}
 use lib.Signed.{mag}
 use lib.ListN.{length, getD}
-use lib.Seq.{ext-getD}
 use borrow.Author.Tests.{lt-ltb, le-ltb, eq-eqb, ne-eqb}
 use Rattle.bits.specs.Basics.{pick, valuesFrom}
 use Rattle.bits.specs.BasicsLaws.{length-list, list-at}
 use Rattle.motion.specs.declared.svq1_motion_predictor.Svq1Mv.{Svq1Mv}
-use Rattle.motion.specs.Vectors.{zeroMv}
-use Rattle.motion.specs.Compensation.{Canvas, even, clampTo, sampleAt, mean2, mean4, halfSample, movedSample, movedBlock}
-use Rattle.motion.specs.Grid.{owner, placeIn, entryOf, putPart}
-use Rattle.motion.specs.GridLaws.{Holds, length-put, put-own, put-other, in-owner}
-use Rattle.motion.specs.PutLaws.{putTo, put-all, Steps, entry-steps, entry-back, place-lt}
-use Rattle.motion.specs.RaisedLaws.{sub-eq, pos-sub, sub-half, sub-one, sub-pos}
-use Rattle.motion.specs.Moved.{movedPart, Parts, Placed, down, downHalf, downMv, Lifted}
+use Rattle.motion.specs.Compensation.{Canvas, even, clampTo, sampleAt, mean2, mean4, halfSample, movedSample}
+use Rattle.motion.specs.Grid.{entryOf}
+use Rattle.motion.specs.GridLaws.{Holds, in-owner}
+use Rattle.motion.specs.PutLaws.{putTo, put-all, Steps, entry-steps}
+use Rattle.motion.specs.RaisedLaws.{pos-sub, sub-half, sub-one}
+use Rattle.motion.specs.Moved.{movedPart, Parts, down, downHalf, downMv, Lifted}
 
 -- ---- clamped reads
 pub clamp-low : (n size : ℕ) → n < 2147483648 → 0 ≡ clampTo size (downHalf n)

@@ -1,7 +1,6 @@
 -- Rows of a block as the code reads them where every read lies in the canvas, and a sum that ends early. What they amount to is in `RowsLaws`.
 use Prim.Native.Nat.{ℕ, zero, suc, _+_, _*_, _%_, _≤_, _<_}
 use mathlib.Core.Path.{_≡_}
-use mathlib.Core.Bool.{Bool, true, false}
 use mathlib.Core.List.{List}
 use lib.Dec.{eqb, leb}
 use lib.ListN.{length, getD}

@@ -14,8 +14,7 @@ use Rattle.motion.specs.declared.svq1_motion_predictor.Svq1Mv.{Svq1Mv}
 use Rattle.motion.specs.declared.inner.search.Spot.{Spot}
 use Rattle.motion.specs.declared.inner.search.Candidate.{Candidate}
 use Rattle.motion.specs.declared.inner.search.Span.{Span}
-use Rattle.motion.specs.Vectors.{zeroMv}
-use Rattle.motion.specs.Search.{Search, Best, nothing, consider, rowTo, rowsTo, fullAt, fullSearch, centre, aroundTo, searchBest}
+use Rattle.motion.specs.Search.{Search, Best, nothing, consider, rowTo, rowsTo, fullAt, fullSearch, aroundTo, searchBest}
 use Rattle.motion.specs.Candidates.{lowered, loweredMv, spotSearch, codableUp, shown, Held, fullUp, Spans, Clipped, refined}
 use Rattle.motion.specs.CandidatesLaws.{full-is, near-is, not-x, not-y, centre-is}
 

@@ -1,28 +1,25 @@
 -- Laws of the search as a call: its refusals in order, what a call that is not refused has, and its answer.
 -- Assumes nothing.
-use Prim.Native.Nat.{ℕ, suc, _+_, _-_, _*_, _/_, _%_, _<_, _≤_}
-use mathlib.Core.Path.{_≡_, refl, sym, ap, ap₂, _∙_}
-use mathlib.Core.List.{List}
+use Prim.Native.Nat.{ℕ, suc, _+_, _-_, _*_, _%_, _<_, _≤_}
+use mathlib.Core.Path.{_≡_, refl, sym, ap, _∙_}
 use mathlib.Core.Bool.{Bool, true, false, _&&_, _||_}
-use mathlib.Core.Option.{Option, none, some}
+use mathlib.Core.Option.{some}
 use native.Mathlib.Omega.{arith}
 use lib.Dec.{leb, ltb, eqb}
-use lib.IntN.{ℤ, pos, negsuc, subℕ, _+ℤ_}
+use lib.IntN.{ℤ, pos, negsuc, _+ℤ_}
 use lib.ListN.{length}
 use borrow.Author.Tests.{lt-ltb, le-ltb, leb-true, ltb-true, eqb-true, eq-eqb, ne-eqb}
-use Rattle.bits.specs.Basics.{pick, orElse, unless}
+use Rattle.bits.specs.Basics.{orElse, unless}
 use Rattle.bits.specs.BasicsLaws.{both-true, or-first, or-next, or-none, unless-none}
-use Rattle.bits.specs.Calls.{Answer, done, refused, unlessRefused}
-use Rattle.motion.specs.declared.svq1_motion_predictor.Svq1Mv.{Svq1Mv}
-use Rattle.motion.specs.declared.svq1_enc_inter.Searched.{Searched}
+use Rattle.bits.specs.Calls.{refused}
 use Rattle.motion.specs.declared.inner.search.Spot.{Spot}
 use Rattle.motion.specs.Vectors.{inRange}
 use Rattle.motion.specs.VectorsLaws.{InRange, range-pos, range-neg}
 use Rattle.motion.specs.Compensation.{Canvas}
 use Rattle.motion.specs.Search.{Search, largestSide, padded16, sideOk, sizeRefusal, canvasRefusal, searchOk, searchRefusal, searchBest, vectorOf, searched, foundAnswer, searchAnswer}
 use Rattle.motion.specs.Rows.{Sides}
-use Rattle.motion.specs.Candidates.{lowered, loweredMv, spotSearch, Ready}
-use Rattle.motion.specs.SearchCall.{searchedAnswer, eitherSide, blockOk, Raised}
+use Rattle.motion.specs.Candidates.{spotSearch, Ready}
+use Rattle.motion.specs.SearchCall.{eitherSide, blockOk, Raised}
 
 -- ---- components
 -- raised by 1024

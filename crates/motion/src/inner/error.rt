@@ -3,7 +3,6 @@ ghost use Prim.Native.Nat.{_+_, _*_, _<_, _≤_};
 ghost use lib.ListN.{length, getD};
 ghost use Rattle.bits.specs.Basics.{sum};
 ghost use Rattle.bits.specs.Basics.{gap as gapOf};
-ghost use Rattle.motion.specs.Compensation.{Canvas};
 ghost use Rattle.motion.specs.Compensation.{mean2 as meanOf2};
 ghost use Rattle.motion.specs.Compensation.{mean4 as meanOf4};
 ghost use Rattle.motion.specs.Rows.{Sides, againstTwo, againstFour, cells, ReadIn, Summed};

@@ -1,7 +1,5 @@
 ghost use mathlib.Core.Path.{_≡_};
-ghost use Prim.Native.Nat.{ℕ, _+_, _-_, _*_, _/_, _%_, _<_, _≤_, min};
-ghost use lib.IntN.{pos};
-ghost use Rattle.motion.specs.declared.svq1_motion_predictor.Svq1Mv.{Svq1Mv};
+ghost use Prim.Native.Nat.{_+_, _-_, _*_, _/_, _%_, _<_, _≤_, min};
 ghost use Rattle.motion.specs.Search.{consider, rowTo, rowsTo, searchBest};
 ghost use Rattle.motion.specs.Candidates.{raisedEnd, spotSearch, Ready, lowered, loweredMv, axisUp, shown, Held, Spans, Clipped, refined};
 use super::error::block_error;

@@ -1,13 +1,8 @@
-use mathlib.Core.Path.{_≡_, refl, sym, _∙_, ap}
-use mathlib.Core.Bool.{true, false, _&&_}
-use Prim.Native.Nat.{ℕ, _+_, _-_, _*_, _≤_, _<_}
-use native.Mathlib.Omega.{arith}
-use borrow.Author.Tests.{lt-ltb, le-ltb, le-leb, lt-leb, eq-eqb, ne-eqb, not-true, not-false}
+use mathlib.Core.Path.{sym, _∙_}
+use Prim.Native.Nat.{_-_}
+use borrow.Author.Tests.{not-true, not-false}
 use mir.ValLaws.{toZ-ofZ}
-use mir.Val.{SFits, toZ, ofZ}
 use mir.Syntax.{w32}
-use lib.IntN.{ℤ, pos, negsuc, _+ℤ_, _-ℤ_}
-use lib.Signed.{leZ}
 use borrow.Author.Needs.{needs}
 use Rattle.motion.proofs.svq1_enc_inter.vector_ok.Statement.{statement}
 use Rattle.motion.proofs.svq1_enc_inter.vector_ok.Tie as tie

@@ -1,9 +1,6 @@
-use mathlib.Core.Path.{_≡_, sym, _∙_}
-use mathlib.Core.Bool.{true, false}
 use Prim.Native.Nat.{_<_}
 use native.Mathlib.Omega.{arith}
-use lib.IntN.{pos, negsuc}
-use lib.Signed.{ltZ, mag}
+use lib.Signed.{mag}
 use mir.ValLaws.{toZ-ofZ}
 use mir.Syntax.{w32, w64}
 use mir.Val.{SFits}

@@ -1,9 +1,8 @@
-use mathlib.Core.Path.{_≡_, ap₂, _∙_}
+use mathlib.Core.Path.{ap₂}
 use borrow.Author.Needs.{needs}
 use lib.IntN.{ℤ}
 use mir.ValLaws.{toZ-ofZ}
 use mir.Syntax.{w32}
-use Rattle.motion.specs.declared.svq1_motion_predictor.Svq1Mv.{Svq1Mv}
 use Rattle.motion.proofs.svq1_motion_predictor.final_motion_vector.Statement.{statement}
 use Rattle.motion.proofs.svq1_motion_predictor.final_motion_vector.Tie as tie
 

@@ -1,17 +1,10 @@
 use mir.ValLaws.{toZ-ofZ}
 use mir.Syntax.{w32}
-use mathlib.Core.Path.{_≡_, sym, ap, _∙_}
-use mathlib.Core.Bool.{true, false}
-use lib.Signed.{ltZ}
-use lib.IntN.{pos, negsuc}
+use mathlib.Core.Path.{_∙_}
 use Rattle.motion.specs.Vectors.{median}
 use borrow.Author.Needs.{needs}
 use Rattle.motion.proofs.svq1_motion_predictor.median3.Statement.{statement}
 use Rattle.motion.proofs.svq1_motion_predictor.median3.Tie as tie
-use Rattle.motion.proofs.svq1_motion_predictor.median3.Reads as reads
-use Rattle.motion.proofs.svq1_motion_predictor.median3.Lts as lts
-use Rattle.motion.proofs.svq1_motion_predictor.lesser.Reads as lesser-reads
-use Rattle.motion.proofs.svq1_motion_predictor.greater.Reads as greater-reads
 
 lesser-requires : tie.Need-lesser-requires
 lesser-requires c κs = search needs

@@ -1,16 +1,8 @@
 use mir.ValLaws.{toZ-ofZ}
 use mir.Syntax.{w32}
-use mathlib.Core.Path.{_≡_, sym, ap, _∙_}
-use mathlib.Core.Bool.{true, false}
-use lib.Signed.{ltZ}
-use lib.IntN.{pos, negsuc}
-use Rattle.motion.specs.Vectors.{medianMv}
 use borrow.Author.Needs.{needs}
 use Rattle.motion.proofs.svq1_motion_predictor.median_vector.Statement.{statement}
 use Rattle.motion.proofs.svq1_motion_predictor.median_vector.Tie as tie
-use Rattle.motion.proofs.svq1_motion_predictor.median_vector.Reads as reads
-use Rattle.motion.proofs.svq1_motion_predictor.median_vector.Lts as lts
-use Rattle.motion.proofs.svq1_motion_predictor.median3.Reads as median3-reads
 
 median3-requires : tie.Need-median3-requires
 median3-requires c κs = search needs

@@ -1,16 +1,8 @@
-use mir.ValLaws.{toZ-ofZ}
-use mir.Syntax.{w32}
-use mathlib.Core.Path.{_≡_, sym, ap, _∙_}
-use mathlib.Core.Bool.{true, false}
-use lib.Signed.{ltZ}
-use lib.IntN.{pos, negsuc}
-use Rattle.motion.specs.Vectors.{medianMv, predicted, zeroMv}
+use mathlib.Core.Path.{sym, _∙_}
+use Rattle.motion.specs.Vectors.{predicted}
 use borrow.Author.Needs.{needs}
 use Rattle.motion.proofs.svq1_motion_predictor.predict.Statement.{statement}
 use Rattle.motion.proofs.svq1_motion_predictor.predict.Tie as tie
-use Rattle.motion.proofs.svq1_motion_predictor.predict.Reads as reads
-use Rattle.motion.proofs.svq1_motion_predictor.predict.Lts as lts
-use Rattle.motion.proofs.svq1_motion_predictor.median_vector.Reads as median-vector-reads
 
 enum-known-left : tie.Need-enum-known-left
 enum-known-left c = search needs

@@ -1,5 +1,4 @@
-use mathlib.Core.Path.{_≡_, refl, _∙_, ap}
-use Prim.Native.Nat.{ℕ, _+_, _-_, _*_, _≤_, _<_}
+use Prim.Native.Nat.{_-_}
 use native.Mathlib.Omega.{arith}
 use Rattle.motion.specs.Compensation.{Canvas}
 use Rattle.motion.specs.RowsLaws.{read-full, summed-full}

@@ -1,7 +1,5 @@
-use mathlib.Core.Path.{_≡_, refl, _∙_, ap}
-use Prim.Native.Nat.{ℕ, _+_, _*_, _≤_, _<_}
+use mathlib.Core.Path.{_≡_}
 use native.Mathlib.Omega.{arith}
-use borrow.Author.Needs.{needs}
 use Rattle.motion.proofs.inner.error.gaps_two.Statement.{statement}
 use Rattle.motion.proofs.inner.error.gaps_two.Tie as tie
 

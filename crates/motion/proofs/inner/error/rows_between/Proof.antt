@@ -1,6 +1,6 @@
 use Rattle.motion.specs.Compensation.{Canvas}
-use mathlib.Core.Path.{_≡_, refl, _∙_, ap}
-use Prim.Native.Nat.{ℕ, _+_, _-_, _*_, _≤_, _<_}
+use mathlib.Core.Path.{_≡_}
+use Prim.Native.Nat.{_-_, _*_, _≤_}
 use Rattle.motion.specs.Rows.{rowAt, early}
 use Rattle.motion.specs.RowsLaws.{row-in}
 use Rattle.motion.specs.EarlyLaws.{begin, turn, stop, end}

@@ -1,8 +1,8 @@
-use mathlib.Core.Path.{_≡_, refl, _∙_, ap}
-use Prim.Native.Nat.{ℕ, _+_, _-_, _*_, _/_, _≤_, _<_}
-use lib.ListN.{length, getD}
+use mathlib.Core.Path.{_≡_, refl, _∙_}
+use Prim.Native.Nat.{_-_, _*_, _≤_}
+use lib.ListN.{getD}
 use Rattle.bits.specs.Basics.{sum, gap}
-use Rattle.motion.specs.Compensation.{mean2, mean4}
+use Rattle.motion.specs.Compensation.{mean4}
 use Rattle.motion.specs.SumLaws.{sum-more}
 use native.Mathlib.Omega.{arith}
 use borrow.Author.Needs.{needs}

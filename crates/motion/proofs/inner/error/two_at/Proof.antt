@@ -1,7 +1,5 @@
-use Rattle.motion.specs.Compensation.{Canvas}
-use mathlib.Core.Path.{_≡_, refl, _∙_, ap}
-use Prim.Native.Nat.{ℕ, _+_, _-_, _*_, _≤_, _<_}
-use native.Mathlib.Omega.{arith}
+use mathlib.Core.Path.{_∙_}
+use Prim.Native.Nat.{_-_}
 use Rattle.motion.specs.RowsLaws.{parts-two}
 use borrow.Author.Needs.{needs}
 use Rattle.motion.proofs.inner.error.two_at.Statement.{statement}

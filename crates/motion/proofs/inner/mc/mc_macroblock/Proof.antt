@@ -1,8 +1,6 @@
-use mathlib.Core.Path.{_≡_, refl, sym, _∙_, ap}
-use Prim.Native.Nat.{ℕ, _+_, _-_, _*_, _/_, _%_, _≤_, _<_}
-use native.Mathlib.Omega.{arith}
+use mathlib.Core.Path.{_∙_}
+use Prim.Native.Nat.{_-_}
 use Rattle.motion.specs.Compensation.{Canvas}
-use lib.ListN.{length}
 use Rattle.motion.specs.PartsLaws.{whole-moved}
 use borrow.Author.Needs.{needs}
 use Rattle.motion.proofs.inner.mc.mc_macroblock.Statement.{statement}

@@ -1,7 +1,7 @@
-use mathlib.Core.Path.{_≡_, refl, sym, _∙_, ap}
-use Prim.Native.Nat.{ℕ, _+_, _-_, _*_, _/_, _%_, _≤_, _<_}
+use mathlib.Core.Path.{_≡_}
+use Prim.Native.Nat.{_+_, _-_, _≤_}
 use lib.ListN.{getD}
-use Rattle.motion.specs.Compensation.{mean2, mean4}
+use Rattle.motion.specs.Compensation.{mean2}
 use Rattle.motion.specs.Moved.{rowSet}
 use Rattle.motion.specs.InsideLaws.{row-none, row-more}
 use native.Mathlib.Omega.{arith}

@@ -1,12 +1,11 @@
-use mathlib.Core.Path.{_≡_, refl, sym, _∙_, ap}
-use Prim.Native.Nat.{ℕ, _+_, _-_, _*_, _/_, _%_, _≤_, _<_}
+use mathlib.Core.Path.{_≡_, _∙_, ap}
+use Prim.Native.Nat.{ℕ, _-_, _*_, _≤_}
 use Rattle.motion.specs.Compensation.{Canvas}
 use Rattle.motion.specs.Grid.{entryOf}
 use Rattle.motion.specs.PutLaws.{putTo, put-none, put-more}
 use Rattle.motion.specs.Moved.{downMv}
 use Rattle.motion.specs.MovedLaws.{moved-is, part-steps, square-most, side-some, cols-some, partValues, value-at, part-done}
 use native.Mathlib.Omega.{arith}
-use borrow.Author.Needs.{needs}
 use Rattle.motion.proofs.inner.mc.part_clamped.Statement.{statement}
 use Rattle.motion.proofs.inner.mc.part_clamped.Tie as tie
 

@@ -1,12 +1,11 @@
-use mathlib.Core.Path.{_≡_, sym, ap, _∙_}
-use Prim.Native.Nat.{_<_}
+use mathlib.Core.Path.{ap}
 use native.Mathlib.Omega.{arith}
-use lib.IntN.{ℤ, pos, natAbs, _+ℤ_}
+use lib.IntN.{pos, natAbs}
 use mir.ValLaws.{toZ-ofZ}
 use mir.Syntax.{w32}
 use mir.Val.{SFits}
 use Rattle.book.specs.House.{signedByte}
-use Rattle.motion.specs.CacheLaws.{Byte, byte-low, byte-high}
+use Rattle.motion.specs.CacheLaws.{byte-low, byte-high}
 use Rattle.motion.proofs.inner.mv_cache.byte_of.Statement.{statement}
 use Rattle.motion.proofs.inner.mv_cache.byte_of.Tie as tie
 

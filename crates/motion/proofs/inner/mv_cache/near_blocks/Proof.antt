@@ -1,13 +1,10 @@
-use mathlib.Core.Path.{_≡_, _∙_}
+use mathlib.Core.Path.{_∙_}
 use native.Mathlib.Omega.{arith}
 use Rattle.motion.specs.Neighbours.{nearOf}
 use Rattle.motion.specs.CacheLaws.{first-small, same-row, same-col}
 use borrow.Author.Needs.{needs}
 use Rattle.motion.proofs.inner.mv_cache.near_blocks.Statement.{statement}
 use Rattle.motion.proofs.inner.mv_cache.near_blocks.Tie as tie
-use Rattle.motion.proofs.inner.mv_cache.near_blocks.Reads as reads
-use Rattle.motion.proofs.inner.mv_cache.near_blocks.Lts as lts
-use Rattle.motion.proofs.inner.mv_cache.neighbour_at.Reads as neighbour-at-reads
 
 div-r : tie.Need-div-r
 div-r c = search needs

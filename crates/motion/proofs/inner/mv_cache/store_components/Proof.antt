@@ -1,13 +1,9 @@
-use mathlib.Core.Path.{_≡_, _∙_}
+use mathlib.Core.Path.{_∙_}
 use mir.ValLaws.{toZ-ofZ}
 use mir.Syntax.{w32}
 use borrow.Author.Needs.{needs}
 use Rattle.motion.proofs.inner.mv_cache.store_components.Statement.{statement}
 use Rattle.motion.proofs.inner.mv_cache.store_components.Tie as tie
-use Rattle.motion.proofs.inner.mv_cache.store_components.Reads as reads
-use Rattle.motion.proofs.inner.mv_cache.store_components.Lts as lts
-use Rattle.motion.proofs.inner.mv_cache.byte_of.Reads as byte-of-reads
-use Rattle.motion.proofs.inner.mv_cache.store_bytes.Reads as store-bytes-reads
 
 byte-of-requires : tie.Need-byte-of-requires
 byte-of-requires c κs = search needs

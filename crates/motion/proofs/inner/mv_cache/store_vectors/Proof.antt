@@ -1,13 +1,9 @@
-use mathlib.Core.Path.{_≡_, _∙_}
 use mir.ValLaws.{toZ-ofZ}
 use mir.Syntax.{w32}
 use Rattle.motion.specs.CacheLaws.{room-x, room-y}
 use borrow.Author.Needs.{needs}
 use Rattle.motion.proofs.inner.mv_cache.store_vectors.Statement.{statement}
 use Rattle.motion.proofs.inner.mv_cache.store_vectors.Tie as tie
-use Rattle.motion.proofs.inner.mv_cache.store_vectors.Reads as reads
-use Rattle.motion.proofs.inner.mv_cache.store_vectors.Lts as lts
-use Rattle.motion.proofs.inner.mv_cache.store_components.Reads as store-components-reads
 
 store-components-requires : tie.Need-store-components-requires
 store-components-requires c κs =

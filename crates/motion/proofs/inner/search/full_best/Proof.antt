@@ -1,5 +1,5 @@
-use mathlib.Core.Path.{_≡_, refl, sym, _∙_, ap}
-use Prim.Native.Nat.{ℕ, _+_, _-_, _*_, _/_, _%_, _≤_, _<_}
+use mathlib.Core.Path.{_≡_, _∙_}
+use Prim.Native.Nat.{_-_, _≤_}
 use Rattle.motion.specs.Search.{rowsTo}
 use Rattle.motion.specs.Candidates.{spotSearch, shown, Held}
 use Rattle.motion.specs.ScanLaws.{rows-more, rows-start, rows-end}

@@ -1,6 +1,4 @@
-use mathlib.Core.Path.{_≡_, refl, sym, _∙_, ap}
-use Prim.Native.Nat.{ℕ, _+_, _-_, _*_, _/_, _%_, _≤_, _<_}
-use native.Mathlib.Omega.{arith}
+use Prim.Native.Nat.{_-_}
 use Rattle.motion.specs.Candidates.{spotSearch, shown}
 use Rattle.motion.specs.ScanLaws.{whole}
 use borrow.Author.Needs.{needs}
