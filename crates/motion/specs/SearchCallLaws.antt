@@ -8,7 +8,7 @@ use native.Mathlib.Omega.{arith}
 use lib.Dec.{leb, ltb, eqb}
 use lib.IntN.{ℤ, pos, negsuc, _+ℤ_}
 use lib.ListN.{length}
-use borrow.Author.Tests.{lt-ltb, le-ltb, leb-true, ltb-true, eqb-true, eq-eqb, ne-eqb}
+use borrow.Author.Tests.{lt-ltb, le-ltb, le-leb, leb-true, ltb-true, eqb-true, eq-eqb, ne-eqb}
 use Rattle.bits.specs.Basics.{orElse, unless}
 use Rattle.bits.specs.BasicsLaws.{both-true, or-first, or-next, or-none, unless-none}
 use Rattle.bits.specs.Calls.{refused}
@@ -231,3 +231,34 @@ answer-refused g n e h = rw e (simp (ne-eqb (searchRefusal g) 0 (λ q. h (e ∙ 
 pub answer-found : (g : Search) → searchRefusal g ≡ 0 → foundAnswer (vectorOf (searchBest g)) ≡ searchAnswer g
 unfolding searchAnswer searched
 answer-found g e = simp (eq-eqb (searchRefusal g) 0 e)
+
+-- ---- for callers that know their search to pass
+fits-plane : (w h : ℕ) (c : Canvas) → Fitting w h c → orElse (sizeRefusal w h) (canvasRefusal w h c) ≡ 0
+fits-plane w h c f =
+    simp (
+      le-leb 1 w (f .width .some),
+      le-leb w largestSide (f .width .most),
+      le-leb 1 h (f .height .some),
+      le-leb h largestSide (f .height .most),
+      eq-eqb (c .stride) (padded16 w) (f .stride),
+      eq-eqb (c .rows) (padded16 h) (f .rows),
+      eq-eqb (length (c .samples)) (c .stride * c .rows) (f .samples),
+    )
+
+pub not-refused : (g : Search) → Passes g → searchRefusal g ≡ 0
+not-refused g s =
+    let b : block g ≡ true =
+    simp (
+      s .side,
+      eq-eqb (g .x % g .side) 0 (s .x-grid),
+      eq-eqb (g .y % g .side) 0 (s .y-grid),
+      lt-ltb (g .x) (g .reference .stride) (s .x-in),
+      lt-ltb (g .y) (g .reference .rows) (s .y-in),
+      eq-eqb (length (g .target)) (g .side * g .side) (s .target),
+    ) in
+    let v : vector g ≡ true = simp (s .px, s .py) in
+    sym (by-none g (fits-plane (g .width) (g .height) (g .reference) (s .fits)) b v)
+
+pub answer-searched : (g : Search) → Passes g → searchAnswer g ≡ foundAnswer (searched g)
+unfolding searchAnswer
+answer-searched g s = simp (eq-eqb (searchRefusal g) 0 (not-refused g s))
