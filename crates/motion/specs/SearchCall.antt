@@ -1,0 +1,30 @@
+-- The search as a call: what its answer stands for, and its tests as the code makes them (document 01, refusals 1, 3, 4, 9 and 23).
+use Prim.Native.Nat.{ℕ, _*_, _%_, _≤_}
+use mathlib.Core.Path.{_≡_}
+use mathlib.Core.Bool.{Bool, _&&_, _||_}
+use lib.Dec.{eqb, ltb}
+use lib.IntN.{ℤ}
+use Rattle.bits.specs.Calls.{Answer, done, refused}
+use Rattle.motion.specs.declared.svq1_motion_predictor.Svq1Mv.{Svq1Mv}
+use Rattle.motion.specs.declared.svq1_enc_inter.Searched.{Searched}
+use Rattle.motion.specs.declared.svq1_enc_inter.Searched.the-variants.{Vector, Refused}
+use Rattle.motion.specs.Candidates.{lowered}
+
+-- the vector, or the number of the refusal
+abbrev pub searchedAnswer : Searched → Answer Svq1Mv
+searchedAnswer (Vector v) = done v
+searchedAnswer (Refused n) = refused n
+
+-- side 8 or 16
+abbrev pub eitherSide : ℕ → Bool
+eitherSide side = eqb side 8 || eqb side 16
+
+-- not refused by 9 for its side, its place or the length of its target
+abbrev pub blockOk : ℕ → ℕ → ℕ → ℕ → ℕ → ℕ → Bool
+blockOk len side x y stride rows = (eitherSide side && (eqb (x % side) 0 && eqb (y % side) 0)) && ((ltb x stride && ltb y rows) && eqb len (side * side))
+
+-- a component in -32..31, raised by 1024
+pub record Raised (z : ℤ) (u : ℕ) : Type 0 where
+  pub low : 992 ≤ u
+  pub high : u ≤ 1055
+  pub same : lowered u ≡ z

@@ -1,0 +1,228 @@
+ghost use mathlib.Core.Path.{_≡_};
+ghost use mathlib.Core.Bool.{_&&_};
+ghost use Prim.Native.Nat.{_<_, _≤_};
+ghost use Rattle.bits.specs.Basics.{orElse};
+ghost use Rattle.motion.specs.Vectors.{inRange};
+ghost use Rattle.motion.specs.VectorsLaws.{InRange};
+ghost use Rattle.motion.specs.Search.{largestSide, padded16, sideOk, sizeRefusal, canvasRefusal, vectorOf, foundAnswer, searchRefusal, searchAnswer};
+ghost use Rattle.motion.specs.Candidates.{lowered, shown, Held};
+ghost use Rattle.motion.specs.SearchCall.{searchedAnswer, eitherSide, blockOk, Raised};
+use super::inner::search::Candidate;
+use super::inner::search::Spot;
+use super::inner::search::search_best;
+use super::svq1_motion_predictor::Svq1Mv;
+
+// What a search answers: the vector, or the number of the refusal.
+pub enum Searched {
+    Vector(Svq1Mv),
+    Refused(u8),
+}
+
+fn side_ok(n: usize) -> bool
+    ensures { λ r. ⌜ r ≡ sideOk n ⌝ }
+{
+    if n < 1 {
+        return false;
+    }
+    n <= 1024
+}
+
+fn size_refusal(width: usize, height: usize) -> u8
+    ensures { λ r. ⌜ r ≡ sizeRefusal width height ⌝ }
+{
+    if !side_ok(width) {
+        return 1;
+    }
+    if !side_ok(height) {
+        return 1;
+    }
+    0
+}
+
+fn rounded_up(n: usize) -> usize
+    requires { ⌜ n ≤ largestSide ⌝ }
+    ensures { λ r. ⌜ (r ≡ padded16 n) × (r ≤ padded16 largestSide) ⌝ }
+{
+    16 * ((n + 15) / 16)
+}
+
+// Of a canvas for a size that passes.
+fn canvas_refusal(reference: &[u8], width: usize, height: usize, stride: usize, rows: usize) -> u8
+    requires { ⌜ (width ≤ largestSide) × (height ≤ largestSide) ⌝ }
+    ensures { λ r. ⌜ r ≡ canvasRefusal width height (record { samples = now (reference .entry); stride = stride; rows = rows }) ⌝ }
+{
+    if stride != rounded_up(width) {
+        return 3;
+    }
+    if rows != rounded_up(height) {
+        return 3;
+    }
+    if reference.len() != stride * rows {
+        return 4;
+    }
+    0
+}
+
+// The refusals 1, 3 and 4 of a plane and its canvas; 0 for none.
+pub fn plane_refusal(
+    reference: &[u8],
+    width: usize,
+    height: usize,
+    stride: usize,
+    rows: usize,
+) -> u8
+    ensures { λ r. ⌜ r ≡ orElse (sizeRefusal width height) (canvasRefusal width height (record { samples = now (reference .entry); stride = stride; rows = rows })) ⌝ }
+{
+    let n = size_refusal(width, height);
+    if n != 0 {
+        return n;
+    }
+    canvas_refusal(reference, width, height, stride, rows)
+}
+
+fn either_side(side: usize) -> bool
+    ensures { λ r. ⌜ r ≡ eitherSide side ⌝ }
+{
+    side == 8 || side == 16
+}
+
+fn block_ok(len: usize, side: usize, x: usize, y: usize, stride: usize, rows: usize) -> bool
+    ensures { λ r. ⌜ r ≡ blockOk len side x y stride rows ⌝ }
+{
+    if !either_side(side) {
+        return false;
+    }
+    if x % side != 0 {
+        return false;
+    }
+    if y % side != 0 {
+        return false;
+    }
+    if stride <= x {
+        return false;
+    }
+    if rows <= y {
+        return false;
+    }
+    len == side * side
+}
+
+fn in_range(z: i32) -> bool
+    ensures { λ r. ⌜ r ≡ inRange z ⌝ }
+{
+    -32 <= z && z <= 31
+}
+
+fn vector_ok(v: Svq1Mv) -> bool
+    ensures { λ r. ⌜ r ≡ (inRange (v .x) && inRange (v .y)) ⌝ }
+{
+    if !in_range(v.x) {
+        return false;
+    }
+    in_range(v.y)
+}
+
+fn search_refusal(
+    reference: &[u8],
+    width: usize,
+    height: usize,
+    stride: usize,
+    rows: usize,
+    target: &[u8],
+    side: usize,
+    x: usize,
+    y: usize,
+    predictor: Svq1Mv,
+    radius: u8,
+) -> u8
+    ensures { λ r. ⌜ r ≡ searchRefusal (record { reference = record { samples = now (reference .entry); stride = stride; rows = rows }; width = width; height = height; target = now (target .entry); side = side; x = x; y = y; predictor = predictor; radius = radius }) ⌝ }
+{
+    let n = plane_refusal(reference, width, height, stride, rows);
+    if n != 0 {
+        return n;
+    }
+    if !block_ok(target.len(), side, x, y, stride, rows) {
+        return 9;
+    }
+    if !vector_ok(predictor) {
+        return 9;
+    }
+    0
+}
+
+// A component raised by 1024, and back.
+fn raise(z: i32) -> usize
+    requires { ⌜ InRange z ⌝ }
+    ensures { λ r. ⌜ Raised z r ⌝ }
+{
+    (z + 1024) as usize
+}
+
+fn lower(u: usize) -> i32
+    requires { ⌜ (992 ≤ u) × (u ≤ 1055) ⌝ }
+    ensures { λ r. ⌜ r ≡ lowered u ⌝ }
+{
+    u as i32 - 1024
+}
+
+fn answered(b: Candidate) -> Searched
+    requires { ⌜ Held b ⌝ }
+    ensures { λ r. ⌜ searchedAnswer r ≡ foundAnswer (vectorOf (shown b)) ⌝ }
+{
+    if b.error < 65536 {
+        let x = lower(b.ux);
+        let y = lower(b.uy);
+        return Searched::Vector(Svq1Mv { x, y });
+    }
+    Searched::Refused(23)
+}
+
+// The motion search for the block of side x side samples at (x, y) of a plane of width x height visible samples.
+pub fn search_motion_vector(
+    reference: &[u8],
+    width: usize,
+    height: usize,
+    stride: usize,
+    rows: usize,
+    target: &[u8],
+    side: usize,
+    x: usize,
+    y: usize,
+    predictor: Svq1Mv,
+    radius: u8,
+) -> Searched
+    ensures { λ r. ⌜ searchedAnswer r ≡ searchAnswer (record { reference = record { samples = now (reference .entry); stride = stride; rows = rows }; width = width; height = height; target = now (target .entry); side = side; x = x; y = y; predictor = predictor; radius = radius }) ⌝ }
+{
+    let n = search_refusal(
+        reference,
+        width,
+        height,
+        stride,
+        rows,
+        target,
+        side,
+        x,
+        y,
+        predictor,
+        radius,
+    );
+    if n != 0 {
+        return Searched::Refused(n);
+    }
+    let px = raise(predictor.x);
+    let py = raise(predictor.y);
+    let p = Spot {
+        x,
+        y,
+        width,
+        height,
+        stride,
+        rows,
+        side,
+        px,
+        py,
+        radius: radius as usize,
+    };
+    let b = search_best(target, reference, p);
+    answered(b)
+}
