@@ -17,3 +17,5 @@ pub mod PlanClaimLaws
 pub mod Walk
 pub mod WalkLaws
 pub mod WalkReadLaws
+pub mod Rebuild
+pub mod RebuildLaws

@@ -48,9 +48,11 @@ pub leaf-here : (book : List ℕ) (half : Svq1Half) (d : ℕ) (stage mean s : Li
     → LeafRead (bitsOf s) (readLeaf (lentTables half stage mean) d (drop at (bitsOf s))) g
     → LeafHere (tablesOf book half) d s at (record { refused = g .refused; next = g .next; block = record { node = node.Leaf (g .code); stages = g .stages } })
 leaf-here book half d stage mean s at g is-stage is-mean l =
+    let e : readLeaf (lentTables half stage mean) d (drop at (bitsOf s)) ≡ readLeaf (tablesOf book half) d (drop at (bitsOf s)) =
+    rw (is-stage, is-mean) (book-read book half d (drop at (bitsOf s))) in
     record {
       is = as-node (eqb (g .refused) 0) (leafOf (g .code) (g .stages)) (drop (g .next) (bitsOf s)) (g .refused)
-          ∙ ap asNode (l .leaf ∙ rw (is-stage, is-mean) (book-read book half d (drop at (bitsOf s))));
+          ∙ ap asNode (l .leaf ∙ e);
       within = rw length-bitsOf at (l .within);
     }
 
