@@ -120,6 +120,13 @@ pub nothing-painted : (s d i : ℕ) (raised p m : List ℕ) (h : Svq1Half) (x : 
 unfolding paintAt
 nothing-painted s d i raised p m h x e = ⊎-elim (λ a. rw a (sym (paint-none s (height d) (width d) (place s i) m))) (λ a. rw a (sym (paint-none s (height d) (width d) (place s i) m))) e
 
+pub node-leaf : (h : Svq1Half) (x : Node) (p raised s d i n : ℕ) → DrawingNode h x p raised s d i n → (l : Leaf) → x ≡ Ends l → Drawing h l p raised s d i n
+node-leaf h x p raised s d i n g l e = record { lies = g .lies; copy = g .copy; sound = rw e at (g .sound) }
+
+pub node-painted : (s d i : ℕ) (raised p m out : List ℕ) (h : Svq1Half) (x : Node) (l : Leaf) → x ≡ Ends l → out ≡ paintAt s d i (leafAs raised h s p i l) m
+    → out ≡ paintAt s d i (nodeAt raised h s p i x) m
+node-painted s d i raised p m out h x l e o = rw e o
+
 -- ---- the recursion
 module _ (h : Svq1Half) (t : List Node) (p raised s d i n : ℕ) (g : Rebuilding h t p raised s d i n) where
   parts-lie : 0 < d → Lies s (d - 1) (left i) p n × Lies s (d - 1) (right i) p n

@@ -30,7 +30,7 @@ returns-4 c = let e : c .before .args .d ≡ 3 = omega arith in rw e
 
 -- src/walk.rt:293:1
 returns-5 : tie.Need-returns-5
-returns-5 c = inter-rest _ (omega arith)
+returns-5 c = inter-rest (c .before .args .d) (omega arith)
 
 pub inter-page-spec : {M : Type 1} → statement M
 inter-page-spec = tie.close (tie.spec returns returns-2 returns-3 returns-4 returns-5)

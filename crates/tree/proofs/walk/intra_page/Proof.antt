@@ -25,7 +25,7 @@ returns-3 c = let e : c .before .args .d ≡ 2 = omega arith in rw e
 
 -- src/walk.rt:282:1
 returns-4 : tie.Need-returns-4
-returns-4 c = intra-rest _ (omega arith)
+returns-4 c = intra-rest (c .before .args .d) (omega arith)
 
 pub intra-page-spec : {M : Type 1} → statement M
 intra-page-spec = tie.close (tie.spec returns returns-2 returns-3 returns-4)

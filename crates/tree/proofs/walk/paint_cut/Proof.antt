@@ -73,12 +73,14 @@ paint-leaf-requires : tie.Need-paint-leaf-requires
 paint-leaf-requires c κs =
     let s = c .before .before .before .before .before .before .before .before .before .before .before .before in
     let most = area-most (s .args .d) (five _ _ _ _ _ (s .pre .0 .lies)) in
-    let n = c .before .before .before .before .vector-length .ensures ∙ ap area (c .before .before .before .before .before .level-at .ensures) in
-    (s .pre .0, record {
-      predictor = cut-length (s .args .under .now) _ (omega (arith, n, most, s .pre .1 .0)) ∙ n;
-      totals = cut-length (s .args .sums .now) _ (omega (arith, n, most, s .pre .1 .1)) ∙ n;
-      samples = cut-length (s .args .over .now) _ (omega (arith, n, most, s .pre .1 .2)) ∙ n;
-    })
+    let n = c .before .before .before .before .vector-length .ensures ∙ ap area (c .before .before .before .before .before .level-at .ensures) in (
+      s .pre .0,
+      record {
+        predictor = cut-length (s .args .under .now) _ (omega (arith, n, most, s .pre .1 .0)) ∙ n;
+        totals = cut-length (s .args .sums .now) _ (omega (arith, n, most, s .pre .1 .1)) ∙ n;
+        samples = cut-length (s .args .over .now) _ (omega (arith, n, most, s .pre .1 .2)) ∙ n;
+      },
+    )
 
 -- src/walk.rt:337:1
 same-length : tie.Need-same-length

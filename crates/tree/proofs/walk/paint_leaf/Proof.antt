@@ -43,9 +43,10 @@ show-leaf-requires : tie.Need-show-leaf-requires
 show-leaf-requires c κs =
     let s = c .before .before .before .before .before .before .before .before .before .before .before .before .before .before .before .before .before in
     let u = c .before .before .before .before .before .gather-block .kept .1 .1 .1 .1 .1 .0 ∙ s .pre .1 .predictor in
-    let most = area-most (s .args .d) (five _ _ _ _ _ (s .pre .0 .lies)) in
-    (record { few = omega (arith, u, most); sums = s .pre .1 .totals ∙ sym u; shown = s .pre .1 .samples ∙ sym u },
-    code-shows (s .args .half) (s .args .d) _ _ _ _ _ (search needs) (s .pre .0 .sound) (s .pre .0 .copy) (c .before .before .before .before .before .before .before .page-of .ensures) u)
+    let most = area-most (s .args .d) (five _ _ _ _ _ (s .pre .0 .lies)) in (
+      record { few = omega (arith, u, most); sums = s .pre .1 .totals ∙ sym u; shown = s .pre .1 .samples ∙ sym u },
+      code-shows (s .args .half) (s .args .d) _ _ _ (s .args .code) (s .args .stages) (search needs) (s .pre .0 .sound) (s .pre .0 .copy) (c .before .before .before .before .before .before .before .page-of .ensures) u,
+    )
 
 -- src/walk.rt:333:5
 paint-block-requires : tie.Need-paint-block-requires
