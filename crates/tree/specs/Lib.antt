@@ -19,3 +19,4 @@ pub mod WalkLaws
 pub mod WalkReadLaws
 pub mod Rebuild
 pub mod RebuildLaws
+pub mod ShownLaws

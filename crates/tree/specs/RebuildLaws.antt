@@ -84,7 +84,7 @@ module _ (s d i p n at w h : ℕ) (l : Lies s d i p n) (is-place : at ≡ place 
   rows-over xs e = rw (is-place, is-width, is-height) (rows s d i n xs (l .deep) (l .stride) (l .shown) (l .shown-small) e)
 
 -- the stages of a leaf lie in the raised codebook
-open-stages : (d k : ℕ) → k ≤ 6 → (4 ≤ d → k ≡ 0) → k ≤ capAt d 6
+pub open-stages : (d k : ℕ) → k ≤ 6 → (4 ≤ d → k ≡ 0) → k ≤ capAt d 6
 open-stages d k most bare = elim (decLt d 4) [ yes l ↦ rw (lt-ltb d 4 l) most | no l ↦ rw (le-ltb d 4 (omega arith)) (omega (arith, bare (omega arith))) ]
 
 pub code-shows : (h : Svq1Half) (d size base m : ℕ) (c : LeafCode) (js : List ℕ) → length js ≡ 6 → Sound h d (leafOf c js) → size ≡ codebookBytes → base ≡ pageStart h d → m ≡ area d
