@@ -20,3 +20,4 @@ pub mod WalkReadLaws
 pub mod Rebuild
 pub mod RebuildLaws
 pub mod ShownLaws
+pub mod QueueLaws
