@@ -21,3 +21,4 @@ pub mod Rebuild
 pub mod RebuildLaws
 pub mod ShownLaws
 pub mod QueueLaws
+pub mod ReadSoundLaws
