@@ -14,7 +14,6 @@ use lib.ListN.{length, getD, List·getD-eq-default}
 use Rattle.bits.specs.Basics.{pick}
 use Rattle.bits.specs.BasicsLaws.{either-right}
 use Rattle.book.specs.Book.{Tables}
-use Rattle.leaf.specs.Leaf.{Leaf}
 use Rattle.tree.specs.Blocks.{blockCount, left, right, level, first}
 use Rattle.tree.specs.TreeBits.{Node, Off, Split, Ends, isSplit, reached, grow, nodeBits, emit, treeBits}
 use Rattle.tree.specs.GeometryLaws.{at-first}

@@ -1,17 +1,16 @@
 -- What is read can be shown: the leaves of a tree that was read are sound.
 -- Assumes nothing.
-use mathlib.Core.Path.{_≡_, refl, sym, ap, _∙_}
-use mathlib.Core.Bool.{Bool, true, false, _&&_}
+use mathlib.Core.Path.{_≡_, refl, ap, _∙_}
+use mathlib.Core.Bool.{Bool, true, false}
 use mathlib.Core.List.{List, [], _∷_, _++_}
-use Prim.Native.Nat.{ℕ, zero, suc, _+_, _-_, _*_, _^_, _≤_, _<_}
+use Prim.Native.Nat.{ℕ, zero, suc, _+_, _-_, _*_, _≤_, _<_}
 use native.Mathlib.Omega.{arith}
 use native.Mathlib.Decide.{decLt}
-use lib.Dec.{ltb}
-use lib.IntN.{ℤ, pos, subℕ, _+ℤ_}
-use borrow.Author.Tests.{lt-ltb, le-ltb, ltb-false}
+use lib.IntN.{pos, subℕ}
+use borrow.Author.Tests.{lt-ltb, le-ltb}
 use lib.ListN.{length, getD, take, drop, length-drop, length-append, List·getD-append, List·getD-eq-default}
 use lib.Seq.{drop-drop, getD-at}
-use Rattle.bits.specs.Basics.{pick, natural}
+use Rattle.bits.specs.Basics.{natural}
 use Rattle.bits.specs.Bits.{bitsOf, valOf}
 use Rattle.bits.specs.BitsLaws.{length-bitsOf}
 use Rattle.bits.specs.ReadLaws.{run-lt}
@@ -19,7 +18,7 @@ use Rattle.bits.specs.Codes.{Got, got, bad, then, codeGot, readCode, takeCode, 
 use Rattle.bits.specs.declared.svq1_vlc.CodeRead.{CodeRead}
 use Rattle.bits.specs.declared.svq1_vlc.CodeRead.the-variants as code
 use Rattle.book.specs.Book.{Tables, tablesOf, bookRefusal}
-use Rattle.book.specs.BookLaws.{means, GoodTables, good-tables}
+use Rattle.book.specs.BookLaws.{GoodTables, good-tables}
 use Rattle.book.specs.declared.svq1_vlc.Svq1Half.{Svq1Half}
 use Rattle.book.specs.declared.svq1_vlc.Svq1Half.the-variants.{Intra, Inter}
 use Rattle.leaf.specs.Leaf.{Leaf, skip, coded}

@@ -1,8 +1,8 @@
 -- Laws of the reconstruction: a leaf painted at its block, and the recursion's turns.
 -- Assumes nothing.
 use mathlib.Core.Path.{_≡_, refl, sym, ap, ap₂, _∙_}
-use mathlib.Core.Bool.{Bool, true, false}
-use mathlib.Core.List.{List, [], _∷_}
+use mathlib.Core.Bool.{true, false}
+use mathlib.Core.List.{List, []}
 use Prim.Native.Nat.{ℕ, zero, suc, _+_, _-_, _*_, _≤_, _<_, min}
 use native.Mathlib.Omega.{arith}
 use native.Mathlib.Decide.{decLt}
@@ -11,7 +11,6 @@ use borrow.Author.Tests.{lt-ltb, le-ltb}
 use mathlib.Core.Logic.{⊎-elim, _⊎_}
 use lib.ListN.{length, take, drop, getD, length-take}
 use lib.Seq.{getD-take, take-nil, drop-nil, length-take-le}
-use Rattle.bits.specs.Basics.{pick}
 use Rattle.book.specs.Book.{codebookBytes}
 use Rattle.book.specs.Level.{width, height, area}
 use Rattle.book.specs.declared.svq1_vlc.Svq1Half.{Svq1Half}
@@ -21,17 +20,17 @@ use Rattle.leaf.specs.Codebook.{pageOffset}
 use Rattle.leaf.specs.Inner.{pageStart}
 use Rattle.leaf.specs.Leaf.{Leaf, leafShown, capAt}
 use Rattle.leaf.specs.Raised.{vectorsIn, leafOf}
-use Rattle.leaf.specs.Show.{CodeShows, Staging, MeanKnown}
+use Rattle.leaf.specs.Show.{CodeShows}
 use Rattle.leaf.specs.declared.svq1_enc_leaf.LeafCode.{LeafCode}
 use Rattle.leaf.specs.declared.svq1_enc_leaf.LeafCode.the-variants as code
-use Rattle.tree.specs.Blocks.{blockCount, left, right, level, place, gather, paint, blockOf, paintAt, rebuilt}
+use Rattle.tree.specs.Blocks.{left, right, level, place, gather, paint, blockOf, paintAt, rebuilt}
 use Rattle.tree.specs.BlocksLaws.{level-le, at-parts}
 use Rattle.tree.specs.GeometryLaws.{In, in-parts, area-most, length-block}
 use Rattle.tree.specs.Plan.{shownAt}
 use Rattle.tree.specs.Turns.{Rows}
-use Rattle.tree.specs.TreeBits.{Node, Off, Split, Ends, isSplit, nodeShows}
-use Rattle.tree.specs.Walk.{Sound, SoundNode, SoundTree}
-use Rattle.tree.specs.Rebuild.{raisedVectors, leafAs, nodeAt, rebuiltBy, Lies, Drawing, DrawingNode, Cells, Rebuilding}
+use Rattle.tree.specs.TreeBits.{Node, Off, Split, Ends, isSplit}
+use Rattle.tree.specs.Walk.{Sound}
+use Rattle.tree.specs.Rebuild.{leafAs, nodeAt, rebuiltBy, Lies, Drawing, DrawingNode, Rebuilding}
 
 -- ---- where pages begin
 pub intra-rest : (d : ℕ) → 3 ≤ d → 0 ≡ pageStart Intra d

@@ -1,12 +1,12 @@
 -- A tree rebuilt from the raised codebook shows what it shows by the codebook itself.
 -- Assumes nothing.
-use mathlib.Core.Path.{_≡_, refl, sym, ap, ap₂, _∙_}
-use mathlib.Core.Bool.{Bool, true, false}
-use mathlib.Core.List.{List, []}
-use Prim.Native.Nat.{ℕ, zero, suc, _≤_, _<_}
+use mathlib.Core.Path.{_≡_, refl, ap, _∙_}
+use mathlib.Core.Bool.{Bool}
+use mathlib.Core.List.{List}
+use Prim.Native.Nat.{ℕ, zero, suc}
 use native.Mathlib.Omega.{arith}
 use lib.ListN.{length, getD, replicate}
-use Rattle.bits.specs.Basics.{pick, Bytes}
+use Rattle.bits.specs.Basics.{Bytes}
 use Rattle.book.specs.Book.{Tables}
 use Rattle.book.specs.Level.{width, area}
 use Rattle.book.specs.declared.svq1_vlc.Svq1Half.{Svq1Half}
@@ -15,7 +15,7 @@ use Rattle.leaf.specs.Codebook.{vectorAt}
 use Rattle.leaf.specs.Leaf.{Leaf, skip, coded, leafShown, capAt}
 use Rattle.leaf.specs.LeafBitsLaws.{Allowed}
 use Rattle.leaf.specs.Raised.{raisedCodebook}
-use Rattle.tree.specs.Blocks.{left, right, level, first, blockOf, paintAt, rebuilt}
+use Rattle.tree.specs.Blocks.{left, right, level, first, blockOf, rebuilt}
 use Rattle.tree.specs.Plan.{shownAt}
 use Rattle.tree.specs.TreeBits.{Node, Off, Split, Ends, isSplit, nodeShows, treeShown}
 use Rattle.tree.specs.Walk.{Sound, SoundNode, SoundTree}

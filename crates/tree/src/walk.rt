@@ -1,18 +1,17 @@
 // A tree as 63 block records: its bits written and read, and the samples that it shows.
 // Functions that only the crates of this repository call. Most have a `requires`: the caller, proved too, meets it.
 ghost use mathlib.Core.Path.{_≡_};
-ghost use Prim.Native.Nat.{ℕ, _+_, _-_, _*_, _<_, _≤_};
-ghost use lib.ListN.{length, getD};
+ghost use Prim.Native.Nat.{_<_, _≤_};
+ghost use lib.ListN.{length};
 ghost use Rattle.bits.specs.Inner.{Fits, Wrote};
 ghost use Rattle.book.specs.Book.{bookBytes, meanTable, stageFamily, stageTable, tablesOf};
 ghost use Rattle.book.specs.Level.{levelNumber};
 ghost use Rattle.leaf.specs.LeafBits.{leafBits};
 ghost use Rattle.leaf.specs.Inner.{pageStart};
 ghost use Rattle.leaf.specs.Raised.{leafOf};
-ghost use Rattle.tree.specs.Blocks.{first};
+ghost use Rattle.tree.specs.Blocks.{first, paintAt};
 ghost use Rattle.tree.specs.TreeBits.{isSplit, reached, nodeBits, treeBits};
 ghost use Rattle.tree.specs.Nodes.{nodeOf, treeOf};
-ghost use Rattle.tree.specs.Blocks.{paintAt};
 ghost use Rattle.tree.specs.Rebuild.{Cells, Drawing, DrawingNode, Rebuilding, leafAs, nodeAt, rebuiltBy};
 ghost use Rattle.tree.specs.Walk.{leafFlag, LeafRoom, NodeRoom, TreeRoom, Reads, LeafHere, NodeHere, TreeHere};
 use super::inner::gather_block;

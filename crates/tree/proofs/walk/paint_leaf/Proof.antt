@@ -1,44 +1,30 @@
-use Rattle.tree.specs.RebuildLaws.{five, rows-under, rows-over, code-shows, leaf-painted, cut-length}
+-- The block's predictor gathered, the leaf shown over it, and painted. Assumes nothing.
+use Rattle.tree.specs.RebuildLaws.{five, rows-under, rows-over, code-shows, leaf-painted}
 use Rattle.tree.specs.GeometryLaws.{area-most}
-use Rattle.book.specs.Level.{width, height, area}
-use mathlib.Core.Path.{_≡_, _∙_, sym, ap}
+use Rattle.book.specs.Level.{width, height}
+use mathlib.Core.Path.{_∙_, sym, ap}
 use native.Mathlib.Omega.{arith}
 use borrow.Author.Needs.{needs}
 use Rattle.tree.proofs.walk.paint_leaf.Statement.{statement}
 use Rattle.tree.proofs.walk.paint_leaf.Tie as tie
-use Rattle.tree.proofs.walk.paint_leaf.Reads as reads
-use Rattle.tree.proofs.walk.paint_leaf.Lts as lts
-use Rattle.book.proofs.svq1_blocktree.Svq1Level.block_dims.Reads as block-dims-reads
-use Rattle.leaf.proofs.inner.show_leaf.Reads as show-leaf-reads
-use Rattle.tree.proofs.inner.gather_block.Reads as gather-block-reads
-use Rattle.tree.proofs.inner.paint_block.Reads as paint-block-reads
-use Rattle.tree.proofs.inner.place_of.Reads as place-of-reads
-use Rattle.tree.proofs.walk.level_at.Reads as level-at-reads
-use Rattle.tree.proofs.walk.page_of.Reads as page-of-reads
 
--- src/walk.rt:325:9
 level-at-requires : tie.Need-level-at-requires
 level-at-requires c κs = five _ _ _ _ _ (c .before .before .before .before .before .before .pre .0 .lies)
 
--- src/walk.rt:326:9
 block-dims-requires : tie.Need-block-dims-requires
 block-dims-requires c κs = search needs
 
--- src/walk.rt:329:9
 place-of-requires : tie.Need-place-of-requires
 place-of-requires c κs = search needs
 
--- src/walk.rt:330:9
 page-of-requires : tie.Need-page-of-requires
 page-of-requires c κs = search needs
 
--- src/walk.rt:331:5
 gather-block-requires : tie.Need-gather-block-requires
 gather-block-requires c κs =
     let s = c .before .before .before .before .before .before .before .before .before .before .before in
     rows-under (s .args .s) (s .args .d) (s .args .i) _ _ _ _ _ (s .pre .0 .lies) (c .before .before .place-of .ensures .0) (c .before .before .before .block-dims .ensures .0 ∙ ap width (c .before .before .before .before .level-at .ensures)) (c .before .before .before .block-dims .ensures .1 ∙ ap height (c .before .before .before .before .level-at .ensures)) _ (s .pre .1 .predictor)
 
--- src/walk.rt:332:5
 show-leaf-requires : tie.Need-show-leaf-requires
 show-leaf-requires c κs =
     let s = c .before .before .before .before .before .before .before .before .before .before .before .before .before .before .before .before .before in
@@ -48,29 +34,23 @@ show-leaf-requires c κs =
       code-shows (s .args .half) (s .args .d) _ _ _ (s .args .code) (s .args .stages) (search needs) (s .pre .0 .sound) (s .pre .0 .copy) (c .before .before .before .before .before .before .before .page-of .ensures) u,
     )
 
--- src/walk.rt:333:5
 paint-block-requires : tie.Need-paint-block-requires
 paint-block-requires c κs =
     let s = c .before .before .before .before .before .before .before .before .before .before .before .before .before .before .before .before .before .before .before .before .before .before .before .before in
     rows-over (s .args .s) (s .args .d) (s .args .i) _ _ _ _ _ (s .pre .0 .lies) (c .before .before .before .before .before .before .before .before .before .before .before .before .before .before .before .place-of .ensures .0) (c .before .before .before .before .before .before .before .before .before .before .before .before .before .before .before .before .block-dims .ensures .0 ∙ ap width (c .before .before .before .before .before .before .before .before .before .before .before .before .before .before .before .before .before .level-at .ensures)) (c .before .before .before .before .before .before .before .before .before .before .before .before .before .before .before .before .block-dims .ensures .1 ∙ ap height (c .before .before .before .before .before .before .before .before .before .before .before .before .before .before .before .before .before .level-at .ensures)) _ (c .before .before .before .before .before .before .show-leaf .kept .1 .1 .1 .0 ∙ s .pre .1 .samples)
 
--- src/walk.rt:307:1
 same-length : tie.Need-same-length
 same-length c = search needs
 
--- src/walk.rt:307:1
 same-length-2 : tie.Need-same-length-2
 same-length-2 c = search needs
 
--- src/walk.rt:307:1
 same-length-3 : tie.Need-same-length-3
 same-length-3 c = search needs
 
--- src/walk.rt:307:1
 same-length-4 : tie.Need-same-length-4
 same-length-4 c = search needs
 
--- src/walk.rt:307:1
 returns : tie.Need-returns
 returns c =
     let s = c .before .before .before .before .before .before .before .before .before .before .before .before .before .before .before .before .before .before .before .before .before .before .before .before .before .before .before in

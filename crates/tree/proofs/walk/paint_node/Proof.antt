@@ -1,15 +1,12 @@
+-- A leaf is painted, and any other block shows nothing. Assumes nothing.
 use Rattle.tree.specs.RebuildLaws.{nothing-painted, node-leaf, node-painted}
-use Rattle.leaf.specs.Raised.{leafOf}
 use Rattle.tree.specs.declared.svq1_enc_tree.TreeNode.{TreeNode}
 use Rattle.tree.specs.Nodes.{nodeOf, nodeAs}
 use mathlib.Core.Logic.{inl, inr}
-use mathlib.Core.Path.{_≡_, _∙_, sym, ap, refl}
+use mathlib.Core.Path.{ap}
 use borrow.Author.Needs.{needs}
 use Rattle.tree.proofs.walk.paint_node.Statement.{statement}
 use Rattle.tree.proofs.walk.paint_node.Tie as tie
-use Rattle.tree.proofs.walk.paint_node.Reads as reads
-use Rattle.tree.proofs.walk.paint_node.Lts as lts
-use Rattle.tree.proofs.walk.paint_code.Reads as paint-code-reads
 
 enum-told : tie.Need-enum-told
 enum-told c = search needs
@@ -17,33 +14,27 @@ enum-told c = search needs
 enum-told-2 : tie.Need-enum-told-2
 enum-told-2 c = search needs
 
--- src/walk.rt:426:24
 enum-known-n : tie.Need-enum-known-n
 enum-known-n c = search needs
 
--- src/walk.rt:426:33
 paint-code-requires : tie.Need-paint-code-requires
 paint-code-requires c κs =
     let s = c .before .before .before .before .before .before .before .before in
     node-leaf (s .args .half) _ _ _ _ _ _ _ (s .pre) _ (ap (λ (n : TreeNode). nodeAs n (s .args .b .stages)) (c .before .before .n .given .1))
 
--- src/walk.rt:408:1
 returns : tie.Need-returns
 returns c =
     let a = c .before .before .before .before .before .before .args in
     nothing-painted (a .s) (a .d) (a .i) (a .raised .now) (a .predictor .now) _ (a .half) (nodeOf (a .b)) (inl (ap (λ (n : TreeNode). nodeAs n (a .b .stages)) (c .enum-told .given .1)))
 
--- src/walk.rt:408:1
 returns-2 : tie.Need-returns-2
 returns-2 c =
     let a = c .before .before .before .before .before .before .args in
     nothing-painted (a .s) (a .d) (a .i) (a .raised .now) (a .predictor .now) _ (a .half) (nodeOf (a .b)) (inr (ap (λ (n : TreeNode). nodeAs n (a .b .stages)) (c .enum-told2 .given .1)))
 
--- src/walk.rt:408:1
 same-length : tie.Need-same-length
 same-length c = search needs
 
--- src/walk.rt:408:1
 returns-3 : tie.Need-returns-3
 returns-3 c =
     let a = c .before .before .before .before .before .before .before .before .before .before .before .args in
