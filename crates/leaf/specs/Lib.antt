@@ -21,3 +21,5 @@ pub mod AgreeLaws
 pub mod Lent
 pub mod LentLaws
 pub mod LentReadLaws
+pub mod LeafAnswer
+pub mod LeafAnswerLaws
