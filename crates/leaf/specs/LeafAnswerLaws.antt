@@ -3,13 +3,13 @@
 use Prim.Native.Nat.{ℕ, zero, suc, _+_, _-_, _*_, _≤_, _<_}
 use mathlib.Core.Path.{_≡_, refl, sym, ap, _∙_}
 use mathlib.Core.Bool.{Bool, true, false, not, _&&_}
-use mathlib.Core.List.{List, _++_}
+use mathlib.Core.List.{List, [], _++_}
 use native.Mathlib.Omega.{arith}
 use native.Mathlib.Decide.{decLt}
 use lib.Dec.{eqb, leb, ltb}
 use lib.ListN.{length, take, drop, replicate, length-append, length-drop}
 use borrow.Author.Tests.{lt-ltb, le-ltb, eq-eqb, ne-eqb, le-leb, lt-leb, ltb-true, leb-true, eqb-true}
-use Rattle.bits.specs.Basics.{pick, orElse, unless}
+use Rattle.bits.specs.Basics.{pick, orElse, unless, Bytes}
 use Rattle.bits.specs.BasicsLaws.{both-true, or-none, or-first, or-next, unless-none}
 use Rattle.bits.specs.Calls.{Answer, done, refused, unlessRefused}
 use Rattle.book.specs.Book.{dataRefusal, bookRefusal, codebookBytes, tablesOf}
@@ -23,14 +23,15 @@ use Rattle.leaf.specs.Codebook.{vectorAt}
 use Rattle.leaf.specs.LeafBits.{leafBits}
 use Rattle.leaf.specs.Leaf.{capAt}
 use Rattle.leaf.specs.LeafLaws.{rule-allowed}
-use Rattle.leaf.specs.Raised.{leafOf}
+use Rattle.leaf.specs.Raised.{leafOf, raisedCodebook}
 use Rattle.leaf.specs.Inner.{LeafFound}
+use Rattle.leaf.specs.AgreeLaws.{leaf-found}
 use Rattle.leaf.specs.Lent.{CodeFits}
 use Rattle.leaf.specs.LentLaws.{allowed-fits}
 use Rattle.leaf.specs.declared.svq1_enc_leaf.LeafAnswer.{LeafAnswer}
 use Rattle.leaf.specs.declared.svq1_enc_leaf.LeafCode.{LeafCode}
 use Rattle.leaf.specs.LeafCall.{BlockIn, halfAt, blockOk, blockRefusal, LeafChosen, leafChosen, leafAnswer}
-use Rattle.leaf.specs.LeafAnswer.{blockFits, leafAnswerOf, refusedAnswer, LeafAnswered}
+use Rattle.leaf.specs.LeafAnswer.{blockFits, leafAnswerOf, refusedAnswer, LevelChosen, LeafAnswered}
 
 -- ---- 8, test by test
 module _ (level half target predictor cap : ℕ) (skip : Bool) where
@@ -158,12 +159,18 @@ answer-found b r e z f c d =
     }
 
 -- the leaf found may stand at its level, so its mean has an entry
-pub found-fits : (b : BlockIn) → Passes b → (code : LeafCode) (js : List ℕ) (e : ℕ) (out : List ℕ)
-    → LeafFound (b .codebook) (halfAt (b .half)) (b .level) (b .cap) (b .allowSkip) (b .target) (b .predictor) code js e out → CodeFits (halfAt (b .half)) code
-found-fits b p code js e out f =
-    let T = tablesOf (b .book) (halfAt (b .half)) in
-    allowed-fits T (b .level) code js
-    (rw (f .leaf) (rule-allowed T (vectorAt (b .codebook) (halfAt (b .half)) (b .level)) (b .level) (b .cap) (b .target) (b .predictor) (p .cap) (b .allowSkip) (p .skip)))
+pub found-fits : (codebook : List ℕ) (h : Svq1Half) (d cap : ℕ) (allowSkip : Bool) (t p : List ℕ) (code : LeafCode) (js : List ℕ) (e : ℕ) (out : List ℕ) → cap ≤ 6
+    → (allowSkip ≡ true → h ≡ Inter) → LeafFound codebook h d cap allowSkip t p code js e out → CodeFits h code
+found-fits codebook h d cap allowSkip t p code js e out most opened f =
+    let T = tablesOf [] h in
+    allowed-fits T d code js (rw (f .leaf) (rule-allowed T (vectorAt codebook h d) d cap t p most allowSkip opened))
+
+-- what was found in the copy, by the codebook
+pub found-level : (codebook raised : List ℕ) (h : Svq1Half) (d cap : ℕ) (allowSkip : Bool) (t p : List ℕ) (code : LeafCode) (js : List ℕ) (e : ℕ) (out left : List ℕ)
+    → Bytes codebook → raised ≡ raisedCodebook codebook → cap ≤ 6 → length t ≡ area d → LevelChosen h d t p raised cap allowSkip code js e out left
+    → LeafFound codebook h d cap allowSkip t p code js e (take (length t) left)
+found-level codebook raised h d cap allowSkip t p code js e out left bytes copy most size c =
+    leaf-found codebook bytes h d cap allowSkip t p code js e (take (length t) left) most size (rw (← copy) (c .chosen))
 
 -- a block has 8 to 256 samples
 pub area-range : (d : ℕ) → d ≤ 5 → (1 ≤ area d) × (area d ≤ 256)

@@ -4,7 +4,8 @@ ghost use Prim.Native.Nat.{ℕ, _<_, _≤_};
 ghost use lib.ListN.{length};
 ghost use Rattle.book.specs.Level.{levelNumber};
 ghost use Rattle.leaf.specs.LeafCall.{halfAt, blockRefusal};
-ghost use Rattle.leaf.specs.LeafAnswer.{blockFits, refusedAnswer, LeafAnswered};
+ghost use Rattle.leaf.specs.LeafAnswer.{blockFits, refusedAnswer, foundAnswer, LeafAnswered, Searchable, Found};
+use super::inner;
 use book::svq1_blocktree::Svq1Level;
 use book::svq1_vlc::Svq1Half;
 
@@ -116,4 +117,90 @@ fn refused_answer(refused: u8) -> LeafAnswer
         error: 0,
         samples: [0u8; 256],
     }
+}
+
+// The answer of an accepted call. That there are six stage indices is known here, where they come as an array.
+fn found_answer(
+    code: LeafCode,
+    stages: [u8; 6],
+    bits: u32,
+    error: u32,
+    samples: [u8; 256],
+) -> LeafAnswer
+    ensures { λ r. ⌜ (r ≡ foundAnswer code stages bits error samples) × (length stages ≡ 6) ⌝ }
+{
+    LeafAnswer {
+        refused: 0,
+        code,
+        stages,
+        bits,
+        error,
+        samples,
+    }
+}
+
+// A leaf that no refusal meets; `raised` is room for the raised codebook.
+fn searched(
+    book: &[u8],
+    codebook: &[u8],
+    raised: &mut [u8],
+    level: Svq1Level,
+    half: Svq1Half,
+    target: &[u8],
+    predictor: &[u8],
+    cap: usize,
+    skip: bool,
+) -> LeafAnswer
+    requires { ⌜ Searchable (now book) (now codebook) (now raised) (levelNumber level) half (now target) (now predictor) cap skip ⌝ }
+    ensures { λ r. ⌜ Found (now (book .entry)) (now (codebook .entry)) (levelNumber level) half (now (target .entry)) (now (predictor .entry)) cap skip r ⌝ }
+{
+    inner::raise_codebook(codebook, raised);
+    let mut sums = [0u16; 256];
+    let mut samples = [0u8; 256];
+    let c = inner::level_leaf(
+        level,
+        half,
+        target,
+        predictor,
+        &mut sums,
+        &mut samples,
+        raised,
+        cap,
+        skip,
+    );
+    let code = c.code;
+    let stages = c.stages;
+    let bits = inner::book_leaf_bits(book, level, half, code);
+    found_answer(code, stages, bits, c.error, samples)
+}
+
+// The leaf search on its own: one leaf by the leaf rules, its bits, its error and its samples.
+pub fn search_leaf(
+    book: &[u8],
+    codebook: &[u8],
+    level: u8,
+    half: u8,
+    target: &[u8],
+    predictor: &[u8],
+    cap: u8,
+    skip: bool,
+) -> LeafAnswer
+    ensures { λ r. ⌜ LeafAnswered (record { book = now (book .entry); codebook = now (codebook .entry); level = level; half = half; cap = cap; allowSkip = skip; target = now (target .entry); predictor = now (predictor .entry) }) r ⌝ }
+{
+    let refusal = block_refusal(book, codebook, level, half, target, predictor, cap, skip);
+    if refusal != 0 {
+        return refused_answer(refusal);
+    }
+    let mut raised = [0u8; 23040];
+    searched(
+        book,
+        codebook,
+        &mut raised,
+        level_of(level),
+        half_of(half),
+        target,
+        predictor,
+        cap as usize,
+        skip,
+    )
 }
