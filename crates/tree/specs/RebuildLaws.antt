@@ -14,9 +14,7 @@ use lib.Seq.{getD-take, take-nil, drop-nil, length-take-le}
 use Rattle.book.specs.Book.{codebookBytes}
 use Rattle.book.specs.Level.{width, height, area}
 use Rattle.book.specs.declared.svq1_vlc.Svq1Half.{Svq1Half}
-use Rattle.book.specs.declared.svq1_vlc.Svq1Half.the-variants.{Intra, Inter}
 use Rattle.leaf.specs.AgreeLaws.{page-room}
-use Rattle.leaf.specs.Codebook.{pageOffset}
 use Rattle.leaf.specs.Inner.{pageStart}
 use Rattle.leaf.specs.Leaf.{Leaf, leafShown, capAt}
 use Rattle.leaf.specs.Raised.{vectorsIn, leafOf}
@@ -31,17 +29,6 @@ use Rattle.tree.specs.Turns.{Rows}
 use Rattle.tree.specs.TreeBits.{Node, Off, Split, Ends, isSplit}
 use Rattle.tree.specs.Walk.{Sound}
 use Rattle.tree.specs.Rebuild.{leafAs, nodeAt, rebuiltBy, Lies, Drawing, DrawingNode, Rebuilding}
-
--- ---- where pages begin
-pub intra-rest : (d : ℕ) → 3 ≤ d → 0 ≡ pageStart Intra d
-unfolding pageOffset
-intra-rest zero h = absurd (omega arith)
-intra-rest (suc zero) h = absurd (omega arith)
-intra-rest (suc (suc zero)) h = absurd (omega arith)
-intra-rest (suc (suc (suc d))) h = elim (decLt (suc (suc (suc d))) 4) [ yes l ↦ rw (lt-ltb (suc (suc (suc d))) 4 l) | no l ↦ rw (le-ltb (suc (suc (suc d))) 4 (omega arith)) ]
-
-pub inter-rest : (d : ℕ) → 4 ≤ d → 0 ≡ pageStart Inter d
-inter-rest d h = rw (le-ltb d 4 h)
 
 -- ---- a leaf at its block
 pub cut-length : (l : List ℕ) (n : ℕ) → n ≤ length l → length (take (n - 0) (drop 0 l)) ≡ n

@@ -4,10 +4,9 @@ ghost use mathlib.Core.Path.{_≡_};
 ghost use Prim.Native.Nat.{_<_, _≤_};
 ghost use lib.ListN.{length};
 ghost use Rattle.bits.specs.Inner.{Fits, Wrote};
-ghost use Rattle.book.specs.Book.{bookBytes, meanTable, stageFamily, stageTable, tablesOf};
+ghost use Rattle.book.specs.Book.{bookBytes, stageFamily, stageTable, tablesOf};
 ghost use Rattle.book.specs.Level.{levelNumber};
 ghost use Rattle.leaf.specs.LeafBits.{leafBits};
-ghost use Rattle.leaf.specs.Inner.{pageStart};
 ghost use Rattle.leaf.specs.Raised.{leafOf};
 ghost use Rattle.tree.specs.Blocks.{first, paintAt};
 ghost use Rattle.tree.specs.TreeBits.{isSplit, reached, nodeBits, treeBits};
@@ -24,6 +23,8 @@ use bits::inner::get_bits;
 use bits::inner::put_bits;
 use book::svq1_blocktree::Svq1Level;
 use book::svq1_vlc::Svq1Half;
+use leaf::inner::mean_table;
+use leaf::inner::page_start;
 use leaf::inner::put_leaf;
 use leaf::inner::read_leaf;
 use leaf::inner::show_leaf;
@@ -41,17 +42,6 @@ fn level_at(d: usize) -> Svq1Level
         3 => Svq1Level::L3,
         4 => Svq1Level::L4,
         _ => Svq1Level::L5,
-    }
-}
-
-// A half's mean table of a book.
-fn mean_table(book: &[u8], half: Svq1Half) -> &[u8]
-    requires { ⌜ length (now book) ≡ bookBytes ⌝ }
-    ensures { λ r. ⌜ now r ≡ meanTable half (now (book .entry)) ⌝ }
-{
-    match half {
-        Svq1Half::Intra => &book[204..972],
-        Svq1Half::Inter => &book[972..2508],
     }
 }
 
@@ -268,39 +258,6 @@ pub fn read(s: &[u8], at: usize, half: Svq1Half, book: &[u8], level: usize) -> R
     }
 }
 
-// Where the vectors of a half and a level begin in the raised codebook; L4 and L5 have none.
-fn page_of(half: Svq1Half, d: usize) -> usize
-    ensures { λ r. ⌜ r ≡ pageStart half d ⌝ }
-{
-    match half {
-        Svq1Half::Intra => intra_page(d),
-        Svq1Half::Inter => inter_page(d),
-    }
-}
-
-fn intra_page(d: usize) -> usize
-    ensures { λ r. ⌜ r ≡ pageStart Svq1Half.Intra d ⌝ }
-{
-    match d {
-        0 => 21504,
-        1 => 18432,
-        2 => 12288,
-        _ => 0,
-    }
-}
-
-fn inter_page(d: usize) -> usize
-    ensures { λ r. ⌜ r ≡ pageStart Svq1Half.Inter d ⌝ }
-{
-    match d {
-        0 => 22272,
-        1 => 19968,
-        2 => 15360,
-        3 => 6144,
-        _ => 0,
-    }
-}
-
 // The leaf at block i, of level d, into the plane `out` of stride `s`, over the predictor's plane. `under`, `sums` and `over` are scratch of the
 // block's size: its predictor, its sums and its samples.
 fn paint_leaf(
@@ -326,7 +283,7 @@ fn paint_leaf(
     let w = dims.width;
     let h = dims.height;
     let at = place_of(s, i);
-    let page = page_of(half, d);
+    let page = page_start(half, d);
     gather_block(predictor, s, at, w, h, under);
     show_leaf(half, under, sums, over, raised, page, code, stages);
     paint_block(out, s, at, w, h, over);

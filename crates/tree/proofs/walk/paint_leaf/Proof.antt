@@ -17,8 +17,8 @@ block-dims-requires c κs = search needs
 place-of-requires : tie.Need-place-of-requires
 place-of-requires c κs = search needs
 
-page-of-requires : tie.Need-page-of-requires
-page-of-requires c κs = search needs
+page-start-requires : tie.Need-page-start-requires
+page-start-requires c κs = search needs
 
 gather-block-requires : tie.Need-gather-block-requires
 gather-block-requires c κs =
@@ -31,7 +31,7 @@ show-leaf-requires c κs =
     let u = c .before .before .before .before .before .gather-block .kept .1 .1 .1 .1 .1 .0 ∙ s .pre .1 .predictor in
     let most = area-most (s .args .d) (five _ _ _ _ _ (s .pre .0 .lies)) in (
       record { few = omega (arith, u, most); sums = s .pre .1 .totals ∙ sym u; shown = s .pre .1 .samples ∙ sym u },
-      code-shows (s .args .half) (s .args .d) _ _ _ (s .args .code) (s .args .stages) (search needs) (s .pre .0 .sound) (s .pre .0 .copy) (c .before .before .before .before .before .before .before .page-of .ensures) u,
+      code-shows (s .args .half) (s .args .d) _ _ _ (s .args .code) (s .args .stages) (search needs) (s .pre .0 .sound) (s .pre .0 .copy) (c .before .before .before .before .before .before .before .page-start .ensures) u,
     )
 
 paint-block-requires : tie.Need-paint-block-requires
@@ -55,7 +55,7 @@ returns : tie.Need-returns
 returns c =
     let s = c .before .before .before .before .before .before .before .before .before .before .before .before .before .before .before .before .before .before .before .before .before .before .before .before .before .before .before in
     leaf-painted (s .args .s) (s .args .d) (s .args .i) _ _ _ _ (s .args .predictor .now) (s .args .raised .now) _ _ _ (s .args .half) _ (s .pre .0 .lies .deep) (c .before .before .before .before .before .before .before .before .before .before .before .before .before .before .before .before .before .before .place-of .ensures .0) (c .before .before .before .before .before .before .before .before .before .before .before .before .before .before .before .before .before .before .before .block-dims .ensures .0 ∙ ap width (c .before .before .before .before .before .before .before .before .before .before .before .before .before .before .before .before .before .before .before .before .level-at .ensures)) (c .before .before .before .before .before .before .before .before .before .before .before .before .before .before .before .before .before .before .before .block-dims .ensures .1 ∙ ap height (c .before .before .before .before .before .before .before .before .before .before .before .before .before .before .before .before .before .before .before .before .level-at .ensures))
-    (c .before .before .before .before .before .before .before .before .before .before .before .before .before .before .before .before .before .page-of .ensures) (s .pre .0 .lies .predictor) _ (c .before .before .before .before .before .before .before .before .before .before .before .before .before .before .before .gather-block .ensures) (c .before .before .before .before .before .before .before .before .before .show-leaf .ensures) (c .before .before .paint-block .ensures)
+    (c .before .before .before .before .before .before .before .before .before .before .before .before .before .before .before .before .before .page-start .ensures) (s .pre .0 .lies .predictor) _ (c .before .before .before .before .before .before .before .before .before .before .before .before .before .before .before .gather-block .ensures) (c .before .before .before .before .before .before .before .before .before .show-leaf .ensures) (c .before .before .paint-block .ensures)
 
 pub paint-leaf-spec : {M : Type 1} → statement M
 paint-leaf-spec =
@@ -64,7 +64,7 @@ paint-leaf-spec =
     level-at-requires
     block-dims-requires
     place-of-requires
-    page-of-requires
+    page-start-requires
     gather-block-requires
     show-leaf-requires
     paint-block-requires

@@ -1,10 +1,7 @@
--- The half's part of a book. Assumes nothing.
-use Rattle.book.specs.declared.svq1_vlc.Svq1Half.{Svq1Half}
-use Rattle.book.specs.Book.{meanTable}
-use mathlib.Core.Path.{sym, ap}
+-- A half's mean table stands at its place in the book. Assumes nothing.
 use borrow.Author.Needs.{needs}
-use Rattle.tree.proofs.walk.mean_table.Statement.{statement}
-use Rattle.tree.proofs.walk.mean_table.Tie as tie
+use Rattle.leaf.proofs.inner.mean_table.Statement.{statement}
+use Rattle.leaf.proofs.inner.mean_table.Tie as tie
 
 enum-told : tie.Need-enum-told
 enum-told c = search needs
@@ -31,10 +28,12 @@ part-result-end-2 : tie.Need-part-result-end-2
 part-result-end-2 c = search needs
 
 returns : tie.Need-returns
-returns c = sym (ap (λ (h : Svq1Half). meanTable h (c .before .before .before .args .book .now)) (c .before .enum-told .given .1))
+returns c =
+    rw (c .before .enum-told .given .1)
 
 returns-2 : tie.Need-returns-2
-returns-2 c = sym (ap (λ (h : Svq1Half). meanTable h (c .before .before .before .args .book .now)) (c .before .enum-told2 .given .1))
+returns-2 c =
+    rw (c .before .enum-told2 .given .1)
 
 pub mean-table-spec : {M : Type 1} → statement M
 mean-table-spec =
