@@ -21,4 +21,6 @@ pub mod AgreeLaws
 pub mod Lent
 pub mod LentLaws
 pub mod LentReadLaws
+pub mod LeafAnswer
+pub mod LeafAnswerLaws
 pub mod Show

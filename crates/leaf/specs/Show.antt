@@ -1,8 +1,8 @@
 -- What showing a leaf asks, and the laws of its sums.
 -- Assumes nothing.
-use mathlib.Core.Path.{_≡_, refl, sym, ap, ap₂, _∙_}
-use mathlib.Core.List.{List, [], _∷_}
-use Prim.Native.Nat.{ℕ, suc, _+_, _*_, _≤_, _<_, min}
+use mathlib.Core.Path.{_≡_, refl, sym, ap, _∙_}
+use mathlib.Core.List.{List, _∷_}
+use Prim.Native.Nat.{ℕ, _+_, _*_, _≤_, _<_, min}
 use native.Mathlib.Omega.{arith}
 use native.Mathlib.Numerals.{add-one}
 use lib.IntN.{ℤ, pos, subℕ}
@@ -14,7 +14,7 @@ use Rattle.book.specs.declared.svq1_vlc.Svq1Half.{Svq1Half}
 use Rattle.book.specs.declared.svq1_vlc.Svq1Half.the-variants.{Intra, Inter}
 use Rattle.leaf.specs.Mean.{meanPosition, meanAt}
 use Rattle.leaf.specs.Leaf.{Vectors, skip, coded, plus, seeded, staged, samples, leafShown}
-use Rattle.leaf.specs.Raised.{Below, less, plusN, vector, vectorsIn, leafOf}
+use Rattle.leaf.specs.Raised.{Below, less, plusN, vectorsIn, leafOf}
 use Rattle.leaf.specs.RaisedLaws.{stage-sums, next-part, sub-pos}
 use Rattle.leaf.specs.declared.svq1_enc_leaf.LeafCode.{LeafCode}
 use Rattle.leaf.specs.declared.svq1_enc_leaf.LeafCode.the-variants.{Skip, Coded}

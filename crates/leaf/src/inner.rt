@@ -5,10 +5,12 @@ ghost use Prim.Native.Nat.{ℕ, _+_, _-_, _*_, _%_, _<_, _≤_, min};
 ghost use lib.ListN.{length, take, drop, getD};
 ghost use lib.IntN.{subℕ};
 ghost use Rattle.bits.specs.Basics.{gap, natural};
-ghost use Rattle.book.specs.Book.{codebookBytes};
+ghost use Rattle.book.specs.Book.{bookBytes, codebookBytes, meanTable, bookRefusal};
+ghost use Rattle.book.specs.Level.{levelNumber};
+ghost use Rattle.leaf.specs.LeafAnswer.{BookLeafSize, LevelReady, LevelChosen};
 ghost use Rattle.leaf.specs.Codebook.{byteOf};
 ghost use Rattle.leaf.specs.Mean.{residual, meanOf, saturate, meanPosition, meanAt};
-ghost use Rattle.leaf.specs.Leaf.{coded, sse, plus, samples, seeded, staged, leafShown, argmin};
+ghost use Rattle.leaf.specs.Leaf.{coded, sse, plus, samples, seeded, staged, leafShown, argmin, capAt};
 ghost use Rattle.leaf.specs.Raised.{originOf, raisedCodebook, less, sqd, vectorError, Below, Stage, total, plusN, vectorsIn, Searched, leafOf};
 ghost use Rattle.leaf.specs.Inner.{Ready, Coding, Chosen, pageStart};
 ghost use mathlib.Core.List.{List};
@@ -22,6 +24,7 @@ ghost use Rattle.bits.specs.Bits.{valOf, bitsOf};
 use super::svq1_enc_leaf::LeafChoice;
 use super::svq1_enc_leaf::LeafCode;
 use bits::svq1_vlc::CodeRead;
+use book::svq1_blocktree::Svq1Level;
 use book::svq1_vlc::Svq1Half;
 
 // What `a` is above `b`, or 0.
@@ -726,6 +729,65 @@ pub fn page_start(half: Svq1Half, d: usize) -> usize
         Svq1Half::Intra => intra_page(d),
         Svq1Half::Inter => inter_page(d),
     }
+}
+
+// The mean table of a book's half.
+pub fn mean_table(book: &[u8], half: Svq1Half) -> &[u8]
+    requires { ⌜ length (now book) ≡ bookBytes ⌝ }
+    ensures { λ r. ⌜ now r ≡ meanTable half (now (book .entry)) ⌝ }
+{
+    match half {
+        Svq1Half::Intra => &book[204..972],
+        Svq1Half::Inter => &book[972..2508],
+    }
+}
+
+// How many bits a leaf has by a book's tables.
+pub fn book_leaf_bits(book: &[u8], level: Svq1Level, half: Svq1Half, code: LeafCode) -> u32
+    requires { ⌜ (bookRefusal (now book) ≡ 0) × CodeFits half code ⌝ }
+    ensures { λ r. ⌜ BookLeafSize (now (book .entry)) half (levelNumber level) code r ⌝ }
+{
+    let stage = level.stage_table(&book[2508..2652], &book[2652..2796], half);
+    leaf_bits(stage, mean_table(book, half), half, code)
+}
+
+// The stages open at level d: none at L4 and L5.
+pub fn cap_at(d: usize, cap: usize) -> usize
+    ensures { λ r. ⌜ r ≡ capAt d cap ⌝ }
+{
+    if d < 4 { cap } else { 0 }
+}
+
+// One leaf of a level by the leaf rules, its samples at the front of `out`; `a` is scratch, and `raised` the raised codebook.
+pub fn level_leaf(
+    level: Svq1Level,
+    half: Svq1Half,
+    t: &[u8],
+    p: &[u8],
+    a: &mut [u16],
+    out: &mut [u8],
+    raised: &[u8],
+    cap: usize,
+    skip: bool,
+) -> LeafChoice
+    requires { ⌜ LevelReady (levelNumber level) (now t) (now p) (now a) (now out) (now raised) cap ⌝ }
+    ensures { λ r. ⌜ LevelChosen half (levelNumber level) (now (t .entry)) (now (p .entry)) (now (raised .entry)) cap skip (r .code) (r .stages) (r .error) (now (out .entry)) (now (out .exit)) ⌝ }
+{
+    let n = t.len();
+    let d = level.number();
+    let base = page_start(half, d);
+    let open = cap_at(d, cap);
+    choose_leaf(
+        half,
+        t,
+        p,
+        &mut a[..n],
+        &mut out[..n],
+        raised,
+        base,
+        open,
+        skip,
+    )
 }
 
 // A mean kept plus 256, by its position in its half's table.

@@ -3,7 +3,7 @@ use Prim.Native.Nat.{ℕ, suc, _*_, _≤_, _<_}
 use mathlib.Core.Path.{_≡_}
 use mathlib.Core.List.{List, map}
 use lib.ListN.{length}
-use Rattle.book.specs.House.{signedByte}
+use Rattle.bits.specs.Basics.{signedByte}
 use Rattle.motion.specs.declared.svq1_motion_predictor.Svq1Mv.{Svq1Mv}
 use Rattle.motion.specs.declared.svq1_mv_cache.NearBlocks.{NearBlocks}
 use Rattle.motion.specs.Neighbours.{Near}

@@ -12,7 +12,7 @@ use lib.Signed.{ltZ, mag}
 use lib.Arith.{digits-lt}
 use borrow.Author.Tests.{lt-ltb, le-ltb, ltb-true}
 use Rattle.bits.specs.Basics.{signedOf}
-use Rattle.book.specs.House.{signedByte}
+use Rattle.bits.specs.Basics.{signedByte}
 use Rattle.motion.specs.declared.svq1_motion_predictor.Neighbour.the-variants.{Absent, Present}
 use Rattle.motion.specs.VectorsLaws.{InRange, range-pos, range-neg}
 use Rattle.motion.specs.Neighbours.{storedAt, neighbourAt}

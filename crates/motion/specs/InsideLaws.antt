@@ -14,7 +14,7 @@ use lib.ListN.{length, getD, set}
 use lib.Seq.{ext-getD}
 use borrow.Author.Tests.{leb-true, eq-eqb, ne-eqb}
 use Rattle.bits.specs.Basics.{valuesFrom}
-use Rattle.bits.specs.BasicsLaws.{both-true, length-list, list-at}
+use Rattle.bits.specs.BasicsLaws.{both-true, length-values, value-at}
 use Rattle.motion.specs.Compensation.{Canvas, mean2, mean4, halfSample, movedSample}
 use Rattle.motion.specs.Grid.{entryOf, putPart}
 use Rattle.motion.specs.PutLaws.{putTo, put-all}
@@ -103,7 +103,7 @@ module _ (c : Canvas) (ox oy x0 y0 s cols q : ℕ) (parts : Parts s cols q) wher
       (λ k l.
       let a = along i k l in
       sym
-      (list-at (λ j. cell c ox oy ((y0 + j / s) * c .stride + x0 + j % s)) (s * s) 0 (s * i + k) 0 (row-below i k h l)
+      (value-at (λ j. cell c ox oy ((y0 + j / s) * c .stride + x0 + j % s)) (s * s) 0 (s * i + k) 0 (row-below i k h l)
       ∙ ap (λ (j : ℕ). cell c ox oy ((y0 + j / s) * c .stride + x0 + j % s)) (zero-add (s * i + k)) ∙ rw (a .0, a .1) refl))
       ∙ ap (λ (m : ℕ). putTo s cols q cellValues m xs) step
 
@@ -185,12 +185,12 @@ module _ (c : Canvas) (x y ux uy s cols q : ℕ) (parts : Parts s cols q) where
   unfolding cellPart movedPart
   inside-moved xs a b =
       ap (λ (v : List ℕ). putPart s cols q v xs)
-      (ext-getD 0 _ _ (length-list _ (s * s) 0 ∙ sym (length-list _ (s * s) 0)) (λ j l.
-      let h : j < s * s = rw length-list at l in
+      (ext-getD 0 _ _ (length-values _ (s * s) 0 ∙ sym (length-values _ (s * s) 0)) (λ j l.
+      let h : j < s * s = rw length-values at l in
       let z = zero-add j in
-      list-at (λ j. cell c (hx % 2) (hy % 2) ((y0 + j / s) * c .stride + x0 + j % s)) (s * s) 0 j 0 h
+      value-at (λ j. cell c (hx % 2) (hy % 2) ((y0 + j / s) * c .stride + x0 + j % s)) (s * s) 0 j 0 h
       ∙ ap (λ (i : ℕ). cell c (hx % 2) (hy % 2) ((y0 + i / s) * c .stride + x0 + i % s)) z
       ∙ sample-same a b j h
       ∙ sym
-      (list-at (λ j. movedSample c 16 x y (downMv ux uy) (entryOf s cols q j)) (s * s) 0 j 0 h
+      (value-at (λ j. movedSample c 16 x y (downMv ux uy) (entryOf s cols q j)) (s * s) 0 j 0 h
       ∙ ap (λ (i : ℕ). movedSample c 16 x y (downMv ux uy) (entryOf s cols q i)) z)))

@@ -12,7 +12,7 @@ use lib.Signed.{mag}
 use lib.ListN.{length, getD}
 use borrow.Author.Tests.{lt-ltb, le-ltb, eq-eqb, ne-eqb}
 use Rattle.bits.specs.Basics.{pick, valuesFrom}
-use Rattle.bits.specs.BasicsLaws.{length-list, list-at}
+use Rattle.bits.specs.BasicsLaws.{length-values, value-at}
 use Rattle.motion.specs.declared.svq1_motion_predictor.Svq1Mv.{Svq1Mv}
 use Rattle.motion.specs.Compensation.{Canvas, even, clampTo, sampleAt, mean2, mean4, halfSample, movedSample}
 use Rattle.motion.specs.Grid.{entryOf}
@@ -106,7 +106,7 @@ module _ (s cols q : ℕ) (p : Parts s cols q) where
   pub part-steps : (j : ℕ) → j < s * s → Steps s cols q j 256
   part-steps j l =
       let xs : List ℕ = valuesFrom (λ (k : ℕ). k) 256 0 in
-      let e : length xs ≡ 256 = length-list (λ (k : ℕ). k) 256 0 in
+      let e : length xs ≡ 256 = length-values (λ (k : ℕ). k) 256 0 in
       rw e at (entry-steps s cols side-some cols-some q j xs (holds-part xs e) l)
 
   pub part-corner : (q / cols * s < 256) × (q % cols * s < 256)
@@ -121,7 +121,7 @@ module _ (c : Canvas) (x y : ℕ) (v : Svq1Mv) (s cols q : ℕ) where
   partValues = valuesFrom (λ j. movedSample c 16 x y v (entryOf s cols q j)) (s * s) 0
 
   pub value-at : (j : ℕ) → j < s * s → movedSample c 16 x y v (entryOf s cols q j) ≡ getD partValues j 0
-  value-at j h = sym (list-at (λ j. movedSample c 16 x y v (entryOf s cols q j)) (s * s) 0 j 0 h ∙ ap (λ (k : ℕ). movedSample c 16 x y v (entryOf s cols q k)) (zero-add j))
+  value-at j h = sym (value-at (λ j. movedSample c 16 x y v (entryOf s cols q j)) (s * s) 0 j 0 h ∙ ap (λ (k : ℕ). movedSample c 16 x y v (entryOf s cols q k)) (zero-add j))
 
   pub part-done : (xs : List ℕ) → Parts s cols q → putTo s cols q partValues (s * s) xs ≡ movedPart c x y v s cols q xs
   unfolding movedPart

@@ -9,7 +9,7 @@ use native.Mathlib.Decide.{decLt}
 use lib.ListN.{length, getD}
 use lib.Seq.{ext-getD}
 use Rattle.bits.specs.Basics.{valuesFrom}
-use Rattle.bits.specs.BasicsLaws.{length-list, list-at}
+use Rattle.bits.specs.BasicsLaws.{length-values, value-at}
 use Rattle.motion.specs.declared.svq1_motion_predictor.Svq1Mv.{Svq1Mv}
 use Rattle.motion.specs.Vectors.{zeroMv}
 use Rattle.motion.specs.Compensation.{Canvas, movedSample, movedBlock}
@@ -36,7 +36,7 @@ module _ (s cols : ℕ) (some : 0 < s) (wide : 0 < cols) where
   own-value : (f : ℕ → ℕ) (q : ℕ) (xs : List ℕ) (p : ℕ) → p < length xs → owner s cols p ≡ q → getD (putBy f q xs) p 0 ≡ f p
   own-value f q xs p h e =
       put-own s cols q _ xs p h e
-      ∙ list-at (λ j. f (entryOf s cols q j)) (s * s) 0 (placeIn s cols p) 0 (place-lt s cols some wide p)
+      ∙ value-at (λ j. f (entryOf s cols q j)) (s * s) 0 (placeIn s cols p) 0 (place-lt s cols some wide p)
       ∙ ap (λ (j : ℕ). f (entryOf s cols q j)) (zero-add (placeIn s cols p))
       ∙ ap (λ (k : ℕ). f (entryOf s cols k (placeIn s cols p))) (sym e)
       ∙ ap f (entry-back s cols some wide p)
@@ -62,11 +62,11 @@ module _ (s cols : ℕ) (some : 0 < s) (wide : 0 < cols) where
       → putFirst f (rows * cols) xs ≡ valuesFrom (λ p. f (owner s cols p) p) (rows * s * (s * cols)) 0
   all-parts f rows xs e =
       let m : ℕ = rows * s * (s * cols) in
-      ext-getD 0 _ _ (length-first f (rows * cols) xs ∙ e ∙ sym (length-list _ m 0)) (λ p l.
+      ext-getD 0 _ _ (length-first f (rows * cols) xs ∙ e ∙ sym (length-values _ m 0)) (λ p l.
       let h : p < length xs = rw length-first at l in
       let k : p < m = omega arith in
       first-at f (rows * cols) xs p h (owner-in s cols some wide rows p k)
-      ∙ sym (list-at (λ p. f (owner s cols p) p) m 0 p 0 k ∙ ap (λ (i : ℕ). f (owner s cols i) i) (zero-add p)))
+      ∙ sym (value-at (λ p. f (owner s cols p) p) m 0 p 0 k ∙ ap (λ (i : ℕ). f (owner s cols i) i) (zero-add p)))
 
 -- the whole, by one vector
 pub whole-moved : (c : Canvas) (x y : ℕ) (v : Svq1Mv) (xs : List ℕ) → length xs ≡ 256 → movedPart c x y v 16 1 0 xs ≡ movedBlock c 16 x y v

@@ -13,12 +13,15 @@ pub mod TreeBits
 pub mod TreeLaws
 pub mod Nodes
 pub mod Planned
-pub mod Planning
 pub mod ChoiceLaws
 pub mod PlanClaim
 pub mod PlanClaimLaws
 pub mod PlannedLaws
-pub mod PlanningLaws
 pub mod Walk
 pub mod WalkLaws
 pub mod WalkReadLaws
+pub mod Rebuild
+pub mod RebuildLaws
+pub mod ShownLaws
+pub mod QueueLaws
+pub mod ReadSoundLaws

@@ -1,19 +1,18 @@
 -- Laws of a tree as an array of block records, and of writing it block by block.
 -- Assumes nothing.
 use mathlib.Core.Path.{_≡_, refl, sym, ap, _∙_}
-use mathlib.Core.Bool.{Bool, true, false, _||_}
+use mathlib.Core.Bool.{true, false}
 use mathlib.Core.List.{List, [], _∷_, _++_, append-assoc, append-nil}
-use Prim.Native.Nat.{ℕ, zero, suc, _+_, _-_, _*_, _/_, _≤_, _<_}
+use Prim.Native.Nat.{ℕ, zero, suc, _+_, _-_, _/_, _≤_, _<_}
 use native.Mathlib.Omega.{arith}
 use native.Mathlib.Nat.{add-zero, zero-add}
 use native.Mathlib.Numerals.{add-one}
-use lib.Dec.{eqb}
 use borrow.Author.Tests.{eq-eqb, ne-eqb}
 use lib.ListN.{length, getD, set, take, drop, length-append, take-append-drop, List·getD-append, List·getD-map, length-map}
 use lib.Seq.{take-suc, take-all, length-take-le}
 use Rattle.bits.specs.Bits.{msb}
 use Rattle.bits.specs.Inner.{Fits, Wrote}
-use Rattle.bits.specs.InnerLaws.{wrote-none, wrote-more, wrote-size}
+use Rattle.bits.specs.InnerLaws.{wrote-none, wrote-more}
 use Rattle.book.specs.Book.{Tables, tablesOf, meanTable, stageFamily, stageTable}
 use Rattle.book.specs.declared.svq1_vlc.Svq1Half.{Svq1Half}
 use Rattle.leaf.specs.Leaf.{Leaf}

@@ -3,7 +3,7 @@
 use mathlib.Core.Path.{_≡_, refl, sym, ap, _∙_}
 use mathlib.Core.Bool.{Bool, true, false}
 use mathlib.Core.List.{List, [], _∷_, _++_, append-nil}
-use Prim.Native.Nat.{ℕ, zero, suc, _+_, _-_, _*_, _^_, _≤_, _<_}
+use Prim.Native.Nat.{ℕ, zero, suc, _+_, _-_, _*_, _≤_, _<_}
 use native.Mathlib.Omega.{arith}
 use native.Mathlib.Numerals.{add-one}
 use lib.Dec.{eqb}
@@ -25,12 +25,11 @@ use Rattle.leaf.specs.LeafBits.{readLeaf}
 use Rattle.tree.specs.Blocks.{blockCount, level, first}
 use Rattle.tree.specs.TreeBits.{Node, Off, Split, Ends, reached, asNode, readNode, readIf, readFrom, readTree}
 use Rattle.tree.specs.Nodes.{nodeOf, treeOf}
-use Rattle.tree.specs.Walk.{nodeGot, treeGot, LeafHere, NodeHere, TreeHere}
+use Rattle.tree.specs.Walk.{nodeGot, LeafHere, NodeHere, TreeHere}
 use Rattle.tree.specs.WalkLaws.{tree-set, reached-front}
 use Rattle.tree.specs.declared.svq1_enc_tree.TreeNode.the-variants as node
 use Rattle.tree.specs.declared.svq1_enc_tree.Block.{Block}
 use Rattle.tree.specs.declared.walk.ReadNode.{ReadNode}
-use Rattle.tree.specs.declared.walk.ReadTree.{ReadTree}
 
 -- ---- one block
 node-done : (bits : List ℕ) (g : ReadNode) → g .refused ≡ 0 → got (nodeOf (g .block)) (drop (g .next) bits) ≡ nodeGot bits g
@@ -48,9 +47,11 @@ pub leaf-here : (book : List ℕ) (half : Svq1Half) (d : ℕ) (stage mean s : Li
     → LeafRead (bitsOf s) (readLeaf (lentTables half stage mean) d (drop at (bitsOf s))) g
     → LeafHere (tablesOf book half) d s at (record { refused = g .refused; next = g .next; block = record { node = node.Leaf (g .code); stages = g .stages } })
 leaf-here book half d stage mean s at g is-stage is-mean l =
+    let e : readLeaf (lentTables half stage mean) d (drop at (bitsOf s)) ≡ readLeaf (tablesOf book half) d (drop at (bitsOf s)) =
+    rw (is-stage, is-mean) (book-read book half d (drop at (bitsOf s))) in
     record {
       is = as-node (eqb (g .refused) 0) (leafOf (g .code) (g .stages)) (drop (g .next) (bitsOf s)) (g .refused)
-          ∙ ap asNode (l .leaf ∙ rw (is-stage, is-mean) (book-read book half d (drop at (bitsOf s))));
+          ∙ ap asNode (l .leaf ∙ e);
       within = rw length-bitsOf at (l .within);
     }
 

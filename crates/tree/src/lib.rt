@@ -1,5 +1,4 @@
 // The block tree of a macroblock: plan, emission, reading and reconstruction.
 pub mod inner;
-pub mod plan;
 pub mod svq1_enc_tree;
 pub mod walk;

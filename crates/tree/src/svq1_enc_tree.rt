@@ -57,7 +57,7 @@ pub struct PlannedBlock {
 }
 
 // The leaf `l`, or a split into parts planned as `x` and `y` if that is strictly cheaper.
-pub fn decide(lambda: u64, l: PlannedBlock, x: PlannedBlock, y: PlannedBlock) -> PlannedBlock
+fn decide(lambda: u64, l: PlannedBlock, x: PlannedBlock, y: PlannedBlock) -> PlannedBlock
     requires { ⌜ Light l × Light x × Light y ⌝ }
     ensures { λ r. ⌜ r ≡ decided lambda l x y ⌝ }
 {

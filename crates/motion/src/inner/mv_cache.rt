@@ -3,7 +3,7 @@ ghost use mathlib.Core.List.{_∷_, [], map};
 ghost use Prim.Native.Nat.{_*_, _<_};
 ghost use lib.IntN.{subℕ};
 ghost use Rattle.bits.specs.Basics.{signedOf};
-ghost use Rattle.book.specs.House.{signedByte};
+ghost use Rattle.bits.specs.Basics.{signedByte};
 ghost use Rattle.motion.specs.VectorsLaws.{InRange, Inside};
 ghost use Rattle.motion.specs.Neighbours.{neighbourAt, nearOf};
 ghost use Rattle.motion.specs.Grid.{putPart};

@@ -1,3 +1,4 @@
+-- the vector lies within the sixteen
 use native.Mathlib.Omega.{arith}
 use mathlib.Core.Path.{_≡_}
 use Prim.Native.Nat.{_≤_, _*_, _-_, _+_}
@@ -7,7 +8,6 @@ use borrow.Author.Needs.{needs}
 use Rattle.leaf.proofs.inner.add_stage.Statement.{statement}
 use Rattle.leaf.proofs.inner.add_stage.Tie as tie
 
--- the vector lies within the sixteen
 room : (c : tie.After-shared-slice-known) → length (c .before .before .args .a .now) * c .before .before .args .j + length (c .before .before .args .a .now) ≤ length (c .before .before .args .a .now) * 16
 room c = part-room (length (c .before .before .args .a .now)) (c .before .before .args .j) 16 (search needs)
 

@@ -1,15 +1,13 @@
+-- The stages' vectors, one after the other. Assumes nothing.
 use Rattle.leaf.specs.RaisedLaws.{part-room}
 use Rattle.leaf.specs.Show.{Added, stage-added, all-added}
 use lib.ListN.{length}
-use mathlib.Core.Path.{_≡_, refl}
-use Prim.Native.Nat.{ℕ, _-_, _*_, _≤_}
+use mathlib.Core.Path.{refl}
+use Prim.Native.Nat.{_-_, _*_}
 use native.Mathlib.Omega.{arith}
 use borrow.Author.Needs.{needs}
 use Rattle.leaf.proofs.inner.add_stages.Statement.{statement}
 use Rattle.leaf.proofs.inner.add_stages.Tie as tie
-use Rattle.leaf.proofs.inner.add_stages.Reads as reads
-use Rattle.leaf.proofs.inner.add_stages.Lts as lts
-use Rattle.leaf.proofs.inner.add_stage.Reads as add-stage-reads
 
 abbrev Inv-loop : tie.InvT-loop
 Inv-loop a₀ book base count stages n at₀ k₀ a at k = Added a₀ book base count stages a at k
@@ -17,21 +15,17 @@ Inv-loop a₀ book base count stages n at₀ k₀ a at k = Added a₀ book base 
 abbrev μ-loop : tie.MeasureT-loop
 μ-loop a₀ book base count stages n at₀ k₀ a at k = count - k
 
--- src/inner.rt:569:5
 loop-holds : tie.Need-loop-holds Inv-loop μ-loop
 loop-holds c =
     let s = c .before .before in
     record { within = omega arith; same = refl; place = omega arith; low = λ i. omega (arith, s .pre .low i); sums = refl }
 
--- src/inner.rt:570:17
 array-read-j : tie.Need-array-read-j Inv-loop μ-loop
 array-read-j c = search needs
 
--- src/inner.rt:570:17
 cast-j : tie.Need-cast-j Inv-loop μ-loop
 cast-j c = search needs
 
--- src/inner.rt:571:9
 add-stage-requires : tie.Need-add-stage-requires Inv-loop μ-loop
 add-stage-requires c κs =
     let s = c .before .before .before .before .before in
@@ -39,11 +33,9 @@ add-stage-requires c κs =
     let room = part-room (length (s .args .a .now) * 16) (l .k) (s .args .count) (search needs) in
     (omega (arith, l .inv .place, l .inv .same, s .pre .stages .page), s .pre .stages .small (l .k) (search needs), (λ i. omega (arith, l .inv .low i, s .pre .stages .most)))
 
--- src/inner.rt:572:15
 mul-at : tie.Need-mul-at Inv-loop μ-loop
 mul-at c = let s = c .before .before .before .before .before .before .before .before in omega (arith, s .pre .few)
 
--- src/inner.rt:572:9
 add-at : tie.Need-add-at Inv-loop μ-loop
 add-at c =
     let s = c .before .before .before .before .before .before .before .before in
@@ -51,15 +43,12 @@ add-at c =
     let room = part-room (length (s .args .a .now) * 16) (l .k) (s .args .count) (search needs) in
     omega (arith, l .inv .place, s .pre .stages .page)
 
--- src/inner.rt:573:9
 add-k : tie.Need-add-k Inv-loop μ-loop
 add-k c = search needs
 
--- src/inner.rt:569:5
 loop-less : tie.Need-loop-less Inv-loop μ-loop
 loop-less c = search needs
 
--- src/inner.rt:569:5
 loop-again : tie.Need-loop-again Inv-loop μ-loop
 loop-again c =
     let s = c .before .before .before .before .before .before .before .before in
@@ -67,11 +56,9 @@ loop-again c =
     let d = c .before .before .add-stage in
     stage-added (s .args .a .now) (s .args .book .now) (s .args .base) (s .args .count) _ (l .a) (l .at) (l .k) (l .inv) (search needs) (omega (arith, s .pre .stages .most)) _ refl _ (d .ensures .0) (d .kept .0) (d .ensures .1)
 
--- src/inner.rt:562:1
 same-length : tie.Need-same-length Inv-loop μ-loop
 same-length c = c .before .loop .inv .same
 
--- src/inner.rt:562:1
 returns : tie.Need-returns Inv-loop μ-loop
 returns c =
     let s = c .before .before .before .before in

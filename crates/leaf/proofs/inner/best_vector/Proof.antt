@@ -1,7 +1,7 @@
 use native.Mathlib.Omega.{arith}
 use mathlib.Core.Path.{_≡_, refl, sym, _∙_, ap}
 use mathlib.Core.Logic.{⊎-elim}
-use Prim.Native.Nat.{_≤_, _<_, _*_, _-_, _+_}
+use Prim.Native.Nat.{_≤_, _<_, _-_}
 use Rattle.leaf.specs.Leaf.{argmin}
 use Rattle.leaf.specs.Raised.{less, vectorError}
 use Rattle.leaf.specs.RaisedLaws.{argmin-take, argmin-keep}

@@ -1,12 +1,11 @@
 use native.Mathlib.Omega.{arith}
-use mathlib.Core.Path.{_≡_, _∙_, ap}
+use mathlib.Core.Path.{_≡_}
 use Prim.Native.Nat.{_≤_, _*_, _-_, _+_}
-use lib.ListN.{length, drop, getD}
+use lib.ListN.{length, drop}
 use lib.Seq.{drop-length}
-use Rattle.leaf.specs.Leaf.{sse, plus, samples}
-use Rattle.leaf.specs.Raised.{less, sqd}
-use Rattle.leaf.specs.Mean.{saturate}
-use Rattle.leaf.specs.RaisedLaws.{vector-step, sse-step}
+use Rattle.leaf.specs.Leaf.{sse, samples}
+use Rattle.leaf.specs.Raised.{less}
+use Rattle.leaf.specs.RaisedLaws.{sse-step}
 use borrow.Author.Needs.{needs}
 use Rattle.leaf.proofs.inner.block_sse.Statement.{statement}
 use Rattle.leaf.proofs.inner.block_sse.Tie as tie

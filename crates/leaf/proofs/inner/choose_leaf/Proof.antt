@@ -1,5 +1,4 @@
 -- One leaf: skip where it is open and no worse, else the coded one. Assumes nothing.
-use mathlib.Core.Path.{_≡_, refl}
 use Rattle.leaf.specs.InnerLaws.{skip-wins, skip-loses, skip-closed}
 use borrow.Author.Needs.{needs}
 use Rattle.leaf.proofs.inner.choose_leaf.Statement.{statement}

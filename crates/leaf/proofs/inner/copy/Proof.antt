@@ -1,7 +1,7 @@
 -- A block copied, sample by sample. Assumes nothing.
 use mathlib.Core.Path.{_≡_, refl}
-use Prim.Native.Nat.{_≤_, _-_, _+_}
-use lib.ListN.{length, take, getD, length-set}
+use Prim.Native.Nat.{_≤_, _-_}
+use lib.ListN.{length, take, length-set}
 use Rattle.book.specs.FillLaws.{fill-step, fill-end}
 use native.Mathlib.Omega.{arith}
 use borrow.Author.Needs.{needs}

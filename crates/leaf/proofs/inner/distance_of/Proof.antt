@@ -1,9 +1,8 @@
 -- The squared distance of two blocks, in two 16-bit totals. Assumes nothing.
 use mathlib.Core.Path.{_≡_}
 use Prim.Native.Nat.{_≤_, _*_, _-_, _+_}
-use lib.ListN.{length, drop, getD}
+use lib.ListN.{length, drop}
 use lib.Seq.{drop-length}
-use Rattle.bits.specs.Basics.{gap}
 use Rattle.leaf.specs.Leaf.{sse}
 use Rattle.leaf.specs.RaisedLaws.{plain-step}
 use native.Mathlib.Omega.{arith}

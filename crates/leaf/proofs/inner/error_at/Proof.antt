@@ -2,7 +2,6 @@
 -- Assumes nothing.
 use borrow.Author.Needs.{needs}
 use native.Mathlib.Omega.{arith}
-use mathlib.Core.Path.{_≡_}
 use Prim.Native.Nat.{_≤_, _*_}
 use Rattle.leaf.specs.RaisedLaws.{square-le, saturate-less}
 use Rattle.leaf.specs.Raised.{sqd}

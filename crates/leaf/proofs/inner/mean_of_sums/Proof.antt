@@ -1,6 +1,6 @@
 use native.Mathlib.Omega.{arith}
 use mathlib.Core.Path.{_≡_, sym, _∙_, ap}
-use Prim.Native.Nat.{ℕ, _≤_, _*_, _-_, _+_, _/_, min}
+use Prim.Native.Nat.{ℕ, _-_, _+_, _/_, min}
 use lib.IntN.{pos, subℕ}
 use Rattle.leaf.specs.RaisedLaws.{sub-pos, mean-up, mean-down-intra, mean-down-inter}
 use borrow.Author.Needs.{needs}

@@ -1,7 +1,6 @@
 -- Where a byte of the raised codebook comes from, by the level of its page. Assumes nothing.
 use native.Mathlib.Omega.{arith}
 use Rattle.leaf.specs.RasterLaws.{origin-l3, origin-l2, origin-plain, origin-in}
-use mathlib.Core.Path.{_≡_, sym, _∙_}
 use borrow.Author.Needs.{needs}
 use Rattle.leaf.proofs.inner.origin_of.Statement.{statement}
 use Rattle.leaf.proofs.inner.origin_of.Tie as tie

@@ -1,3 +1,4 @@
+-- The mean by its position in the half's table. Assumes nothing.
 use Rattle.leaf.specs.Mean.{meanPosition}
 use mir.Syntax.{w16}
 use mir.ValLaws.{toZ-ofZ}
@@ -7,15 +8,10 @@ use Rattle.leaf.specs.Show.{mean-few, mean-intra, mean-inter}
 use borrow.Author.Needs.{needs}
 use Rattle.leaf.proofs.inner.raised_mean.Statement.{statement}
 use Rattle.leaf.proofs.inner.raised_mean.Tie as tie
-use Rattle.leaf.proofs.inner.raised_mean.Reads as reads
-use Rattle.leaf.proofs.inner.raised_mean.Lts as lts
-use Rattle.leaf.proofs.inner.mean_position.Reads as mean-position-reads
 
--- src/inner.rt:554:13
 mean-position-requires : tie.Need-mean-position-requires
 mean-position-requires c κs = search needs
 
--- src/inner.rt:554:13
 cast-k : tie.Need-cast-k
 cast-k c =
     let s = c .before in
@@ -23,11 +19,9 @@ cast-k c =
     let few = mean-few (s .args .half) (s .args .mean) (s .pre) in
     omega (arith, k)
 
--- src/inner.rt:556:28
 enum-told : tie.Need-enum-told
 enum-told c = search needs
 
--- src/inner.rt:556:28
 add-result : tie.Need-add-result
 add-result c =
     let s = c .before .before .before in
@@ -35,18 +29,15 @@ add-result c =
     let m = mean-intra (s .args .half) (s .args .mean) _ (s .pre) k (c .enum-told .given .1) in
     omega (arith, m .1)
 
--- src/inner.rt:557:28
 enum-told-2 : tie.Need-enum-told-2
 enum-told-2 c = search needs
 
--- src/inner.rt:550:1
 returns : tie.Need-returns
 returns c =
     let s = c .before .before .before in
     let k : c .before .before .mean-position .result ≡ meanPosition (s .args .half) (s .args .mean) = simp (toZ-ofZ w16 (s .args .mean) (s .fits .mean)) at (c .before .before .mean-position .ensures) in
     mean-intra (s .args .half) (s .args .mean) _ (s .pre) k (c .enum-told .given .1)
 
--- src/inner.rt:550:1
 returns-2 : tie.Need-returns-2
 returns-2 c =
     let s = c .before .before .before in

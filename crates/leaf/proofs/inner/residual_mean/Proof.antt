@@ -1,7 +1,4 @@
-use native.Mathlib.Omega.{arith}
 use borrow.Author.Needs.{needs}
-use mathlib.Core.Path.{_≡_, sym, _∙_, ap}
-use Prim.Native.Nat.{ℕ}
 use Rattle.leaf.specs.RaisedLaws.{residual-sums}
 use Rattle.leaf.proofs.inner.residual_mean.Statement.{statement}
 use Rattle.leaf.proofs.inner.residual_mean.Tie as tie

@@ -1,7 +1,7 @@
 -- The samples that sums show, one after the other. Assumes nothing.
 use mathlib.Core.Path.{_≡_, refl, _∙_, sym}
-use Prim.Native.Nat.{_≤_, _-_, _+_}
-use lib.ListN.{length, take, getD, length-set}
+use Prim.Native.Nat.{_≤_, _-_}
+use lib.ListN.{length, take, length-set}
 use Rattle.book.specs.FillLaws.{fill-step, fill-end}
 use Rattle.leaf.specs.Leaf.{samples}
 use Rattle.leaf.specs.Raised.{less}

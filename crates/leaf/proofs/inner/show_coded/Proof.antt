@@ -1,44 +1,32 @@
+-- Seed, stages and samples. Assumes nothing.
 use Rattle.leaf.specs.Show.{coded-shown}
-use mathlib.Core.Path.{_≡_, _∙_}
+use mathlib.Core.Path.{_∙_}
 use native.Mathlib.Omega.{arith}
 use borrow.Author.Needs.{needs}
 use Rattle.leaf.proofs.inner.show_coded.Statement.{statement}
 use Rattle.leaf.proofs.inner.show_coded.Tie as tie
-use Rattle.leaf.proofs.inner.show_coded.Reads as reads
-use Rattle.leaf.proofs.inner.show_coded.Lts as lts
-use Rattle.leaf.proofs.inner.add_stages.Reads as add-stages-reads
-use Rattle.leaf.proofs.inner.bias_of.Reads as bias-of-reads
-use Rattle.leaf.proofs.inner.seed.Reads as seed-reads
-use Rattle.leaf.proofs.inner.show.Reads as show-reads
 
--- src/inner.rt:591:5
 seed-requires : tie.Need-seed-requires
 seed-requires c κs = search needs
 
--- src/inner.rt:592:5
 add-stages-requires : tie.Need-add-stages-requires
 add-stages-requires c κs =
     let p = c .before .before .before .before .before .before .before .before .before .pre in
     let d = c .before .before .before .seed in
     record { few = omega (arith, d .kept .0, p .1 .sums, p .1 .few); low = d .ensures .1; stages = rw (d .kept .0 ∙ p .1 .sums) (p .2) }
 
--- src/inner.rt:593:13
 bias-of-requires : tie.Need-bias-of-requires
 bias-of-requires c κs = search needs
 
--- src/inner.rt:593:5
 show-requires : tie.Need-show-requires
 show-requires c κs = search needs
 
--- src/inner.rt:578:1
 same-length : tie.Need-same-length
 same-length c = search needs
 
--- src/inner.rt:578:1
 same-length-2 : tie.Need-same-length-2
 same-length-2 c = search needs
 
--- src/inner.rt:578:1
 returns : tie.Need-returns
 returns c =
     let s = c .before .before .before .before .before .before .before .before .before .before .before .before .before .before .before .before .before .before in

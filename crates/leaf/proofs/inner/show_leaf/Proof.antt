@@ -1,31 +1,20 @@
+-- A leaf by its code. Assumes nothing.
 use Rattle.leaf.specs.Show.{shown-skip, shown-coded}
 use mir.Syntax.{w16}
 use mir.ValLaws.{toZ-ofZ}
-use mathlib.Core.Path.{_≡_, _∙_}
-use native.Mathlib.Omega.{arith}
 use borrow.Author.Needs.{needs}
 use Rattle.leaf.proofs.inner.show_leaf.Statement.{statement}
 use Rattle.leaf.proofs.inner.show_leaf.Tie as tie
-use Rattle.leaf.proofs.inner.show_leaf.Reads as reads
-use Rattle.leaf.proofs.inner.show_leaf.Lts as lts
-use Rattle.leaf.proofs.inner.copy.Reads as copy-reads
-use Rattle.leaf.proofs.inner.raised_mean.Reads as raised-mean-reads
-use Rattle.leaf.proofs.inner.show_coded.Reads as show-coded-reads
-use Rattle.leaf.proofs.inner.stage_count.Reads as stage-count-reads
 
--- src/inner.rt:758:35
 enum-told : tie.Need-enum-told
 enum-told c = search needs
 
--- src/inner.rt:758:27
 copy-requires : tie.Need-copy-requires
 copy-requires c κs = search needs
 
--- src/inner.rt:759:27
 enum-known-code : tie.Need-enum-known-code
 enum-known-code c = search needs
 
--- src/inner.rt:760:17
 raised-mean-requires : tie.Need-raised-mean-requires
 raised-mean-requires c κs =
     let s = c .before .before .before .before .before .before .before in
@@ -33,35 +22,28 @@ raised-mean-requires c κs =
     let e = toZ-ofZ w16 (y .0 .0) (record { sfits = c .known-told .given .0 .1 }) in
     simp e ((rw (y .1) at (s .pre .1)) .0)
 
--- src/inner.rt:761:17
 stage-count-requires : tie.Need-stage-count-requires
 stage-count-requires c κs = search needs
 
--- src/inner.rt:762:13
 show-coded-requires : tie.Need-show-coded-requires
 show-coded-requires c κs =
     let s = c .before .before .before .before .before .before .before .before .before .before .before in
     let y = c .before .before .before .before .before .code .given in
     (c .before .before .before .raised-mean .ensures .1, s .pre .0, rw (c .before .before .stage-count .ensures) ((rw (y .1) at (s .pre .1)) .1))
 
--- src/inner.rt:744:1
 same-length : tie.Need-same-length
 same-length c = search needs
 
--- src/inner.rt:744:1
 returns : tie.Need-returns
 returns c =
     shown-skip _ _ _ _ _ (c .before .before .before .before .enum-told .given .1) (c .before .before .copy .ensures)
 
--- src/inner.rt:744:1
 same-length-2 : tie.Need-same-length-2
 same-length-2 c = search needs
 
--- src/inner.rt:744:1
 same-length-3 : tie.Need-same-length-3
 same-length-3 c = search needs
 
--- src/inner.rt:744:1
 returns-2 : tie.Need-returns-2
 returns-2 c =
     let y = c .before .before .before .before .before .before .before .before .before .before .code .given in

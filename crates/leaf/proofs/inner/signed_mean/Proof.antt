@@ -1,5 +1,4 @@
 -- A mean kept plus 256, as the signed number. Assumes nothing.
-use mathlib.Core.Path.{_≡_}
 use Prim.Native.Nat.{_<_}
 use native.Mathlib.Omega.{arith}
 use mir.Facts.{toZ-ofZ}

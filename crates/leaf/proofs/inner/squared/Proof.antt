@@ -2,7 +2,6 @@
 use mathlib.Core.Path.{refl}
 use Rattle.leaf.specs.RaisedLaws.{square-le}
 use native.Mathlib.Omega.{arith}
-use borrow.Author.Needs.{needs}
 use Rattle.leaf.proofs.inner.squared.Statement.{statement}
 use Rattle.leaf.proofs.inner.squared.Tie as tie
 

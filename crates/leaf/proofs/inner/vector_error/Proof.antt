@@ -1,3 +1,4 @@
+-- the vector lies within the sixteen
 use native.Mathlib.Omega.{arith}
 use mathlib.Core.Path.{_≡_}
 use Prim.Native.Nat.{_≤_, _*_, _-_, _+_}
@@ -8,7 +9,6 @@ use borrow.Author.Needs.{needs}
 use Rattle.leaf.proofs.inner.vector_error.Statement.{statement}
 use Rattle.leaf.proofs.inner.vector_error.Tie as tie
 
--- the vector lies within the sixteen
 room : (c : tie.After-shared-slice-known3) → length (c .before .before .before .args .t .now) * c .before .before .before .args .j + length (c .before .before .before .args .t .now) ≤ length (c .before .before .before .args .t .now) * 16
 room c = part-room (length (c .before .before .before .args .t .now)) (c .before .before .before .args .j) 16 (search needs)
 

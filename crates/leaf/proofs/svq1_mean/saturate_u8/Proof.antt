@@ -1,10 +1,6 @@
 -- `saturate_u8` meets its contract: the two tests tell which case of the definition it is. Assumes nothing.
-use mathlib.Core.Path.{_≡_}
-use mathlib.Core.Bool.{true, false}
 use mir.ValLaws.{toZ-ofZ}
 use mir.Syntax.{w16}
-use lib.IntN.{pos}
-use lib.Signed.{ltZ}
 use Rattle.leaf.specs.MeanLaws.{saturate-below, saturate-above, saturate-within}
 use Rattle.leaf.proofs.svq1_mean.saturate_u8.Statement.{statement}
 use Rattle.leaf.proofs.svq1_mean.saturate_u8.Tie as tie

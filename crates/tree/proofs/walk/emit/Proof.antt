@@ -1,16 +1,12 @@
+-- The blocks by number, one behind the other. Assumes nothing.
 use Rattle.tree.specs.WalkLaws.{Emitting, tree-at, tree-length, node-room, emit-begins, emit-turn, emit-ends}
 use Rattle.book.specs.Book.{tablesOf}
-use Rattle.tree.specs.Nodes.{nodeOf, treeOf}
-use mathlib.Core.Path.{_∙_, sym, ap, refl}
+use Rattle.tree.specs.Nodes.{treeOf}
+use mathlib.Core.Path.{_∙_, sym}
 use Prim.Native.Nat.{_-_}
-use native.Mathlib.Omega.{arith}
 use borrow.Author.Needs.{needs}
 use Rattle.tree.proofs.walk.emit.Statement.{statement}
 use Rattle.tree.proofs.walk.emit.Tie as tie
-use Rattle.tree.proofs.walk.emit.Reads as reads
-use Rattle.tree.proofs.walk.emit.Lts as lts
-use Rattle.tree.proofs.inner.level_of.Reads as level-of-reads
-use Rattle.tree.proofs.walk.put_node.Reads as put-node-reads
 
 abbrev Inv-loop : tie.InvT-loop
 Inv-loop half book out₀ at blocks k₀ i₀ out k i = Emitting (tablesOf book half) (treeOf blocks) out₀ at out k i
@@ -18,26 +14,21 @@ Inv-loop half book out₀ at blocks k₀ i₀ out k i = Emitting (tablesOf book 
 abbrev μ-loop : tie.MeasureT-loop
 μ-loop half book out₀ at blocks k₀ i₀ out k i = 63 - i
 
--- src/walk.rt:129:5
 loop-holds : tie.Need-loop-holds Inv-loop μ-loop
 loop-holds c =
     let s = c .before .before in
     let a = s .args in
     emit-begins (a .book .now) (a .half) (treeOf (a .t1)) (tree-length (a .t1) ∙ search needs) (a .out .now) (a .at) (s .pre)
 
--- src/walk.rt:130:17
 mul-b : tie.Need-mul-b Inv-loop μ-loop
 mul-b c = search needs
 
--- src/walk.rt:130:17
 array-copy-out-b : tie.Need-array-copy-out-b Inv-loop μ-loop
 array-copy-out-b c = search needs
 
--- src/walk.rt:131:33
 level-of-requires : tie.Need-level-of-requires Inv-loop μ-loop
 level-of-requires c κs = search needs
 
--- src/walk.rt:131:9
 put-node-requires : tie.Need-put-node-requires Inv-loop μ-loop
 put-node-requires c κs =
     let s = c .before .before .before .before .before .before .before in
@@ -45,15 +36,12 @@ put-node-requires c κs =
     let l = c .before .before .before .before .loop in
     node-room (a .book .now) (a .half) (treeOf (a .t1)) (tree-length (a .t1) ∙ search needs) (a .out .now) (a .at) (s .pre) (l .out) (l .k) (l .i) (l .inv) (search needs) _ (c .level-of .ensures .0) _ (sym (tree-at (a .t1) (l .i)))
 
--- src/walk.rt:132:9
 add-i : tie.Need-add-i Inv-loop μ-loop
 add-i c = search needs
 
--- src/walk.rt:129:5
 loop-less : tie.Need-loop-less Inv-loop μ-loop
 loop-less c = search needs
 
--- src/walk.rt:129:5
 loop-again : tie.Need-loop-again Inv-loop μ-loop
 loop-again c =
     let s = c .before .before .before .before .before .before .before .before .before .before in
@@ -62,11 +50,9 @@ loop-again c =
     emit-turn (a .book .now) (a .half) (treeOf (a .t1)) (tree-length (a .t1) ∙ search needs) (a .out .now) (a .at) (s .pre) (l .out) (l .k) (l .i) (l .inv) (search needs) _ (c .before .before .before .level-of .ensures .0) _ (sym (tree-at (a .t1) (l .i)))
     _ _ (c .before .before .put-node .kept .0) (c .before .before .put-node .ensures)
 
--- src/walk.rt:123:1
 same-length : tie.Need-same-length Inv-loop μ-loop
 same-length c = c .before .loop .inv .same
 
--- src/walk.rt:123:1
 returns : tie.Need-returns Inv-loop μ-loop
 returns c =
     let s = c .before .before .before .before in

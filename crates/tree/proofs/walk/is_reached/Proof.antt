@@ -1,3 +1,4 @@
+-- The root, block 0, and any other block by its parent. Assumes nothing.
 use Prim.Native.Nat.{_-_, _/_}
 use Rattle.tree.specs.WalkLaws.{tree-at, reached-root, reached-none, reached-up}
 use Rattle.tree.specs.Nodes.{treeOf}
@@ -6,35 +7,25 @@ use mathlib.Core.Path.{_∙_, sym, ap}
 use borrow.Author.Needs.{needs}
 use Rattle.tree.proofs.walk.is_reached.Statement.{statement}
 use Rattle.tree.proofs.walk.is_reached.Tie as tie
-use Rattle.tree.proofs.walk.is_reached.Reads as reads
-use Rattle.tree.proofs.walk.is_reached.Lts as lts
-use Rattle.tree.proofs.walk.is_split.Reads as is-split-reads
 
--- src/walk.rt:77:9
 returns : tie.Need-returns
 returns c = reached-root _ _ _ (c .if1 .taken)
 
--- src/walk.rt:80:9
 returns-2 : tie.Need-returns-2
 returns-2 c = reached-none _ _ _ (c .before .if1 .left) (c .if2 .taken)
 
--- src/walk.rt:82:26
 sub-parent : tie.Need-sub-parent
 sub-parent c = search needs
 
--- src/walk.rt:82:18
 mul-parent : tie.Need-mul-parent
 mul-parent c = search needs
 
--- src/walk.rt:82:18
 array-copy-out-parent : tie.Need-array-copy-out-parent
 array-copy-out-parent c = search needs
 
--- src/walk.rt:83:5
 is-split-requires : tie.Need-is-split-requires
 is-split-requires c κs = search needs
 
--- src/walk.rt:72:1
 returns-3 : tie.Need-returns-3
 returns-3 c =
     let a = c .before .before .before .before .args in

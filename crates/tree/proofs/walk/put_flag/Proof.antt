@@ -1,26 +1,20 @@
+-- No flag at L0, a 0 above it. Assumes nothing.
 use native.Mathlib.Omega.{arith}
 use Rattle.bits.specs.InnerLaws.{wrote-none}
 use Rattle.tree.specs.WalkLaws.{wrote-as, flag-none, flag-zero, flag-fits}
 use borrow.Author.Needs.{needs}
 use Rattle.tree.proofs.walk.put_flag.Statement.{statement}
 use Rattle.tree.proofs.walk.put_flag.Tie as tie
-use Rattle.tree.proofs.walk.put_flag.Reads as reads
-use Rattle.tree.proofs.walk.put_flag.Lts as lts
-use Rattle.bits.proofs.inner.put_bits.Reads as put-bits-reads
 
--- src/walk.rt:92:9
 returns : tie.Need-returns
 returns c = wrote-as _ _ (flag-none _ (c .if1 .taken)) (wrote-none _ _)
 
--- src/walk.rt:94:5
 put-bits-requires : tie.Need-put-bits-requires
 put-bits-requires c κs = (omega arith, flag-fits _ (c .before .if1 .left) (c .before .before .before .pre))
 
--- src/walk.rt:87:1
 same-length : tie.Need-same-length
 same-length c = search needs
 
--- src/walk.rt:87:1
 returns-2 : tie.Need-returns-2
 returns-2 c = wrote-as _ _ (flag-zero _ (c .before .before .before .before .if1 .left)) (c .before .before .put-bits .ensures)
 

@@ -1,3 +1,4 @@
+-- A block by its case. Assumes nothing.
 use native.Mathlib.Omega.{arith}
 use lib.ListN.{length}
 use mathlib.Core.Path.{_∙_, sym, ap, refl}
@@ -10,32 +11,22 @@ use Rattle.tree.specs.WalkLaws.{wrote-as, off-bits, split-bits, leaf-bit
 use borrow.Author.Needs.{needs}
 use Rattle.tree.proofs.walk.put_node.Statement.{statement}
 use Rattle.tree.proofs.walk.put_node.Tie as tie
-use Rattle.tree.proofs.walk.put_node.Reads as reads
-use Rattle.tree.proofs.walk.put_node.Lts as lts
-use Rattle.bits.proofs.inner.put_bits.Reads as put-bits-reads
-use Rattle.tree.proofs.walk.put_flag.Reads as put-flag-reads
-use Rattle.tree.proofs.walk.put_leaf_at.Reads as put-leaf-at-reads
 
--- src/walk.rt:113:26
 enum-told : tie.Need-enum-told
 enum-told c = search needs
 
--- src/walk.rt:114:37
 enum-told-2 : tie.Need-enum-told-2
 enum-told-2 c = search needs
 
--- src/walk.rt:114:28
 put-bits-requires : tie.Need-put-bits-requires
 put-bits-requires c κs =
     let s = c .before .before .before .before .before .before in
     let a = s .args in
     (omega arith, split-room (a .book .now) (a .half) (a .d) (nodeOf (a .b)) (length (a .out .now)) (a .at) (s .pre) (ap (λ (n : TreeNode). nodeAs n (a .b .stages)) (c .before .enum-told2 .given .1)))
 
--- src/walk.rt:115:24
 enum-known-n : tie.Need-enum-known-n
 enum-known-n c = search needs
 
--- src/walk.rt:116:17
 put-flag-requires : tie.Need-put-flag-requires
 put-flag-requires c κs =
     let s = c .before .before .before .before .before .before .before in
@@ -43,7 +34,6 @@ put-flag-requires c κs =
     flag-room (a .book .now) (a .half) (a .d) (nodeOf (a .b)) (length (a .out .now)) (a .at) (s .pre) (leafOf (c .before .before .n .given .0 .0) (a .b .stages))
     (ap (λ (n : TreeNode). nodeAs n (a .b .stages)) (c .before .before .n .given .1))
 
--- src/walk.rt:117:13
 put-leaf-at-requires : tie.Need-put-leaf-at-requires
 put-leaf-at-requires c κs =
     let s = c .before .before .before .before .before .before .before .before .before .before .before in
@@ -52,28 +42,23 @@ put-leaf-at-requires c κs =
     leaf-room (a .book .now) (a .half) (a .d) (nodeOf (a .b)) (length (a .out .now)) (a .at) (s .pre) (leafOf (n .given .0 .0) (a .b .stages))
     (ap (λ (n : TreeNode). nodeAs n (a .b .stages)) (n .given .1)) refl (c .before .before .before .put-flag .ensures) _ (c .before .before .before .put-flag .kept .0)
 
--- src/walk.rt:106:1
 returns : tie.Need-returns
 returns c =
     let a = c .before .before .before .before .before .args in
     wrote-as _ _ (off-bits (tablesOf (a .book .now) (a .half)) (a .d) (nodeOf (a .b)) (ap (λ (n : TreeNode). nodeAs n (a .b .stages)) (c .enum-told .given .1))) (wrote-none _ _)
 
--- src/walk.rt:106:1
 same-length : tie.Need-same-length
 same-length c = search needs
 
--- src/walk.rt:106:1
 returns-2 : tie.Need-returns-2
 returns-2 c =
     let a = c .before .before .before .before .before .before .before .before .before .args in
     wrote-as _ _ (split-bits (tablesOf (a .book .now) (a .half)) (a .d) (nodeOf (a .b)) (ap (λ (n : TreeNode). nodeAs n (a .b .stages)) (c .before .before .before .before .enum-told2 .given .1)) ∙ sym split-one)
     (c .before .before .put-bits .ensures)
 
--- src/walk.rt:106:1
 same-length-2 : tie.Need-same-length-2
 same-length-2 c = search needs
 
--- src/walk.rt:106:1
 returns-3 : tie.Need-returns-3
 returns-3 c =
     let s = c .before .before .before .before .before .before .before .before .before .before .before .before .before .before in

@@ -1,3 +1,4 @@
+-- The blocks by number; the first refusal ends the reading. Assumes nothing.
 use Rattle.tree.specs.WalkReadLaws.{Reading, read-begins, read-ends, read-refused, passed, taken, refused, moved}
 use Rattle.tree.specs.TreeBits.{readTree}
 use Rattle.tree.specs.Nodes.{treeOf}
@@ -5,18 +6,12 @@ use Rattle.book.specs.Book.{tablesOf}
 use Rattle.bits.specs.Bits.{bitsOf}
 use lib.ListN.{drop}
 use mathlib.Core.Logic.{⊎-elim}
-use mathlib.Core.Path.{_≡_, _∙_, sym, ap, refl}
-use Prim.Native.Nat.{ℕ, _-_}
+use mathlib.Core.Path.{_∙_, sym, refl}
+use Prim.Native.Nat.{_-_}
 use native.Mathlib.Omega.{arith}
 use borrow.Author.Needs.{needs}
 use Rattle.tree.proofs.walk.read.Statement.{statement}
 use Rattle.tree.proofs.walk.read.Tie as tie
-use Rattle.tree.proofs.walk.read.Reads as reads
-use Rattle.tree.proofs.walk.read.Lts as lts
-use Rattle.tree.proofs.inner.level_of.Reads as level-of-reads
-use Rattle.tree.proofs.walk.first_of.Reads as first-of-reads
-use Rattle.tree.proofs.walk.is_reached.Reads as is-reached-reads
-use Rattle.tree.proofs.walk.read_node.Reads as read-node-reads
 
 abbrev Inv-loop : tie.InvT-loop
 Inv-loop s at half book level root blocks₀ k₀ i₀ blocks k i = Reading (tablesOf book half) root s (readTree (tablesOf book half) level (drop at (bitsOf s))) blocks k i
@@ -24,11 +19,9 @@ Inv-loop s at half book level root blocks₀ k₀ i₀ blocks k i = Reading (tab
 abbrev μ-loop : tie.MeasureT-loop
 μ-loop s at half book level root blocks₀ k₀ i₀ blocks k i = 63 - i
 
--- src/walk.rt:224:9
 first-of-requires : tie.Need-first-of-requires Inv-loop μ-loop
 first-of-requires c κs = search needs
 
--- src/walk.rt:231:5
 loop-holds : tie.Need-loop-holds Inv-loop μ-loop
 unfolding treeOf
 loop-holds c =
@@ -36,22 +29,18 @@ loop-holds c =
     let a = s .args in
     read-begins (tablesOf (a .book .now) (a .half)) (a .level) (a .s .now) (a .at) (c .first-of .result) (c .first-of .ensures) _ refl (omega (arith, s .pre .from .bits-fit))
 
--- src/walk.rt:232:12
 is-reached-requires : tie.Need-is-reached-requires Inv-loop μ-loop
 is-reached-requires c κs = search needs
 
--- src/walk.rt:233:49
 level-of-requires : tie.Need-level-of-requires Inv-loop μ-loop
 level-of-requires c κs = search needs
 
--- src/walk.rt:233:17
 read-node-requires : tie.Need-read-node-requires Inv-loop μ-loop
 read-node-requires c κs =
     let p = c .before .before .before .before .before .before .before .before .pre in
     let l = c .before .before .before .before .loop in
     record { passes = p .passes; deep = c .level-of .ensures .1; from = record { bytes-fit = p .from .bytes-fit; bits-fit = omega (arith, l .inv .within) } }
 
--- src/walk.rt:236:17
 returns : tie.Need-returns Inv-loop μ-loop
 returns c =
     let a = c .before .before .before .before .before .before .before .before .before .before .args in
@@ -61,23 +50,18 @@ returns c =
     (refused (tablesOf (a .book .now) (a .half)) (f .result) (a .s .now) _ (l .blocks) (l .k) (l .i) (l .inv) (search needs) _ (c .before .before .level-of .ensures .0) (c .before .read-node .result)
     (sym (c .before .before .before .before .is-reached .ensures) ∙ c .before .before .before .if1 .taken) (c .before .read-node .ensures) (c .if2 .taken))
 
--- src/walk.rt:243:13
 mul-blocks : tie.Need-mul-blocks Inv-loop μ-loop
 mul-blocks c = search needs
 
--- src/walk.rt:243:13
 array-set-from-blocks : tie.Need-array-set-from-blocks Inv-loop μ-loop
 array-set-from-blocks c = search needs
 
--- src/walk.rt:246:9
 add-i : tie.Need-add-i Inv-loop μ-loop
 add-i c = search needs
 
--- src/walk.rt:231:5
 loop-less : tie.Need-loop-less Inv-loop μ-loop
 loop-less c = search needs
 
--- src/walk.rt:231:5
 loop-again : tie.Need-loop-again Inv-loop μ-loop
 loop-again c =
     let a = c .before .before .before .before .before .before .before .args in
@@ -91,7 +75,6 @@ loop-again c =
     (λ w. moved _ _ _ _ _ _ _ _ _ (w .1) (w .2) (passed (tablesOf (a .book .now) (a .half)) (f .result) (a .s .now) _ (l .blocks) (l .k) (l .i) (l .inv) h (r ∙ w .0 .left)))
     (c .if1 .came)
 
--- src/walk.rt:220:1
 returns-2 : tie.Need-returns-2 Inv-loop μ-loop
 returns-2 c =
     let a = c .before .before .before .before .before .args in

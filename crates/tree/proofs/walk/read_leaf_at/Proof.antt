@@ -1,28 +1,25 @@
-use native.Mathlib.Omega.{arith}
-use borrow.Author.Needs.{needs}
+-- A leaf by the book's two tables for it. Assumes nothing.
+use Rattle.tree.specs.WalkReadLaws.{leaf-here}
+use Rattle.leaf.specs.LentLaws.{book-tables}
+use Rattle.book.specs.BookLaws.{good-book}
 use Rattle.tree.proofs.walk.read_leaf_at.Statement.{statement}
 use Rattle.tree.proofs.walk.read_leaf_at.Tie as tie
-use Rattle.tree.proofs.walk.read_leaf_at.Reads as reads
-use Rattle.tree.proofs.walk.read_leaf_at.Lts as lts
-use Rattle.leaf.proofs.inner.read_leaf.Reads as read-leaf-reads
-use Rattle.tree.proofs.walk.mean_table.Reads as mean-table-reads
-use Rattle.tree.proofs.walk.stage_table.Reads as stage-table-reads
 
--- src/walk.rt:183:9
 stage-table-requires : tie.Need-stage-table-requires
-stage-table-requires c κs = search needs
+stage-table-requires c κs = (good-book _ (c .before .before .pre .passes) .size, c .before .before .pre .deep)
 
--- src/walk.rt:184:9
 mean-table-requires : tie.Need-mean-table-requires
-mean-table-requires c κs = search needs
+mean-table-requires c κs = good-book _ (c .before .before .before .pre .passes) .size
 
--- src/walk.rt:185:9
 read-leaf-requires : tie.Need-read-leaf-requires
-read-leaf-requires c κs = search needs
+read-leaf-requires c κs =
+    let s = c .before .before .before .before in
+    (s .pre .from, rw (c .before .stage-table .ensures, c .mean-table .ensures) (book-tables (s .args .book .now) (s .pre .passes) (s .args .half) (s .args .d) (s .pre .deep)))
 
--- src/walk.rt:179:1
 returns : tie.Need-returns
-returns c = search needs
+returns c =
+    let s = c .before .before .before .before .before .before in
+    leaf-here (s .args .book .now) (s .args .half) (s .args .d) _ _ (s .args .s .now) (s .args .at) _ (c .before .before .before .stage-table .ensures) (c .before .before .mean-table .ensures) (c .before .read-leaf .ensures)
 
 pub read-leaf-at-spec : {M : Type 1} → statement M
 read-leaf-at-spec =

@@ -1,3 +1,4 @@
+-- A leaf at L0, and above it what the flag says. Assumes nothing.
 use native.Mathlib.Omega.{arith}
 use Rattle.tree.specs.WalkReadLaws.{flag-none, flag-short, flag-leaf, flag-split}
 use Rattle.book.specs.Book.{tablesOf}
@@ -5,20 +6,14 @@ use Rattle.bits.specs.BitsLaws.{length-bitsOf}
 use Rattle.bits.specs.Bits.{bitsOf}
 use lib.ListN.{length}
 use Prim.Native.Nat.{_<_, _≤_}
-use mathlib.Core.Path.{_≡_, _∙_, sym, ap, refl}
+use mathlib.Core.Path.{_∙_, sym}
 use borrow.Author.Needs.{needs}
 use Rattle.tree.proofs.walk.read_node.Statement.{statement}
 use Rattle.tree.proofs.walk.read_node.Tie as tie
-use Rattle.tree.proofs.walk.read_node.Reads as reads
-use Rattle.tree.proofs.walk.read_node.Lts as lts
-use Rattle.bits.proofs.inner.get_bits.Reads as get-bits-reads
-use Rattle.tree.proofs.walk.read_leaf_at.Reads as read-leaf-at-reads
 
--- src/walk.rt:194:9
 read-leaf-at-requires : tie.Need-read-leaf-at-requires
 read-leaf-at-requires c κs = search needs
 
--- src/walk.rt:194:9
 returns : tie.Need-returns
 returns c =
     let a = c .before .before .before .before .args in
@@ -27,11 +22,9 @@ returns c =
       within = c .read-leaf-at .ensures .within;
     }
 
--- src/walk.rt:196:8
 mul-if2 : tie.Need-mul-if2
 mul-if2 c = search needs
 
--- src/walk.rt:197:9
 returns-2 : tie.Need-returns-2
 returns-2 c =
     let a = c .before .before .before .before .args in
@@ -41,21 +34,17 @@ returns-2 c =
       within = omega (arith, c .before .before .before .before .pre .from .bits-fit);
     }
 
--- src/walk.rt:206:8
 get-bits-requires : tie.Need-get-bits-requires
 get-bits-requires c κs = search needs
 
--- src/walk.rt:207:32
 add-read-leaf-at : tie.Need-add-read-leaf-at
 add-read-leaf-at c = search needs
 
--- src/walk.rt:207:9
 read-leaf-at-requires-2 : tie.Need-read-leaf-at-requires-2
 read-leaf-at-requires-2 c κs =
     let p = c .before .before .before .before .before .before .pre in
     record { passes = p .passes; deep = p .deep; from = record { bytes-fit = p .from .bytes-fit; bits-fit = omega arith } }
 
--- src/walk.rt:207:9
 returns-3 : tie.Need-returns-3
 returns-3 c =
     let a = c .before .before .before .before .before .before .before .args in
@@ -66,11 +55,9 @@ returns-3 c =
       within = c .read-leaf-at2 .ensures .within;
     }
 
--- src/walk.rt:211:15
 add-t7 : tie.Need-add-t7
 add-t7 c = search needs
 
--- src/walk.rt:189:1
 returns-4 : tie.Need-returns-4
 returns-4 c =
     let a = c .before .before .before .before .before .before .args in

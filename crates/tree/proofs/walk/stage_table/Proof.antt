@@ -1,3 +1,4 @@
+-- The level's part of the half's family. Assumes nothing.
 use Rattle.book.specs.declared.svq1_vlc.Svq1Half.the-variants.{Intra, Inter}
 use Rattle.book.specs.LevelLaws.{lent-stage}
 use Rattle.book.specs.Calls.{lentFamily, familyPart}
@@ -7,44 +8,31 @@ use mathlib.Core.Path.{_∙_, ap}
 use borrow.Author.Needs.{needs}
 use Rattle.tree.proofs.walk.stage_table.Statement.{statement}
 use Rattle.tree.proofs.walk.stage_table.Tie as tie
-use Rattle.tree.proofs.walk.stage_table.Reads as reads
-use Rattle.tree.proofs.walk.stage_table.Lts as lts
-use Rattle.book.proofs.svq1_blocktree.Svq1Level.stage_table.Reads as stage-table-reads
-use Rattle.tree.proofs.walk.level_at.Reads as level-at-reads
 
--- src/walk.rt:55:9
 level-at-requires : tie.Need-level-at-requires
 level-at-requires c κs = search needs
 
--- src/walk.rt:56:23
 sub-stage-table : tie.Need-sub-stage-table
 sub-stage-table c = search needs
 
--- src/walk.rt:56:23
 part-stage-table-start : tie.Need-part-stage-table-start
 part-stage-table-start c = search needs
 
--- src/walk.rt:56:23
 part-stage-table-end : tie.Need-part-stage-table-end
 part-stage-table-end c = search needs
 
--- src/walk.rt:56:42
 sub-stage-table-2 : tie.Need-sub-stage-table-2
 sub-stage-table-2 c = search needs
 
--- src/walk.rt:56:42
 part-stage-table-start-2 : tie.Need-part-stage-table-start-2
 part-stage-table-start-2 c = search needs
 
--- src/walk.rt:56:42
 part-stage-table-end-2 : tie.Need-part-stage-table-end-2
 part-stage-table-end-2 c = search needs
 
--- src/walk.rt:56:5
 stage-table-requires : tie.Need-stage-table-requires
 stage-table-requires c κs = search needs
 
--- src/walk.rt:51:1
 returns : tie.Need-returns
 returns c =
     let s = c .before .before .before .before .before in

@@ -4,7 +4,7 @@ use lib.IntN.{pos, natAbs}
 use mir.ValLaws.{toZ-ofZ}
 use mir.Syntax.{w32}
 use mir.Val.{SFits}
-use Rattle.book.specs.House.{signedByte}
+use Rattle.bits.specs.Basics.{signedByte}
 use Rattle.motion.specs.CacheLaws.{byte-low, byte-high}
 use Rattle.motion.proofs.inner.mv_cache.byte_of.Statement.{statement}
 use Rattle.motion.proofs.inner.mv_cache.byte_of.Tie as tie

@@ -1,51 +1,39 @@
-use Rattle.book.specs.declared.svq1_vlc.Svq1Half.{Svq1Half}
-use Rattle.book.specs.Book.{meanTable}
-use mathlib.Core.Path.{sym, ap}
+-- A half's mean table stands at its place in the book. Assumes nothing.
 use borrow.Author.Needs.{needs}
-use Rattle.tree.proofs.walk.mean_table.Statement.{statement}
-use Rattle.tree.proofs.walk.mean_table.Tie as tie
-use Rattle.tree.proofs.walk.mean_table.Reads as reads
-use Rattle.tree.proofs.walk.mean_table.Lts as lts
+use Rattle.leaf.proofs.inner.mean_table.Statement.{statement}
+use Rattle.leaf.proofs.inner.mean_table.Tie as tie
 
--- src/walk.rt:45:28
 enum-told : tie.Need-enum-told
 enum-told c = search needs
 
--- src/walk.rt:45:28
 sub-result : tie.Need-sub-result
 sub-result c = search needs
 
--- src/walk.rt:45:28
 part-result-start : tie.Need-part-result-start
 part-result-start c = search needs
 
--- src/walk.rt:45:28
 part-result-end : tie.Need-part-result-end
 part-result-end c = search needs
 
--- src/walk.rt:46:28
 enum-told-2 : tie.Need-enum-told-2
 enum-told-2 c = search needs
 
--- src/walk.rt:46:28
 sub-result-2 : tie.Need-sub-result-2
 sub-result-2 c = search needs
 
--- src/walk.rt:46:28
 part-result-start-2 : tie.Need-part-result-start-2
 part-result-start-2 c = search needs
 
--- src/walk.rt:46:28
 part-result-end-2 : tie.Need-part-result-end-2
 part-result-end-2 c = search needs
 
--- src/walk.rt:40:1
 returns : tie.Need-returns
-returns c = sym (ap (λ (h : Svq1Half). meanTable h (c .before .before .before .args .book .now)) (c .before .enum-told .given .1))
+returns c =
+    rw (c .before .enum-told .given .1)
 
--- src/walk.rt:40:1
 returns-2 : tie.Need-returns-2
-returns-2 c = sym (ap (λ (h : Svq1Half). meanTable h (c .before .before .before .args .book .now)) (c .before .enum-told2 .given .1))
+returns-2 c =
+    rw (c .before .enum-told2 .given .1)
 
 pub mean-table-spec : {M : Type 1} → statement M
 mean-table-spec =
