@@ -1,15 +1,15 @@
 -- The leaf rules look at no vector behind the stages that are open: where two sets of vectors agree on those, the rules choose the same leaf.
 -- So a leaf that the search found in the raised codebook is the leaf by the codebook itself.
 -- Assumes nothing.
-use mathlib.Core.Path.{_≡_, refl, sym, _∙_, ap, ap₂}
+use mathlib.Core.Path.{_≡_, refl, sym, _∙_, ap}
 use mathlib.Core.List.{List, [], _∷_}
 use mathlib.Core.Bool.{Bool, true, false, _&&_}
 use Prim.Native.Nat.{ℕ, zero, suc, _+_, _*_, _≤_, _<_}
 use native.Mathlib.Omega.{arith}
 use native.Mathlib.Decide.{decLt}
-use lib.Dec.{leb, ltb}
+use lib.Dec.{leb}
 use lib.IntN.{ℤ}
-use lib.ListN.{length, getD}
+use lib.ListN.{length}
 use borrow.Author.Tests.{lt-ltb, le-ltb}
 use Rattle.bits.specs.Basics.{pick, Bytes}
 use Rattle.book.specs.Book.{codebookBytes}
@@ -18,11 +18,11 @@ use Rattle.book.specs.declared.svq1_vlc.Svq1Half.{Svq1Half}
 use Rattle.book.specs.declared.svq1_vlc.Svq1Half.the-variants.{Intra, Inter}
 use Rattle.leaf.specs.Codebook.{pageOffset, vectorAt}
 use Rattle.leaf.specs.Mean.{residual, meanOf}
-use Rattle.leaf.specs.Leaf.{Leaf, skip, coded, Vectors, sse, plus, seeded, staged, samples, leafShown, argmin, stageError, bestVector, stages, codedLeaf, leafRule, capAt}
+use Rattle.leaf.specs.Leaf.{skip, coded, Vectors, sse, plus, seeded, staged, samples, leafShown, argmin, stageError, bestVector, stages, codedLeaf, leafRule, capAt}
 use Rattle.leaf.specs.LeafLaws.{Small, argmin-le, stages-few, stages-small}
-use Rattle.leaf.specs.Raised.{vectorsIn, raisedCodebook, leafOf}
+use Rattle.leaf.specs.Raised.{vectorsIn, raisedCodebook}
 use Rattle.leaf.specs.RasterLaws.{vectors-raised}
-use Rattle.leaf.specs.Inner.{Leafed, Chosen, LeafFound, pageStart}
+use Rattle.leaf.specs.Inner.{Chosen, LeafFound, pageStart}
 use Rattle.leaf.specs.declared.svq1_enc_leaf.LeafCode.{LeafCode}
 
 -- the same sixteen vectors in each of the first n stages

@@ -1,6 +1,6 @@
 -- What the calls on the codebook answer (document 01, `svq1_codebook.rs`).
 use Prim.Native.Nat.{ℕ}
-use mathlib.Core.Bool.{Bool, _&&_}
+use mathlib.Core.Bool.{_&&_}
 use lib.Dec.{ltb}
 use Rattle.bits.specs.Basics.{pick}
 use Rattle.book.specs.Level.{area}

@@ -18,7 +18,7 @@ use Rattle.book.specs.declared.svq1_vlc.Svq1Half.{Svq1Half}
 use Rattle.book.specs.declared.svq1_vlc.Svq1Half.the-variants.{Inter}
 use Rattle.leaf.specs.declared.svq1_enc_leaf.LeafAnswer.{LeafAnswer}
 use Rattle.leaf.specs.declared.svq1_enc_leaf.LeafCode.{LeafCode}
-use Rattle.leaf.specs.declared.svq1_enc_leaf.LeafCode.the-variants.{Skip, Coded}
+use Rattle.leaf.specs.declared.svq1_enc_leaf.LeafCode.the-variants.{Skip}
 
 -- 8 by the numbers of a call: level, half, target and predictor lengths, cap, and whether skip is allowed
 unfoldable pub blockFits : ℕ → ℕ → ℕ → ℕ → ℕ → Bool → Bool

@@ -1,6 +1,6 @@
 -- Laws of the leaf search as a call.
 -- Assumes nothing.
-use Prim.Native.Nat.{ℕ, zero, suc, _+_, _-_, _*_, _≤_, _<_}
+use Prim.Native.Nat.{ℕ, zero, suc, _+_, _-_, _≤_, _<_}
 use mathlib.Core.Path.{_≡_, refl, sym, ap, _∙_}
 use mathlib.Core.Bool.{Bool, true, false, not, _&&_}
 use mathlib.Core.List.{List, [], _++_}
@@ -9,16 +9,16 @@ use native.Mathlib.Decide.{decLt}
 use lib.Dec.{eqb, leb, ltb}
 use lib.ListN.{length, take, drop, replicate, length-append, length-drop}
 use borrow.Author.Tests.{lt-ltb, le-ltb, eq-eqb, ne-eqb, le-leb, lt-leb, ltb-true, leb-true, eqb-true}
-use Rattle.bits.specs.Basics.{pick, orElse, unless, Bytes}
+use Rattle.bits.specs.Basics.{unless, Bytes}
 use Rattle.bits.specs.BasicsLaws.{both-true, or-none, or-first, or-next, unless-none}
-use Rattle.bits.specs.Calls.{Answer, done, refused, unlessRefused}
+use Rattle.bits.specs.Calls.{refused}
 use Rattle.book.specs.Book.{dataRefusal, bookRefusal, codebookBytes, tablesOf}
 use Rattle.book.specs.BookLaws.{data-passes}
 use Rattle.book.specs.Level.{area, levelNumber}
 use Rattle.book.specs.declared.svq1_blocktree.Svq1Level.{Svq1Level}
 use Rattle.book.specs.declared.svq1_blocktree.Svq1Level.the-variants.{L0, L1, L2, L3, L4, L5}
 use Rattle.book.specs.declared.svq1_vlc.Svq1Half.{Svq1Half}
-use Rattle.book.specs.declared.svq1_vlc.Svq1Half.the-variants.{Intra, Inter}
+use Rattle.book.specs.declared.svq1_vlc.Svq1Half.the-variants.{Inter}
 use Rattle.leaf.specs.Codebook.{vectorAt}
 use Rattle.leaf.specs.LeafBits.{leafBits}
 use Rattle.leaf.specs.Leaf.{capAt}
@@ -30,8 +30,8 @@ use Rattle.leaf.specs.Lent.{CodeFits}
 use Rattle.leaf.specs.LentLaws.{allowed-fits}
 use Rattle.leaf.specs.declared.svq1_enc_leaf.LeafAnswer.{LeafAnswer}
 use Rattle.leaf.specs.declared.svq1_enc_leaf.LeafCode.{LeafCode}
-use Rattle.leaf.specs.LeafCall.{BlockIn, halfAt, blockOk, blockRefusal, LeafChosen, leafChosen, leafAnswer}
-use Rattle.leaf.specs.LeafAnswer.{blockFits, leafAnswerOf, refusedAnswer, LevelChosen, LeafAnswered}
+use Rattle.leaf.specs.LeafCall.{BlockIn, halfAt, blockOk, blockRefusal, leafChosen, leafAnswer}
+use Rattle.leaf.specs.LeafAnswer.{blockFits, refusedAnswer, LevelChosen, LeafAnswered}
 
 -- ---- 8, test by test
 module _ (level half target predictor cap : ℕ) (skip : Bool) where

@@ -1,15 +1,15 @@
 -- What writing and reading a leaf by two lent tables asks, and what it leaves: the stage table of the leaf's level and the mean table of its half.
 use Prim.Native.Nat.{ℕ, zero, suc, _+_, _-_, _*_, _≤_, _<_}
 use mathlib.Core.Path.{_≡_}
-use mathlib.Core.Bool.{true, false}
+use mathlib.Core.Bool.{true}
 use mathlib.Core.List.{List, [], _∷_, _++_}
 use lib.Dec.{eqb}
 use lib.ListN.{length, take, drop, replicate}
 use lib.IntN.{ℤ}
 use Rattle.bits.specs.Basics.{pick}
 use Rattle.bits.specs.Bits.{valOf}
-use Rattle.bits.specs.Codes.{codesOf, codeLen, goodTable, Got, got, bad, then, takeCode}
-use Rattle.bits.specs.Inner.{Fits, GoodEntry}
+use Rattle.bits.specs.Codes.{codesOf, goodTable, Got, got, bad, then, takeCode}
+use Rattle.bits.specs.Inner.{Fits}
 use Rattle.book.specs.Book.{Tables}
 use Rattle.book.specs.BookLaws.{means}
 use Rattle.book.specs.declared.svq1_vlc.Svq1Half.{Svq1Half}
@@ -55,7 +55,7 @@ abbrev pub LeafSize : Svq1Half → List ℕ → List ℕ → LeafCode → ℕ �
 LeafSize h stage mean c r = (js : List ℕ) → length js ≡ 6 → r ≡ length (lentBits h stage mean (leafOf c js))
 
 -- ---- reading
--- the bit string that a struct answers for: the leaf and the bits left of it, or the refusal
+-- what the struct says of the bits that were read: the leaf and the bits left, or the refusal
 abbrev pub leafGot : List ℕ → ReadLeaf → Got Leaf
 leafGot bits r = pick (eqb (r .refused) 0) (got (leafOf (r .code) (r .stages)) (drop (r .next) bits)) (bad (r .refused))
 
@@ -91,7 +91,7 @@ unfoldable pub nibbles : List ℕ → ℕ → ℕ → List ℕ
 nibbles bits at zero = []
 nibbles bits at (suc n) = valOf (take 4 (drop at bits)) ∷ nibbles bits (at + 4) n
 
--- what stands behind a mean, and a leaf whose mean is m
+-- what stands behind the mean m: n stages
 abbrev pub readIndices : ℤ → ℕ → List ℕ → Got Leaf
 readIndices m n bits = then (readStages n bits) (λ js q. got (coded m js) q)
 

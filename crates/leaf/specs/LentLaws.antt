@@ -1,13 +1,13 @@
 -- Laws of leaves written by lent tables.
 -- Assumes nothing.
-use Prim.Native.Nat.{ℕ, zero, suc, _+_, _-_, _*_, _/_, _≤_, _<_, min}
+use Prim.Native.Nat.{ℕ, _+_, _*_, _/_, _≤_, _<_, min}
 use mathlib.Core.Path.{_≡_, refl, sym, ap, _∙_}
-use mathlib.Core.Bool.{true, false}
+use mathlib.Core.Bool.{true}
 use mathlib.Core.List.{List, [], _∷_, _++_, append-assoc, append-nil}
 use native.Mathlib.Omega.{arith}
 use native.Mathlib.Numerals.{add-one}
 use lib.IntN.{ℤ}
-use lib.ListN.{length, take, getD, length-append, length-take}
+use lib.ListN.{length, take, getD, length-take}
 use lib.Seq.{take-suc}
 use Rattle.bits.specs.Bits.{msb}
 use Rattle.bits.specs.ReadLaws.{take-min}
@@ -18,13 +18,12 @@ use Rattle.bits.specs.InnerLaws.{wrote-none, wrote-more, wrote-size}
 use Rattle.book.specs.Book.{Tables, tablesOf, stageTable, stageFamily, meanTable, bookRefusal}
 use Rattle.book.specs.BookLaws.{means, good-book}
 use Rattle.book.specs.declared.svq1_vlc.Svq1Half.{Svq1Half}
-use Rattle.book.specs.declared.svq1_vlc.Svq1Half.the-variants.{Intra, Inter}
 use Rattle.leaf.specs.Mean.{meanPosition}
 use Rattle.leaf.specs.Leaf.{Leaf, skip, coded}
 use Rattle.leaf.specs.LeafBits.{stageBits, leafBits}
-use Rattle.leaf.specs.LeafBitsLaws.{Allowed, length-stages, length-leaf}
+use Rattle.leaf.specs.LeafBitsLaws.{Allowed, length-leaf}
 use Rattle.leaf.specs.Raised.{leafOf}
-use Rattle.leaf.specs.Lent.{lentTables, lentBits, LentTables, CodeFits, Writable}
+use Rattle.leaf.specs.Lent.{lentTables, lentBits, LentTables, CodeFits}
 use Rattle.leaf.specs.declared.svq1_enc_leaf.LeafCode.{LeafCode}
 use Rattle.leaf.specs.declared.svq1_enc_leaf.LeafCode.the-variants.{Skip, Coded}
 

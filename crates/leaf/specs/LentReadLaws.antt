@@ -6,20 +6,18 @@ use mathlib.Core.Bool.{Bool, true, false, _&&_}
 use mathlib.Core.List.{List, [], _∷_, _++_}
 use native.Mathlib.Omega.{arith}
 use native.Mathlib.Decide.{decLe}
-use native.Mathlib.Numerals.{add-one}
-use native.Mathlib.Nat.{add-zero}
-use lib.Dec.{eqb, ltb}
+use lib.Dec.{ltb}
 use lib.IntN.{ℤ}
 use lib.ListN.{length, take, drop, set, replicate, length-append, length-drop}
 use lib.Seq.{take-at}
-use borrow.Author.Tests.{eq-eqb, ne-eqb}
+use borrow.Author.Tests.{ne-eqb}
 use Rattle.bits.specs.Basics.{pick}
 use mir.Syntax.{w16}
 use mir.Val.{SFits}
 use Rattle.bits.specs.Bits.{valOf, bitsOf}
 use Rattle.bits.specs.BitsLaws.{length-bitsOf}
 use Rattle.bits.specs.Inner.{Fits}
-use Rattle.bits.specs.Codes.{begins, firstCode, anyStart, readCode, Got, got, bad, then, codeGot, takeCode, takeBits, codesOf}
+use Rattle.bits.specs.Codes.{begins, firstCode, anyStart, readCode, Got, got, bad, then, takeCode, takeBits, codesOf}
 use Rattle.bits.specs.CodesLaws.{begins-true, length-codesOf}
 use Rattle.bits.specs.CodeReadLaws.{code-at-bit, bits-at-bit, bits-short}
 use Rattle.bits.specs.declared.svq1_vlc.CodeRead.{CodeRead}
@@ -30,12 +28,10 @@ use Rattle.book.specs.declared.svq1_vlc.Svq1Half.the-variants.{Intra, Inter}
 use Rattle.book.specs.BookLaws.{means}
 use Rattle.leaf.specs.SignedLaws.{sub-sfits}
 use Rattle.leaf.specs.Mean.{meanAt}
-use Rattle.leaf.specs.Leaf.{Leaf, skip, coded}
+use Rattle.leaf.specs.Leaf.{skip}
 use Rattle.leaf.specs.LeafBits.{readStages, readSkip, readRest, readLeaf}
-use Rattle.leaf.specs.Raised.{leafOf}
-use Rattle.leaf.specs.Lent.{lentTables, leafGot, padded, codeOf, sixOf, Clean, refusedLeaf, LeafRead, nibbles, readIndices, readMean, lentRest}
+use Rattle.leaf.specs.Lent.{lentTables, padded, refusedLeaf, LeafRead, nibbles, readIndices, readMean, lentRest}
 use Rattle.leaf.specs.declared.inner.ReadLeaf.{ReadLeaf}
-use Rattle.leaf.specs.declared.svq1_enc_leaf.LeafCode.{LeafCode}
 use Rattle.leaf.specs.declared.svq1_enc_leaf.LeafCode.the-variants.{Skip, Coded}
 
 -- ---- the stage table is read once: what stands behind its code is read by the mean table alone

@@ -1,23 +1,22 @@
 -- Laws of the raised codebook: at L0 to L3 its pages hold the codebook's vectors.
 -- Assumes nothing.
 use mathlib.Core.Path.{_≡_, refl, sym, _∙_, ap}
-use mathlib.Core.List.{List, [], _∷_, _++_, map}
-use mathlib.Core.Bool.{Bool, true, false}
+use mathlib.Core.List.{List, _∷_}
 use Prim.Native.Nat.{ℕ, zero, suc, _+_, _-_, _*_, _/_, _%_, _≤_, _<_}
-use native.Mathlib.Nat.{add-zero, le-of-suc-le-suc, not-suc-le-zero}
+use native.Mathlib.Nat.{add-zero}
 use native.Mathlib.Omega.{arith}
 use native.Mathlib.Decide.{decLt}
 use borrow.Author.Tests.{lt-ltb, le-ltb}
-use lib.IntN.{ℤ, pos, negsuc, subℕ}
+use lib.IntN.{ℤ, subℕ}
 use lib.ListN.{length, take, drop, getD}
-use Rattle.bits.specs.Basics.{pick, Bytes, valuesFrom, signedOf}
+use Rattle.bits.specs.Basics.{Bytes, valuesFrom, signedOf}
 use Rattle.bits.specs.BasicsLaws.{length-values, value-at}
 use Rattle.book.specs.Book.{codebookBytes}
 use Rattle.book.specs.Level.{area}
 use Rattle.book.specs.declared.svq1_vlc.Svq1Half.{Svq1Half}
 use Rattle.book.specs.declared.svq1_vlc.Svq1Half.the-variants.{Intra, Inter}
 use Rattle.leaf.specs.Codebook.{pageOffset, byteOf, vectorAt}
-use Rattle.leaf.specs.CodebookLaws.{Raster, raster}
+use Rattle.leaf.specs.CodebookLaws.{raster}
 use Rattle.leaf.specs.Raised.{less, originOf, raisedCodebook, vector, vectorsIn}
 
 -- ---- where a byte of the copy comes from

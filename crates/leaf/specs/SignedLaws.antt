@@ -1,13 +1,13 @@
 -- Laws of signed numbers: what fits in 16 and in 32 bits, and what is not below 0.
 -- Assumes nothing.
-use mathlib.Core.Path.{_≡_, refl, sym, _∙_, ap, subst⁻¹}
-use Prim.Native.Nat.{ℕ, zero, suc, _+_, _-_, _*_, _≤_, _<_, _^_}
+use mathlib.Core.Path.{_≡_, refl}
+use Prim.Native.Nat.{ℕ, suc, _≤_, _<_}
 use native.Mathlib.Omega.{arith}
 use native.Mathlib.Decide.{decLe}
 use borrow.Author.Tests.{lt-ltb, le-ltb, ltb-true}
 use mathlib.Core.Bool.{true, false, true≢false}
 use mir.Syntax.{w16, w32}
-use mir.Val.{SFits, toZ, ofZ}
+use mir.Val.{SFits, toZ}
 use lib.Dec.{T}
 use lib.Signed.{mag, ltZ, nonNeg}
 use lib.IntN.{ℤ, pos, negsuc, subℕ, natAbs, _+ℤ_}

@@ -1,26 +1,26 @@
 // Functions that only the crates of this repository call. Most have a `requires`: the caller, proved too, meets it.
 // The leaf search keeps each sum as an unsigned 16-bit number, the sum plus a bias: 256 for the mean and 128 more for each stage.
 ghost use mathlib.Core.Path.{_≡_};
+ghost use mathlib.Core.Bool.{_&&_};
 ghost use Prim.Native.Nat.{ℕ, _+_, _-_, _*_, _%_, _<_, _≤_, min};
 ghost use lib.ListN.{length, take, drop, getD};
 ghost use lib.IntN.{subℕ};
+ghost use lib.Dec.{ltb};
 ghost use Rattle.bits.specs.Basics.{gap, natural};
+ghost use Rattle.bits.specs.Inner.{Fits, Wrote};
+ghost use Rattle.bits.specs.Bits.{valOf, bitsOf};
 ghost use Rattle.book.specs.Book.{bookBytes, codebookBytes, meanTable, bookRefusal};
 ghost use Rattle.book.specs.Level.{levelNumber};
-ghost use Rattle.leaf.specs.LeafAnswer.{BookLeafSize, LevelReady, LevelChosen};
 ghost use Rattle.leaf.specs.Codebook.{byteOf};
 ghost use Rattle.leaf.specs.Mean.{residual, meanOf, saturate, meanPosition, meanAt};
 ghost use Rattle.leaf.specs.Leaf.{coded, sse, plus, samples, seeded, staged, leafShown, argmin, capAt};
 ghost use Rattle.leaf.specs.Raised.{originOf, raisedCodebook, less, sqd, vectorError, Below, Stage, total, plusN, vectorsIn, Searched, leafOf};
 ghost use Rattle.leaf.specs.Inner.{Ready, Coding, Chosen, pageStart};
 ghost use mathlib.Core.List.{List};
-ghost use Rattle.bits.specs.Inner.{Fits, Wrote};
 ghost use Rattle.leaf.specs.LeafBits.{stageBits, readSkip, readLeaf};
 ghost use Rattle.leaf.specs.Show.{MeanKnown, Sized, Staging, CodeShows, Adding};
 ghost use Rattle.leaf.specs.Lent.{lentBits, LentTables, CodeFits, LeafSize, Writable, lentTables, MeanTable, padded, refusedLeaf, LeafRead, nibbles, readIndices, readMean, lentRest};
-ghost use mathlib.Core.Bool.{_&&_};
-ghost use lib.Dec.{ltb};
-ghost use Rattle.bits.specs.Bits.{valOf, bitsOf};
+ghost use Rattle.leaf.specs.LeafAnswer.{BookLeafSize, LevelReady, LevelChosen};
 use super::svq1_enc_leaf::LeafChoice;
 use super::svq1_enc_leaf::LeafCode;
 use bits::svq1_vlc::CodeRead;

@@ -1,6 +1,6 @@
 // The leaf search.
 ghost use mathlib.Core.Path.{_≡_};
-ghost use Prim.Native.Nat.{ℕ, _<_, _≤_};
+ghost use Prim.Native.Nat.{_<_};
 ghost use lib.ListN.{length};
 ghost use Rattle.book.specs.Level.{levelNumber};
 ghost use Rattle.leaf.specs.LeafCall.{halfAt, blockRefusal};

@@ -120,8 +120,8 @@ module _ (c : Canvas) (x y : ℕ) (v : Svq1Mv) (s cols q : ℕ) where
   abbrev pub partValues : List ℕ
   partValues = valuesFrom (λ j. movedSample c 16 x y v (entryOf s cols q j)) (s * s) 0
 
-  pub value-at : (j : ℕ) → j < s * s → movedSample c 16 x y v (entryOf s cols q j) ≡ getD partValues j 0
-  value-at j h = sym (value-at (λ j. movedSample c 16 x y v (entryOf s cols q j)) (s * s) 0 j 0 h ∙ ap (λ (k : ℕ). movedSample c 16 x y v (entryOf s cols q k)) (zero-add j))
+  pub part-value : (j : ℕ) → j < s * s → movedSample c 16 x y v (entryOf s cols q j) ≡ getD partValues j 0
+  part-value j h = sym (value-at (λ j. movedSample c 16 x y v (entryOf s cols q j)) (s * s) 0 j 0 h ∙ ap (λ (k : ℕ). movedSample c 16 x y v (entryOf s cols q k)) (zero-add j))
 
   pub part-done : (xs : List ℕ) → Parts s cols q → putTo s cols q partValues (s * s) xs ≡ movedPart c x y v s cols q xs
   unfolding movedPart

@@ -1,4 +1,5 @@
 -- One leaf: skip where it is open and no worse, else the coded one. Assumes nothing.
+use native.Mathlib.Omega.{arith}
 use Rattle.leaf.specs.InnerLaws.{skip-wins, skip-loses, skip-closed}
 use borrow.Author.Needs.{needs}
 use Rattle.leaf.proofs.inner.choose_leaf.Statement.{statement}
@@ -25,7 +26,7 @@ returns c =
     let s = c .before .before .before .before .before .before .before .before .before .before .before .before .search-coded in
     rw (c .before .before .before .before .before .before .before .if1 .taken)
     (skip-wins (a .half) (a .t .now) (a .p .now) (a .book .now) (a .base) (a .cap) (s .result .code) (s .result .stages) (s .result .error) _ (s .ensures) _ _ (c .before .before .before .before .before .before .distance-of .result)
-    (c .before .before .before .before .before .before .distance-of .ensures) (c .before .before .before .before .if2 .taken) (c .before .before .copy .ensures))
+    (c .before .before .before .before .before .before .distance-of .ensures) (omega (arith, c .before .before .before .before .if2 .taken)) (c .before .before .copy .ensures))
 
 same-length-3 : tie.Need-same-length-3
 same-length-3 c = search needs
@@ -39,7 +40,7 @@ returns-2 c =
     let s = c .before .before .before .before .before .before .before .before .search-coded in
     rw (c .before .before .before .if1 .taken)
     (skip-loses (a .half) (a .t .now) (a .p .now) (a .book .now) (a .base) (a .cap) (s .result .code) (s .result .stages) (s .result .error) _ (s .ensures) (c .before .before .distance-of .result)
-    (c .before .before .distance-of .ensures) (c .if2 .left))
+    (c .before .before .distance-of .ensures) (omega (arith, c .if2 .left)))
 
 same-length-5 : tie.Need-same-length-5
 same-length-5 c = search needs

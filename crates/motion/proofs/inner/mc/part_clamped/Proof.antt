@@ -4,7 +4,7 @@ use Rattle.motion.specs.Compensation.{Canvas}
 use Rattle.motion.specs.Grid.{entryOf}
 use Rattle.motion.specs.PutLaws.{putTo, put-none, put-more}
 use Rattle.motion.specs.Moved.{downMv}
-use Rattle.motion.specs.MovedLaws.{moved-is, part-steps, square-most, side-some, cols-some, partValues, value-at, part-done}
+use Rattle.motion.specs.MovedLaws.{moved-is, part-steps, square-most, side-some, cols-some, partValues, part-value, part-done}
 use native.Mathlib.Omega.{arith}
 use Rattle.motion.proofs.inner.mc.part_clamped.Statement.{statement}
 use Rattle.motion.proofs.inner.mc.part_clamped.Tie as tie
@@ -134,7 +134,7 @@ loop-again c =
     let v : Canvas = record { samples = a .reference .now; stride = a .stride; rows = a .rows } in (
       omega arith,
       put-more (a .s) (a .cols) (a .q) _ (l .j) _ _ _ (l .inv .1)
-          (c .sample-halfpel .ensures ∙ moved-is v (a .x) (a .y) (a .ux) (a .uy) (entryOf (a .s) (a .cols) (a .q) (l .j)) ∙ value-at v (a .x) (a .y) (downMv (a .ux) (a .uy)) (a .s) (a .cols) (a .q) (l .j) (c .before .loop-test .taken)),
+          (c .sample-halfpel .ensures ∙ moved-is v (a .x) (a .y) (a .ux) (a .uy) (entryOf (a .s) (a .cols) (a .q) (l .j)) ∙ part-value v (a .x) (a .y) (downMv (a .ux) (a .uy)) (a .s) (a .cols) (a .q) (l .j) (c .before .loop-test .taken)),
     )
 
 returns : tie.Need-returns Inv-loop μ-loop
