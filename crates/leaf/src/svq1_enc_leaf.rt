@@ -33,7 +33,7 @@ pub struct LeafAnswer {
 }
 
 // The level of a number.
-pub fn level_of(level: u8) -> Svq1Level
+fn level_of(level: u8) -> Svq1Level
     requires { ⌜ level < 6 ⌝ }
     ensures { λ r. ⌜ levelNumber r ≡ level ⌝ }
 {
