@@ -1,0 +1,3 @@
+// Parts of the writer that can be called alone, for programs in other languages: thin entries over the proved calls.
+pub mod leaf_part;
+pub mod vector_part;
