@@ -10,7 +10,7 @@ use crate::stream::{emit, unsigned};
 use crate::svq1_blocktree::Svq1Level;
 use crate::svq1_codebook::vector_byte_to_raster;
 use crate::svq1_enc::BitWriter;
-use crate::svq1_enc_leaf::{LeafCode, search_leaf};
+use crate::svq1_enc_leaf::{LeafChoice, LeafCode, search_leaf};
 use crate::svq1_enc_tree::{
     MbPlan, TreeNode, call_search_block, emit_macroblock, plan_macroblock, plan_reconstruction,
 };
@@ -43,7 +43,7 @@ pub fn calls(name: &str, seed: u64, count: u64, as_text: bool) -> Result<(), Str
         _ => return Err(format!("no such function here: {name}")),
     };
     if uses_tables(name) {
-        emit(&form(&load_tables(seed)))?;
+        emit(&form(&load_tables(seed).case()))?;
     }
     for index in 0..count {
         emit(&form(&case(&mut Random::of(seed, index))))?;
@@ -61,15 +61,28 @@ fn uses_tables(name: &str) -> bool {
     users.contains(&name)
 }
 
-/// Loads the seed's book and codebook, which head the output.
-fn load_tables(seed: u64) -> Case {
+/// The seed's book and codebook, loaded for the rest of the process.
+pub struct SeedTables {
+    pub book: Vec<u8>,
+    pub codebook: Vec<u8>,
+}
+
+pub fn load_tables(seed: u64) -> SeedTables {
     let mut random = Random::new(seed);
     let book = any_book(&mut random);
     let codebook = any_codebook(&mut random);
     tables::load(&book, &codebook);
-    Case::default()
-        .bytes(&book.to_bytes())
-        .bytes(&unsigned(&codebook))
+    SeedTables {
+        book: book.to_bytes(),
+        codebook: unsigned(&codebook),
+    }
+}
+
+impl SeedTables {
+    /// They head the output.
+    fn case(&self) -> Case {
+        Case::default().bytes(&self.book).bytes(&self.codebook)
+    }
 }
 
 // ---- leaf ----
@@ -120,21 +133,60 @@ fn leaf_fields(case: Case, code: &LeafCode) -> Case {
         .bytes(&indices)
 }
 
-fn leaf_case(random: &mut Random) -> Case {
+/// What one leaf search is asked.
+pub struct LeafInput {
+    pub level: usize,
+    pub half: usize,
+    pub cap: usize,
+    pub skip: bool,
+    pub target: Vec<u8>,
+    pub predictor: Vec<u8>,
+}
+
+pub fn leaf_input(random: &mut Random) -> LeafInput {
     let level = random.below(6);
     let (half, skip) = half_and_skip(random);
     let cap = random.pick(&[6, 6, 6, 0, 1, 2, 3, 4, 5]);
     let count = usize::from(LEVELS[level].vector_length());
     let (target, predictor) = block_pair(random, HALVES[half], count);
-    let choice = search_leaf(LEVELS[level], HALVES[half], &target, &predictor, cap, skip);
-    let case = Case::default()
-        .byte(level)
-        .byte(half)
-        .byte(cap)
-        .byte(usize::from(skip))
-        .bytes(&target)
-        .bytes(&predictor);
-    leaf_fields(case, &choice.code)
+    LeafInput {
+        level,
+        half,
+        cap,
+        skip,
+        target,
+        predictor,
+    }
+}
+
+impl LeafInput {
+    /// What the original answers.
+    pub fn ask(&self) -> LeafChoice {
+        search_leaf(
+            LEVELS[self.level],
+            HALVES[self.half],
+            &self.target,
+            &self.predictor,
+            self.cap,
+            self.skip,
+        )
+    }
+
+    pub fn case(&self) -> Case {
+        Case::default()
+            .byte(self.level)
+            .byte(self.half)
+            .byte(self.cap)
+            .byte(usize::from(self.skip))
+            .bytes(&self.target)
+            .bytes(&self.predictor)
+    }
+}
+
+fn leaf_case(random: &mut Random) -> Case {
+    let input = leaf_input(random);
+    let choice = input.ask();
+    leaf_fields(input.case(), &choice.code)
         .number(choice.bits, 4)
         .number(choice.sse, 4)
         .bytes(&choice.recon)

@@ -40,10 +40,10 @@ pub fn final_case(random: &mut Random) -> Case {
         .vector(final_motion_vector(predictor, difference.x, difference.y))
 }
 
-struct Canvas {
-    stride: usize,
-    rows: usize,
-    samples: Vec<u8>,
+pub struct Canvas {
+    pub stride: usize,
+    pub rows: usize,
+    pub samples: Vec<u8>,
 }
 
 fn any_canvas(random: &mut Random) -> Canvas {
@@ -84,7 +84,20 @@ impl Canvas {
     }
 }
 
-pub fn search_case(random: &mut Random) -> Case {
+/// What one motion search is asked.
+pub struct SearchInput {
+    pub canvas: Canvas,
+    pub width: usize,
+    pub height: usize,
+    pub side: usize,
+    pub left: usize,
+    pub top: usize,
+    pub predictor: Svq1Mv,
+    pub radius: u8,
+    pub target: Vec<u8>,
+}
+
+pub fn search_input(random: &mut Random) -> SearchInput {
     let canvas = any_canvas(random);
     let width = visible(random, canvas.stride);
     let height = visible(random, canvas.rows);
@@ -99,28 +112,52 @@ pub fn search_case(random: &mut Random) -> Case {
         .iter()
         .map(|&sample| clamp(i64::from(sample) + random.between(-noise, noise)))
         .collect();
-    let window = MvVisibleWindow::for_block(left, top, side, width, height);
-    let found = search_motion_vector(
-        &canvas.plane(),
-        &target,
+    SearchInput {
+        canvas,
+        width,
+        height,
         side,
         left,
         top,
         predictor,
         radius,
-        window,
-    );
-    Case::default()
-        .number(width as u32, 2)
-        .number(height as u32, 2)
-        .bytes(&canvas.samples)
-        .byte(side)
-        .number(left as u32, 2)
-        .number(top as u32, 2)
-        .vector(predictor)
-        .byte(usize::from(radius))
-        .bytes(&target)
-        .vector(found)
+        target,
+    }
+}
+
+impl SearchInput {
+    /// What the original answers.
+    pub fn ask(&self) -> Svq1Mv {
+        let (left, top, side) = (self.left, self.top, self.side);
+        search_motion_vector(
+            &self.canvas.plane(),
+            &self.target,
+            side,
+            left,
+            top,
+            self.predictor,
+            self.radius,
+            MvVisibleWindow::for_block(left, top, side, self.width, self.height),
+        )
+    }
+
+    pub fn case(&self) -> Case {
+        Case::default()
+            .number(self.width as u32, 2)
+            .number(self.height as u32, 2)
+            .bytes(&self.canvas.samples)
+            .byte(self.side)
+            .number(self.left as u32, 2)
+            .number(self.top as u32, 2)
+            .vector(self.predictor)
+            .byte(usize::from(self.radius))
+            .bytes(&self.target)
+    }
+}
+
+pub fn search_case(random: &mut Random) -> Case {
+    let input = search_input(random);
+    input.case().vector(input.ask())
 }
 
 /// A size that rounds up to `padded`.

@@ -1,0 +1,51 @@
+//! Compares the proved functions with the Rust original, call by call.
+//! README.md beside this folder says what each command does.
+
+// The harness around the original serves other commands too.
+#![allow(dead_code)]
+
+include!("modules.rs");
+
+mod compare_leaf;
+mod compare_search;
+mod none;
+mod ours;
+mod refusals;
+mod tally;
+
+use std::process::ExitCode;
+
+const USAGE: &str = "usage:
+  compare leaf SEED N      N random leaf searches under the seed's book and codebook
+  compare search SEED N    N random motion searches
+  compare none             where the original's motion search has no answer
+  compare refusals         calls that have to be refused";
+
+fn main() -> ExitCode {
+    let arguments: Vec<String> = std::env::args().skip(1).collect();
+    let words: Vec<&str> = arguments.iter().map(String::as_str).collect();
+    match dispatch(&words) {
+        Ok(tally) => {
+            print!("{tally}");
+            ExitCode::SUCCESS
+        }
+        Err(message) => {
+            eprintln!("compare: {message}");
+            ExitCode::FAILURE
+        }
+    }
+}
+
+fn dispatch(words: &[&str]) -> Result<tally::Tally, String> {
+    match *words {
+        ["leaf", seed, count] => compare_leaf::compare(number(seed)?, number(count)?),
+        ["search", seed, count] => compare_search::compare(number(seed)?, number(count)?),
+        ["none"] => none::none(),
+        ["refusals"] => refusals::refusals(),
+        _ => Err(USAGE.into()),
+    }
+}
+
+fn number(word: &str) -> Result<u64, String> {
+    word.parse().map_err(|_| format!("not a number: {word}"))
+}

@@ -1,0 +1,102 @@
+//! Leaf searches, field by field.
+
+use crate::book::house_codebook;
+use crate::calls::{LeafInput, SeedTables, leaf_input, load_tables};
+use crate::ours::{Leaf, LeafCall};
+use crate::random::Random;
+use crate::stream::unsigned;
+use crate::svq1_enc_leaf::{LeafChoice, LeafCode};
+use crate::tables;
+use crate::tally::Tally;
+
+pub fn compare(seed: u64, count: u64) -> Result<Tally, String> {
+    let lent = load_tables(seed);
+    let mut tally = Tally::default();
+    for index in 0..count {
+        let input = leaf_input(&mut Random::of(seed, index));
+        let want = expected(&input.ask());
+        let got = call(&input, &lent).ask();
+        if got != want {
+            return Err(difference(seed, index, &input, &lent, &want, &got));
+        }
+        note(&mut tally, &input, &want, &lent);
+    }
+    Ok(tally)
+}
+
+fn call(input: &LeafInput, lent: &SeedTables) -> LeafCall {
+    LeafCall {
+        book: lent.book.clone(),
+        codebook: lent.codebook.clone(),
+        level: input.level as u8,
+        half: input.half as u8,
+        target: input.target.clone(),
+        predictor: input.predictor.clone(),
+        cap: input.cap as u8,
+        skip: u8::from(input.skip),
+    }
+}
+
+/// The original's answer in the form of ours.
+fn expected(choice: &LeafChoice) -> Leaf {
+    let mut leaf = Leaf::refused(0);
+    leaf.kind = 2;
+    if let LeafCode::Coded { mean, stages } = &choice.code {
+        leaf.kind = 3;
+        leaf.mean = *mean;
+        leaf.count = stages.len() as u8;
+        leaf.stages[..stages.len()].copy_from_slice(stages);
+    }
+    leaf.bits = choice.bits;
+    leaf.error = choice.sse.try_into().expect("an error of 32 bits");
+    leaf.samples[..choice.recon.len()].copy_from_slice(&choice.recon);
+    leaf
+}
+
+fn note(tally: &mut Tally, input: &LeafInput, leaf: &Leaf, lent: &SeedTables) {
+    let half = ["intra", "inter"][input.half];
+    tally.one("leaf");
+    tally.one(format!("leaf, L{} {half}", input.level));
+    tally.one(format!("leaf, cap {}", input.cap));
+    tally.one(format!("leaf, codes of at most {} bits", tables::longest()));
+    tally.one(if lent.codebook == unsigned(&house_codebook()) {
+        "leaf, house codebook"
+    } else {
+        "leaf, random codebook"
+    });
+    if input.skip {
+        tally.one("leaf, skip allowed");
+    }
+    tally.one(match leaf.kind {
+        2 => "leaf, answer skip".to_string(),
+        _ => format!("leaf, answer coded, stages {}", leaf.count),
+    });
+}
+
+fn difference(
+    seed: u64,
+    index: u64,
+    input: &LeafInput,
+    lent: &SeedTables,
+    want: &Leaf,
+    got: &Leaf,
+) -> String {
+    format!(
+        "leaf call {index} of seed {seed} differs
+original: {want:?}
+ours:     {got:?}
+level {}, half {}, cap {}, skip {}
+target {:?}
+predictor {:?}
+book {:?}
+codebook {:?}",
+        input.level,
+        input.half,
+        input.cap,
+        input.skip,
+        input.target,
+        input.predictor,
+        lent.book,
+        lent.codebook
+    )
+}

@@ -1,0 +1,161 @@
+//! The proved functions, linked from the static library of the crate `parts`.
+
+#[repr(C)]
+#[derive(Clone, Copy, Debug, PartialEq, Eq)]
+pub struct Leaf {
+    pub bits: u32,
+    pub error: u32,
+    pub mean: i16,
+    pub refused: u8,
+    /// 2 skip, 3 coded.
+    pub kind: u8,
+    pub count: u8,
+    pub stages: [u8; 6],
+    pub samples: [u8; 256],
+}
+
+impl Leaf {
+    /// A refusal's number and zeros.
+    pub fn refused(refused: u8) -> Self {
+        Self {
+            bits: 0,
+            error: 0,
+            mean: 0,
+            refused,
+            kind: 0,
+            count: 0,
+            stages: [0; 6],
+            samples: [0; 256],
+        }
+    }
+}
+
+#[repr(C)]
+#[derive(Clone, Copy, Debug, PartialEq, Eq)]
+pub struct Vector {
+    pub refused: u8,
+    pub x: i32,
+    pub y: i32,
+}
+
+impl Vector {
+    /// A refusal's number and zeros.
+    pub fn refused(refused: u8) -> Self {
+        Self {
+            refused,
+            x: 0,
+            y: 0,
+        }
+    }
+}
+
+unsafe extern "C" {
+    fn parts_search_leaf(
+        book: *const u8,
+        book_length: usize,
+        codebook: *const u8,
+        codebook_length: usize,
+        level: u8,
+        half: u8,
+        target: *const u8,
+        target_length: usize,
+        predictor: *const u8,
+        predictor_length: usize,
+        cap: u8,
+        skip: u8,
+    ) -> Leaf;
+
+    fn parts_search_motion_vector(
+        reference: *const u8,
+        reference_length: usize,
+        width: usize,
+        height: usize,
+        stride: usize,
+        rows: usize,
+        target: *const u8,
+        target_length: usize,
+        side: usize,
+        x: usize,
+        y: usize,
+        px: i32,
+        py: i32,
+        radius: u8,
+    ) -> Vector;
+}
+
+/// What a leaf search is asked, right or wrong.
+#[derive(Clone)]
+pub struct LeafCall {
+    pub book: Vec<u8>,
+    pub codebook: Vec<u8>,
+    pub level: u8,
+    pub half: u8,
+    pub target: Vec<u8>,
+    pub predictor: Vec<u8>,
+    pub cap: u8,
+    pub skip: u8,
+}
+
+impl LeafCall {
+    pub fn ask(&self) -> Leaf {
+        // Safety: each pointer is a slice's, with that slice's length, and
+        // the function takes any numbers.
+        unsafe {
+            parts_search_leaf(
+                self.book.as_ptr(),
+                self.book.len(),
+                self.codebook.as_ptr(),
+                self.codebook.len(),
+                self.level,
+                self.half,
+                self.target.as_ptr(),
+                self.target.len(),
+                self.predictor.as_ptr(),
+                self.predictor.len(),
+                self.cap,
+                self.skip,
+            )
+        }
+    }
+}
+
+/// What a motion search is asked, right or wrong.
+#[derive(Clone)]
+pub struct VectorCall {
+    pub reference: Vec<u8>,
+    pub width: usize,
+    pub height: usize,
+    pub stride: usize,
+    pub rows: usize,
+    pub target: Vec<u8>,
+    pub side: usize,
+    pub x: usize,
+    pub y: usize,
+    pub px: i32,
+    pub py: i32,
+    pub radius: u8,
+}
+
+impl VectorCall {
+    pub fn ask(&self) -> Vector {
+        // Safety: as above.
+        unsafe {
+            parts_search_motion_vector(
+                self.reference.as_ptr(),
+                self.reference.len(),
+                self.width,
+                self.height,
+                self.stride,
+                self.rows,
+                self.target.as_ptr(),
+                self.target.len(),
+                self.side,
+                self.x,
+                self.y,
+                self.px,
+                self.py,
+                self.radius,
+            )
+        }
+    }
+}

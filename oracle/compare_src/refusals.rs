@@ -1,0 +1,238 @@
+//! Calls that document 01 refuses. The original has no refusals, so what is
+//! wanted stands here: the lowest number that applies, and zeros.
+
+use crate::book::{Book, Table, house_codebook};
+use crate::ours::{Leaf, LeafCall, Vector, VectorCall};
+use crate::stream::unsigned;
+use crate::tally::Tally;
+
+pub fn refusals() -> Result<Tally, String> {
+    let mut tally = Tally::default();
+    for (name, want, change) in LEAVES {
+        let mut call = good_leaf();
+        change(&mut call);
+        let got = call.ask();
+        if *want == 0 && got.refused != 0 || *want != 0 && got != Leaf::refused(*want) {
+            return Err(format!("leaf, {name}: wanted {want}, got {got:?}"));
+        }
+        tally.one(format!("leaf call answered {want}"));
+    }
+    for (name, want, change) in SEARCHES {
+        let mut call = good_search();
+        change(&mut call);
+        let got = call.ask();
+        if *want == 0 && got.refused != 0 || *want != 0 && got != Vector::refused(*want) {
+            return Err(format!("search, {name}: wanted {want}, got {got:?}"));
+        }
+        tally.one(format!("search call answered {want}"));
+    }
+    Ok(tally)
+}
+
+// ---- leaf ----
+
+fn good_leaf() -> LeafCall {
+    LeafCall {
+        book: Book::house().to_bytes(),
+        codebook: unsigned(&house_codebook()),
+        level: 0,
+        half: 1,
+        target: vec![90; 8],
+        predictor: vec![100; 8],
+        cap: 6,
+        skip: 1,
+    }
+}
+
+/// Gives an entry of a table another code.
+fn set(call: &mut LeafCall, table: Table, position: usize, value: u16, length: u8) {
+    let mut book = Book::from_bytes(&call.book);
+    book.set(table, position, value, length);
+    call.book = book.to_bytes();
+}
+
+/// Gives an entry the code of the one before it, lengthened by zeros.
+fn lengthen(call: &mut LeafCall, table: Table, position: usize, zeros: u8) {
+    let (value, length) = Book::from_bytes(&call.book).table(table)[position - 1];
+    set(call, table, position, value << zeros, length + zeros);
+}
+
+type LeafChange = (&'static str, u8, fn(&mut LeafCall));
+
+const LEAVES: &[LeafChange] = &[
+    ("nothing changed", 0, |_| {}),
+    ("any skip flag", 0, |call| call.skip = 255),
+    ("no book", 5, |call| call.book.clear()),
+    ("book one byte short", 5, |call| call.book.truncate(2795)),
+    ("book one entry long", 5, |call| call.book.extend([0, 1, 1])),
+    ("no codebook", 5, |call| call.codebook.clear()),
+    ("codebook one byte short", 5, |call| {
+        call.codebook.truncate(23039)
+    }),
+    ("codebook one byte long", 5, |call| call.codebook.push(0)),
+    ("first code of no length", 6, |call| {
+        set(call, Table::Mode, 0, 0, 0)
+    }),
+    ("last code of 33 bits", 6, |call| {
+        set(call, Table::InterStage, 47, 1, 33)
+    }),
+    ("a code of 255 bits", 6, |call| {
+        set(call, Table::InterMean, 300, 1, 255)
+    }),
+    ("a value past its length", 6, |call| {
+        set(call, Table::IntraMean, 9, 8, 3)
+    }),
+    ("the same code twice", 7, |call| {
+        lengthen(call, Table::Mode, 1, 0)
+    }),
+    ("a code that begins another", 7, |call| {
+        lengthen(call, Table::Vector, 40, 1)
+    }),
+    ("the same in a level's stages", 7, |call| {
+        lengthen(call, Table::IntraStage, 47, 0)
+    }),
+    ("level 6", 8, |call| call.level = 6),
+    ("level 255", 8, |call| call.level = 255),
+    ("half 2", 8, |call| call.half = 2),
+    ("target one short", 8, |call| call.target.truncate(7)),
+    ("target one long", 8, |call| call.target.push(0)),
+    ("no predictor", 8, |call| call.predictor.clear()),
+    ("both one long", 8, |call| {
+        call.target.push(0);
+        call.predictor.push(0);
+    }),
+    ("a block of another level", 8, |call| call.level = 1),
+    ("cap 7", 8, |call| call.cap = 7),
+    ("intra with skip", 8, |call| call.half = 0),
+    ("intra without skip", 0, |call| {
+        call.half = 0;
+        call.skip = 0;
+    }),
+    ("5 before 8", 5, |call| {
+        call.codebook.clear();
+        call.level = 6;
+    }),
+    ("5 before 6", 5, |call| {
+        set(call, Table::Mode, 0, 0, 0);
+        call.codebook.clear();
+    }),
+    ("6 before 7 and 8", 6, |call| {
+        lengthen(call, Table::Mode, 1, 0);
+        set(call, Table::InterStage, 47, 1, 33);
+        call.level = 6;
+    }),
+    ("7 before 8", 7, |call| {
+        lengthen(call, Table::Mode, 1, 0);
+        call.cap = 7;
+    }),
+];
+
+// ---- search ----
+
+fn good_search() -> VectorCall {
+    VectorCall {
+        reference: vec![50; 32 * 16],
+        width: 20,
+        height: 16,
+        stride: 32,
+        rows: 16,
+        target: vec![50; 64],
+        side: 8,
+        x: 8,
+        y: 0,
+        px: 0,
+        py: 0,
+        radius: 3,
+    }
+}
+
+type SearchChange = (&'static str, u8, fn(&mut VectorCall));
+
+const SEARCHES: &[SearchChange] = &[
+    ("nothing changed", 0, |_| {}),
+    ("radius 255", 0, |call| call.radius = 255),
+    ("predictor at both ends", 0, |call| {
+        call.px = -32;
+        call.py = 31;
+    }),
+    ("width 0", 1, |call| call.width = 0),
+    ("height 0", 1, |call| call.height = 0),
+    ("width 1025", 1, |call| {
+        call.width = 1025;
+        call.stride = 1040;
+        call.reference = vec![50; 1040 * 16];
+    }),
+    ("width 1024", 0, |call| {
+        call.width = 1024;
+        call.stride = 1024;
+        call.reference = vec![50; 1024 * 16];
+    }),
+    ("height 1025", 1, |call| call.height = 1025),
+    ("the largest width", 1, |call| call.width = usize::MAX),
+    ("stride not rounded up", 3, |call| call.stride = 20),
+    ("stride one macroblock more", 3, |call| {
+        call.stride = 48;
+        call.reference = vec![50; 48 * 16];
+    }),
+    ("the largest stride", 3, |call| call.stride = usize::MAX),
+    ("rows one macroblock more", 3, |call| {
+        call.rows = 32;
+        call.reference = vec![50; 32 * 32];
+    }),
+    ("rows not in macroblocks", 3, |call| call.rows = 17),
+    ("canvas one short", 4, |call| call.reference.truncate(511)),
+    ("canvas one long", 4, |call| call.reference.push(0)),
+    ("no canvas", 4, |call| call.reference.clear()),
+    ("side 0", 9, |call| {
+        call.side = 0;
+        call.target.clear();
+    }),
+    ("side 4", 9, |call| {
+        call.side = 4;
+        call.target.truncate(16);
+    }),
+    ("side 32", 9, |call| {
+        call.side = 32;
+        call.x = 0;
+        call.target = vec![50; 1024];
+    }),
+    ("x off the grid", 9, |call| call.x = 12),
+    ("x off the grid of 16", 9, |call| {
+        call.side = 16;
+        call.target = vec![50; 256];
+    }),
+    ("y off the grid", 9, |call| call.y = 1),
+    ("x at the stride", 9, |call| call.x = 32),
+    ("y at the rows", 9, |call| call.y = 16),
+    ("x beyond the visible", 0, |call| call.x = 24),
+    ("target one short", 9, |call| call.target.truncate(63)),
+    ("target one long", 9, |call| call.target.push(0)),
+    ("predictor 32 across", 9, |call| call.px = 32),
+    ("predictor -33 across", 9, |call| call.px = -33),
+    ("predictor 32 down", 9, |call| call.py = 32),
+    ("the lowest predictor", 9, |call| call.py = i32::MIN),
+    ("1 before 3, 4 and 9", 1, |call| {
+        call.width = 0;
+        call.stride = 0;
+        call.reference.clear();
+        call.side = 0;
+    }),
+    ("3 before 4 and 9", 3, |call| {
+        call.stride = 16;
+        call.reference.clear();
+        call.side = 0;
+    }),
+    ("4 before 9", 4, |call| {
+        call.reference.clear();
+        call.px = 32;
+    }),
+    ("9 before 23", 9, |call| {
+        call.x = 0;
+        call.px = -32;
+        call.py = 32;
+    }),
+    ("nothing codable in the window", 23, |call| {
+        call.x = 0;
+        call.px = -32;
+    }),
+];
