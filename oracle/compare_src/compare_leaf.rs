@@ -1,7 +1,8 @@
 //! Leaf searches, field by field.
 
 use crate::book::house_codebook;
-use crate::calls::{LeafInput, SeedTables, leaf_input, load_tables};
+use crate::calls::{SeedTables, load_tables};
+use crate::leaf_calls::{LeafInput, leaf_input};
 use crate::ours::{Leaf, LeafCall};
 use crate::random::Random;
 use crate::stream::unsigned;

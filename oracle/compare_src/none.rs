@@ -57,7 +57,8 @@ fn check(tally: &mut Tally, input: &SearchInput) -> Result<(), String> {
 /// Predictors with a component of -32, and some without.
 fn predictors() -> Vec<Svq1Mv> {
     let mut all = vec![Svq1Mv::ZERO, Svq1Mv::new(-31, -31), Svq1Mv::new(31, 31)];
-    for other in [-32, -31, -16, -1, 0, 1, 15, 31] {
+    all.push(Svq1Mv::new(-32, -32));
+    for other in [-31, -16, -1, 0, 1, 15, 31] {
         all.push(Svq1Mv::new(-32, other));
         all.push(Svq1Mv::new(other, -32));
     }

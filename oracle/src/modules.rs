@@ -9,6 +9,7 @@ mod case;
 mod differences;
 mod fixed;
 mod job;
+mod leaf_calls;
 mod make;
 mod motion_calls;
 mod random;
