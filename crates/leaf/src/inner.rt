@@ -696,38 +696,24 @@ pub fn read_leaf(
     }
 }
 
-// Where the intra page of level d begins; 0 for L4 and L5, which have none.
-fn intra_page(d: usize) -> usize
-    ensures { λ r. ⌜ r ≡ pageStart Svq1Half.Intra d ⌝ }
-{
-    match d {
-        0 => 21504,
-        1 => 18432,
-        2 => 12288,
-        _ => 0,
-    }
-}
-
-// The same of the inter page.
-fn inter_page(d: usize) -> usize
-    ensures { λ r. ⌜ r ≡ pageStart Svq1Half.Inter d ⌝ }
-{
-    match d {
-        0 => 22272,
-        1 => 19968,
-        2 => 15360,
-        3 => 6144,
-        _ => 0,
-    }
-}
-
-// Where a level's search looks for vectors in the raised codebook.
+// Where a level's search looks for vectors in the raised codebook: its half's page; 0 for L4 and L5, which have none.
 pub fn page_start(half: Svq1Half, d: usize) -> usize
     ensures { λ r. ⌜ r ≡ pageStart half d ⌝ }
 {
     match half {
-        Svq1Half::Intra => intra_page(d),
-        Svq1Half::Inter => inter_page(d),
+        Svq1Half::Intra => match d {
+            0 => 21504,
+            1 => 18432,
+            2 => 12288,
+            _ => 0,
+        },
+        Svq1Half::Inter => match d {
+            0 => 22272,
+            1 => 19968,
+            2 => 15360,
+            3 => 6144,
+            _ => 0,
+        },
     }
 }
 
