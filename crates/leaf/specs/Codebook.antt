@@ -1,6 +1,5 @@
 -- The codebook: where a page stands, and a vector's samples in raster order (document 01, `svq1_codebook.rs`).
 use Prim.Native.Nat.{ℕ, zero, suc, _+_, _*_, _/_, _%_}
-use mathlib.Core.Bool.{Bool}
 use mathlib.Core.List.{List}
 use lib.Dec.{leb}
 use lib.ListN.{getD}

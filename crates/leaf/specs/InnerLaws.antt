@@ -1,20 +1,20 @@
 -- Laws of the leaf search's answer.
 -- Assumes nothing.
-use mathlib.Core.Path.{_≡_, refl, sym, _∙_, ap, ap₂}
-use mathlib.Core.Bool.{Bool, true, false, _&&_}
+use mathlib.Core.Path.{_≡_, refl, _∙_, ap, ap₂}
+use mathlib.Core.Bool.{true, false}
 use mathlib.Core.List.{List}
 use Prim.Native.Nat.{ℕ, _+_, _*_, _≤_, _<_}
 use lib.Dec.{leb}
 use lib.IntN.{ℤ, subℕ}
-use lib.ListN.{length, take}
+use lib.ListN.{length}
 use borrow.Author.Tests.{le-leb, lt-leb}
 use Rattle.book.specs.declared.svq1_vlc.Svq1Half.{Svq1Half}
 use Rattle.leaf.specs.declared.svq1_enc_leaf.LeafCode.{LeafCode}
 use Rattle.leaf.specs.declared.svq1_enc_leaf.LeafCode.the-variants.{Skip, Coded}
 use Rattle.leaf.specs.Mean.{residual, meanOf}
-use Rattle.leaf.specs.Leaf.{Leaf, skip, coded, Vectors, sse, seeded, staged, samples, leafShown, stages, codedLeaf, leafRule}
-use Rattle.leaf.specs.Raised.{less, vectorsIn, Searched, leafOf}
-use Rattle.leaf.specs.Inner.{Leafed, Coding, Chosen}
+use Rattle.leaf.specs.Leaf.{coded, sse, seeded, staged, samples, leafShown, stages, codedLeaf, leafRule}
+use Rattle.leaf.specs.Raised.{less, vectorsIn, Searched}
+use Rattle.leaf.specs.Inner.{Coding, Chosen}
 
 -- a mean, sums seeded with it, and a stage search from there make the coded leaf
 pub coded-done : (h : Svq1Half) (t p book a b index out : List ℕ) (base cap mean count error bias : ℕ) (m : ℤ)

@@ -1,6 +1,6 @@
 -- The leaf rules: what a leaf shows, and which leaf the search chooses (document 01, `svq1_enc_leaf.rs` and "Reading").
 use Prim.Native.Nat.{ℕ, zero, suc, _+_, _*_}
-use mathlib.Core.Bool.{Bool, true, false, _&&_}
+use mathlib.Core.Bool.{Bool, _&&_}
 use mathlib.Core.List.{List, [], _∷_, map}
 use lib.Dec.{leb, ltb}
 use lib.ListN.{length}

@@ -1,9 +1,9 @@
 -- Laws of a leaf's bits: with anything behind them they read as the leaf, and there are at most 88.
 -- Assumes nothing.
-use mathlib.Core.Path.{_≡_, refl, sym, ap, _∙_}
-use mathlib.Core.Bool.{Bool, true, false, _&&_}
+use mathlib.Core.Path.{_≡_, refl}
+use mathlib.Core.Bool.{false, _&&_}
 use mathlib.Core.List.{List, [], _∷_, _++_, append-assoc}
-use Prim.Native.Nat.{ℕ, zero, suc, _+_, _*_, _≤_, _<_}
+use Prim.Native.Nat.{ℕ, suc, _+_, _*_, _≤_, _<_}
 use native.Mathlib.Omega.{arith}
 use native.Mathlib.Decide.{decLt}
 use lib.Dec.{ltb}
@@ -12,15 +12,14 @@ use lib.IntN.{ℤ}
 use lib.ListN.{length, getD, length-append}
 use Rattle.bits.specs.Bits.{msb}
 use Rattle.bits.specs.BitsLaws.{length-msb}
-use Rattle.bits.specs.Codes.{code, Got, got, bad, then, takeCode}
+use Rattle.bits.specs.Codes.{code, got, bad}
 use Rattle.bits.specs.CodeReadLaws.{take-code, take-bits}
 use Rattle.book.specs.Book.{Tables}
 use Rattle.book.specs.BookLaws.{means, GoodTables}
-use Rattle.book.specs.declared.svq1_vlc.Svq1Half.{Svq1Half}
 use Rattle.book.specs.declared.svq1_vlc.Svq1Half.the-variants.{Intra, Inter}
 use Rattle.leaf.specs.Mean.{meanPosition, meanAt}
 use Rattle.leaf.specs.Leaf.{Leaf, skip, coded}
-use Rattle.leaf.specs.LeafBits.{stageBits, leafBits, readStages, readSkip, readRest, readLeaf}
+use Rattle.leaf.specs.LeafBits.{stageBits, leafBits, readStages, readRest, readLeaf}
 
 -- ---- a leaf that may stand at level d
 pub record Coded (T : Tables) (d : ℕ) (m : ℤ) (js : List ℕ) : Type 0 where

@@ -1,10 +1,10 @@
 -- The leaf search as a call: its refusals and its answer (document 01, `svq1_enc_leaf.rs`, refusals 5 to 8).
-use Prim.Native.Nat.{ℕ, zero, suc, _+_}
-use mathlib.Core.Bool.{Bool, true, false, not, _&&_}
+use Prim.Native.Nat.{ℕ, zero, suc}
+use mathlib.Core.Bool.{Bool, not, _&&_}
 use mathlib.Core.List.{List}
 use lib.Dec.{eqb, leb, ltb}
 use lib.ListN.{length}
-use Rattle.bits.specs.Basics.{pick, orElse, unless}
+use Rattle.bits.specs.Basics.{orElse, unless}
 use Rattle.bits.specs.Calls.{Answer, done, unlessRefused}
 use Rattle.book.specs.Book.{tablesOf, dataRefusal}
 use Rattle.book.specs.Level.{area}

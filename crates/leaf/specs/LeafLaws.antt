@@ -2,8 +2,8 @@
 -- Assumes nothing.
 use mathlib.Core.Path.{_≡_, refl, sym, ap, _∙_}
 use mathlib.Core.Bool.{Bool, true, false, _&&_}
-use mathlib.Core.List.{List, [], _∷_, map}
-use Prim.Native.Nat.{ℕ, zero, suc, _+_, _-_, _*_, _≤_, _<_, zero-le, min}
+use mathlib.Core.List.{List, [], _∷_}
+use Prim.Native.Nat.{ℕ, zero, suc, _+_, _-_, _≤_, _<_, zero-le, min}
 use native.Mathlib.Omega.{arith}
 use native.Mathlib.Decide.{decLt}
 use lib.Dec.{leb, ltb}
@@ -20,7 +20,7 @@ use Rattle.book.specs.declared.svq1_vlc.Svq1Half.the-variants.{Intra, Inter}
 use Rattle.leaf.specs.Codebook.{vectorAt}
 use Rattle.leaf.specs.Mean.{residual, rounded, clampMean, meanOf, meanPosition, meanAt, saturate}
 use Rattle.leaf.specs.Leaf.{Leaf, skip, coded, Vectors, sse, plus, seeded, staged, samples, leafShown, argmin, stageError, bestVector, stages, codedLeaf, leafRule, capAt}
-use Rattle.leaf.specs.LeafBitsLaws.{Coded, Allowed}
+use Rattle.leaf.specs.LeafBitsLaws.{Allowed}
 
 -- ---- where the error is 0 already no stage stays
 pub stages-none : (vs : Vectors) (t : List ℕ) (k s : ℕ) (z : List ℤ) → sse t (samples z) ≡ 0 → stages vs t k s z ≡ []

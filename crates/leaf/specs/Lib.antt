@@ -24,3 +24,4 @@ pub mod LentReadLaws
 pub mod LeafAnswer
 pub mod LeafAnswerLaws
 pub mod Show
+pub mod ShowLaws

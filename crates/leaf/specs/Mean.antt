@@ -1,5 +1,5 @@
 -- A leaf's mean, on signed numbers (document 01, `svq1_mean.rs` and `svq1_enc_leaf.rs`).
-use Prim.Native.Nat.{ℕ, zero, suc, _+_, _/_, min}
+use Prim.Native.Nat.{ℕ, suc, _+_, _/_, min}
 use mathlib.Core.List.{List, [], _∷_}
 use lib.IntN.{ℤ, pos, negsuc, subℕ, _+ℤ_, negℤ}
 use Rattle.bits.specs.Basics.{natural}

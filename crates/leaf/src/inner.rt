@@ -16,7 +16,6 @@ ghost use Rattle.leaf.specs.Mean.{residual, meanOf, saturate, meanPositi
 ghost use Rattle.leaf.specs.Leaf.{coded, sse, plus, samples, seeded, staged, leafShown, argmin, capAt};
 ghost use Rattle.leaf.specs.Raised.{originOf, raisedCodebook, less, sqd, vectorError, Below, Stage, total, plusN, vectorsIn, Searched, leafOf};
 ghost use Rattle.leaf.specs.Inner.{Ready, Coding, Chosen, pageStart};
-ghost use mathlib.Core.List.{List};
 ghost use Rattle.leaf.specs.LeafBits.{stageBits, readSkip, readLeaf};
 ghost use Rattle.leaf.specs.Show.{MeanKnown, Sized, Staging, CodeShows, Adding};
 ghost use Rattle.leaf.specs.Lent.{lentBits, LentTables, CodeFits, LeafSize, Writable, lentTables, MeanTable, padded, refusedLeaf, LeafRead, nibbles, readIndices, readMean, lentRest};

@@ -1,7 +1,7 @@
 use native.Mathlib.Omega.{arith}
 use mathlib.Core.Path.{_≡_, refl, _∙_}
 use mathlib.Core.List.{_++_}
-use Prim.Native.Nat.{_≤_, _-_, _+_}
+use Prim.Native.Nat.{_≤_, _-_}
 use lib.ListN.{length, take, drop, length-set}
 use Rattle.leaf.specs.Raised.{plusN}
 use Rattle.leaf.specs.RaisedLaws.{plusN-step, plusN-done, plusN-le, drop-next, front-same, drop-more}

@@ -1,5 +1,5 @@
 -- A mean's position: its sum with 256 fits in 32 bits. Assumes nothing.
-use lib.IntN.{ℤ, pos, _+ℤ_}
+use lib.IntN.{pos, _+ℤ_}
 use mir.ValLaws.{toZ-ofZ}
 use mir.Syntax.{w16, w32}
 use Rattle.leaf.specs.SignedLaws.{wider, wider-sum}

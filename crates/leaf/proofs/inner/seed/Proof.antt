@@ -1,7 +1,7 @@
 use native.Mathlib.Omega.{arith}
 use mathlib.Core.Path.{_≡_, refl, _∙_, ap}
 use mathlib.Core.List.{List, _++_}
-use Prim.Native.Nat.{ℕ, _≤_, _-_, _+_}
+use Prim.Native.Nat.{ℕ, _≤_, _-_}
 use lib.ListN.{length, take, drop, getD, length-set}
 use Rattle.leaf.specs.Raised.{less}
 use Rattle.leaf.specs.RaisedLaws.{raised, raised-step, raised-done, raised-less, raised-le}
