@@ -1,6 +1,6 @@
 -- The block vectors in memory, and the neighbours of a macroblock (document 01, `svq1_mv_cache.rs`).
 use Prim.Native.Nat.{ℕ, _+_, _*_, _/_, _%_}
-use mathlib.Core.Bool.{Bool, true, false, _&&_}
+use mathlib.Core.Bool.{Bool, false, _&&_}
 use mathlib.Core.List.{List}
 use lib.Dec.{ltb}
 use lib.ListN.{getD}

@@ -1,6 +1,6 @@
 -- The motion search: candidates in their order, which are tried, which one stays, and its refusals (document 01, `svq1_enc_inter.rs`, refusals 1, 3, 4, 9, 23).
 use Prim.Native.Nat.{ℕ, zero, suc, _+_, _-_, _*_, _/_, _%_, min}
-use mathlib.Core.Bool.{Bool, true, false, _&&_, _||_}
+use mathlib.Core.Bool.{Bool, true, _&&_, _||_}
 use mathlib.Core.List.{List, [], _∷_}
 use mathlib.Core.Option.{Option, none, some}
 use lib.Dec.{eqb, leb, ltb}

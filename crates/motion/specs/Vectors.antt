@@ -1,6 +1,6 @@
 -- Motion vectors in half samples: predictor, difference, final vector (document 01, `svq1_motion_predictor.rs`, "The book", "Reading").
 use Prim.Native.Nat.{ℕ, min}
-use mathlib.Core.Bool.{Bool, true, false, _&&_}
+use mathlib.Core.Bool.{Bool, _&&_}
 use lib.IntN.{ℤ, pos, negsuc, subℕ, _+ℤ_, _-ℤ_}
 use lib.Signed.{ltZ, leZ}
 use Rattle.bits.specs.Basics.{pick, natural}

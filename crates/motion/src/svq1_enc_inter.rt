@@ -1,6 +1,6 @@
 ghost use mathlib.Core.Path.{_≡_};
 ghost use mathlib.Core.Bool.{_&&_};
-ghost use Prim.Native.Nat.{_<_, _≤_};
+ghost use Prim.Native.Nat.{_≤_};
 ghost use Rattle.bits.specs.Basics.{orElse};
 ghost use Rattle.motion.specs.Vectors.{inRange};
 ghost use Rattle.motion.specs.VectorsLaws.{InRange};

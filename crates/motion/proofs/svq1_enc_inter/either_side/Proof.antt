@@ -1,4 +1,3 @@
-use Prim.Native.Nat.{_-_}
 use borrow.Author.Tests.{eq-eqb, ne-eqb}
 use Rattle.motion.proofs.svq1_enc_inter.either_side.Statement.{statement}
 use Rattle.motion.proofs.svq1_enc_inter.either_side.Tie as tie

@@ -1,6 +1,5 @@
 use mathlib.Core.Path.{_≡_}
 use mathlib.Core.Bool.{true, false}
-use Prim.Native.Nat.{_-_}
 use mir.ValLaws.{toZ-ofZ}
 use mir.Syntax.{w32}
 use lib.IntN.{negsuc}

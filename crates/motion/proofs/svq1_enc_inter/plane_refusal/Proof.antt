@@ -1,5 +1,4 @@
 use mathlib.Core.Path.{sym, _∙_}
-use Prim.Native.Nat.{_-_}
 use Rattle.bits.specs.BasicsLaws.{or-first, or-next}
 use Rattle.motion.specs.SearchCallLaws.{size-passes}
 use borrow.Author.Needs.{needs}

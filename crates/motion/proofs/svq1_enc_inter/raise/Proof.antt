@@ -1,9 +1,8 @@
 use mathlib.Core.Path.{_≡_}
-use Prim.Native.Nat.{_+_, _-_}
 use mir.ValLaws.{toZ-ofZ}
 use mir.Val.{toZ, ofZ}
 use mir.Syntax.{w32}
-use lib.IntN.{ℤ, pos, _+ℤ_}
+use lib.IntN.{pos, _+ℤ_}
 use Rattle.motion.specs.SearchCallLaws.{raisedOf, raised-is, raised-sum}
 use native.Mathlib.Omega.{arith}
 use Rattle.motion.proofs.svq1_enc_inter.raise.Statement.{statement}

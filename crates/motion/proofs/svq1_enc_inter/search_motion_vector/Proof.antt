@@ -1,5 +1,4 @@
 use mathlib.Core.Path.{sym, _∙_, ap}
-use Prim.Native.Nat.{_-_}
 use native.Mathlib.Omega.{arith}
 use mir.ValLaws.{toZ-ofZ}
 use mir.Syntax.{w32}

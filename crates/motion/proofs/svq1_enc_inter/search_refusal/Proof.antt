@@ -1,5 +1,4 @@
 use mathlib.Core.Path.{sym, _∙_}
-use Prim.Native.Nat.{_-_}
 use borrow.Author.Tests.{not-true, not-false}
 use Rattle.motion.specs.Search.{Search}
 use Rattle.motion.specs.SearchCallLaws.{by-plane, by-block, by-vector, by-none}

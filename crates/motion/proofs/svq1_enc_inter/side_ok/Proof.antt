@@ -1,4 +1,3 @@
-use Prim.Native.Nat.{_-_}
 use borrow.Author.Tests.{le-leb, lt-leb}
 use Rattle.motion.proofs.svq1_enc_inter.side_ok.Statement.{statement}
 use Rattle.motion.proofs.svq1_enc_inter.side_ok.Tie as tie

@@ -1,4 +1,3 @@
-use Prim.Native.Nat.{_-_}
 use native.Mathlib.Omega.{arith}
 use Rattle.motion.specs.Compensation.{Canvas}
 use Rattle.motion.specs.RowsLaws.{read-full, summed-full}

@@ -1,5 +1,4 @@
 use mathlib.Core.Path.{_∙_}
-use Prim.Native.Nat.{_-_}
 use Rattle.motion.specs.RowsLaws.{parts-four}
 use borrow.Author.Needs.{needs}
 use Rattle.motion.proofs.inner.error.four_at.Statement.{statement}

@@ -1,6 +1,6 @@
 use Rattle.motion.specs.Compensation.{Canvas}
 use mathlib.Core.Path.{_≡_, _∙_}
-use Prim.Native.Nat.{_-_, _*_, _≤_}
+use Prim.Native.Nat.{_*_, _≤_}
 use native.Mathlib.Omega.{arith}
 use Rattle.motion.specs.RowsLaws.{one-of, row-across, row-down, row-both}
 use borrow.Author.Needs.{needs}

@@ -1,4 +1,3 @@
-use Prim.Native.Nat.{_-_}
 use native.Mathlib.Omega.{arith}
 use Rattle.motion.specs.MovedLaws.{clamp-low, clamp-in, clamp-high}
 use borrow.Author.Needs.{needs}

@@ -1,9 +1,8 @@
 use mathlib.Core.Path.{_≡_}
-use Prim.Native.Nat.{_+_, _-_}
 use mir.ValLaws.{toZ-ofZ}
 use mir.Val.{SFits, toZ, ofZ}
 use mir.Syntax.{w32, w64}
-use lib.IntN.{ℤ, pos, _+ℤ_}
+use lib.IntN.{pos, _+ℤ_}
 use Rattle.motion.specs.MovedLaws.{liftOf, lifted, lift-sum}
 use native.Mathlib.Omega.{arith}
 use Rattle.motion.proofs.inner.mc.lift.Statement.{statement}

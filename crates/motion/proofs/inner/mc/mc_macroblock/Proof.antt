@@ -1,5 +1,4 @@
 use mathlib.Core.Path.{_∙_}
-use Prim.Native.Nat.{_-_}
 use Rattle.motion.specs.Compensation.{Canvas}
 use Rattle.motion.specs.PartsLaws.{whole-moved}
 use borrow.Author.Needs.{needs}

@@ -1,4 +1,3 @@
-use Prim.Native.Nat.{_-_}
 use native.Mathlib.Omega.{arith}
 use Rattle.motion.specs.Compensation.{sampleAt}
 use Rattle.motion.specs.MovedLaws.{place-in}

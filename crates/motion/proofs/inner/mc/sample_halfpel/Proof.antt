@@ -1,4 +1,3 @@
-use Prim.Native.Nat.{_-_}
 use borrow.Author.Tests.{eq-eqb, ne-eqb}
 use Rattle.motion.specs.Compensation.{Canvas}
 use Rattle.motion.specs.MovedLaws.{half-is}

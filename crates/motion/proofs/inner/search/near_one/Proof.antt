@@ -1,5 +1,4 @@
 use mathlib.Core.Path.{refl}
-use Prim.Native.Nat.{_-_}
 use borrow.Author.Needs.{needs}
 use Rattle.motion.proofs.inner.search.near_one.Statement.{statement}
 use Rattle.motion.proofs.inner.search.near_one.Tie as tie

@@ -1,4 +1,3 @@
-use Prim.Native.Nat.{_-_}
 use Rattle.motion.specs.Candidates.{spotSearch, shown}
 use Rattle.motion.specs.ScanLaws.{whole}
 use borrow.Author.Needs.{needs}

@@ -1,5 +1,4 @@
 use mathlib.Core.Path.{sym, _∙_}
-use Prim.Native.Nat.{_-_}
 use borrow.Author.Tests.{not-true, not-false}
 use Rattle.motion.specs.CandidatesLaws.{Both, not-x, not-y, better, no-better, held, reads-x, reads-y, read-in, judged}
 use borrow.Author.Needs.{needs}
