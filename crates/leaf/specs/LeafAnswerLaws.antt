@@ -11,7 +11,6 @@ use lib.ListN.{length, take, drop, replicate, length-append, length-drop}
 use borrow.Author.Tests.{lt-ltb, le-ltb, eq-eqb, ne-eqb, le-leb, lt-leb, ltb-true, leb-true, eqb-true}
 use Rattle.bits.specs.Basics.{unless, Bytes}
 use Rattle.bits.specs.BasicsLaws.{both-true, or-none, or-first, or-next, unless-none}
-use Rattle.bits.specs.Calls.{refused}
 use Rattle.book.specs.Book.{dataRefusal, bookRefusal, codebookBytes, tablesOf}
 use Rattle.book.specs.BookLaws.{data-passes}
 use Rattle.book.specs.Level.{area, levelNumber}

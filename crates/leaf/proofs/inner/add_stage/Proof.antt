@@ -1,4 +1,4 @@
--- the vector lies within the sixteen
+-- One of sixteen vectors from the base on lies within them, so its end is within the book.
 use native.Mathlib.Omega.{arith}
 use mathlib.Core.Path.{_≡_}
 use Prim.Native.Nat.{_≤_, _*_, _-_, _+_}

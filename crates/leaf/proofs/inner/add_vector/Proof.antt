@@ -1,3 +1,4 @@
+-- Done and left make the whole list; what is not yet added to is as it came, so the bound of each sum still holds.
 use native.Mathlib.Omega.{arith}
 use mathlib.Core.Path.{_≡_, refl, _∙_}
 use mathlib.Core.List.{_++_}

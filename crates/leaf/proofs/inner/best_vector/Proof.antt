@@ -1,3 +1,4 @@
+-- The index is the definition's first least place of the vectors seen so far; a strictly lower error moves it.
 use native.Mathlib.Omega.{arith}
 use mathlib.Core.Path.{_≡_, refl, sym, _∙_, ap}
 use mathlib.Core.Logic.{⊎-elim}

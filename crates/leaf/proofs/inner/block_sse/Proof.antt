@@ -1,3 +1,4 @@
+-- Low bytes, 256 times the high bytes and the error still to come make the whole; 256 samples keep both totals below 2^16.
 use native.Mathlib.Omega.{arith}
 use mathlib.Core.Path.{_≡_}
 use Prim.Native.Nat.{_≤_, _*_, _-_, _+_}

@@ -1,5 +1,4 @@
--- `leafb::error_at` is the distance to the clamped sum, times itself.
--- Assumes nothing.
+-- The distance to the clamped sum, times itself: at most 255 squared. Assumes nothing.
 use borrow.Author.Needs.{needs}
 use native.Mathlib.Omega.{arith}
 use Prim.Native.Nat.{_≤_, _*_}

@@ -1,3 +1,4 @@
+-- By the sign of the sum: 256 and the rounded quotient, or 256 less it; below 0 intra has 256 alone.
 use native.Mathlib.Omega.{arith}
 use mathlib.Core.Path.{_≡_, sym, _∙_, ap}
 use Prim.Native.Nat.{ℕ, _-_, _+_, _/_, min}

@@ -1,3 +1,4 @@
+-- The sum of the differences is the difference of the two sums.
 use borrow.Author.Needs.{needs}
 use Rattle.leaf.specs.RaisedLaws.{residual-sums}
 use Rattle.leaf.proofs.inner.residual_mean.Statement.{statement}

@@ -1,3 +1,4 @@
+-- The invariant holds stages, sums, error and place together; `taken` carries it over one stage, `stopped` ends it at the definition.
 use native.Mathlib.Omega.{arith}
 use mathlib.Core.Path.{_≡_, refl}
 use Prim.Native.Nat.{_-_}

@@ -1,3 +1,4 @@
+-- Done and left make the predictor with the mean on every sample; taking the bias off gives the signed sums.
 use native.Mathlib.Omega.{arith}
 use mathlib.Core.Path.{_≡_, refl, _∙_, ap}
 use mathlib.Core.List.{List, _++_}

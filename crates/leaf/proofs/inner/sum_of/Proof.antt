@@ -1,3 +1,4 @@
+-- The sum so far and the sum of the rest make the whole; 256 samples keep it at 65,280.
 use native.Mathlib.Omega.{arith}
 use mathlib.Core.Path.{_≡_}
 use Prim.Native.Nat.{_≤_, _*_, _-_, _+_}

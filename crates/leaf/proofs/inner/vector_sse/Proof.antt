@@ -1,3 +1,4 @@
+-- As the error of a block, with the vector's sample added to each sum; the two biases add up.
 use native.Mathlib.Omega.{arith}
 use mathlib.Core.Path.{_≡_}
 use Prim.Native.Nat.{_≤_, _*_, _-_, _+_}

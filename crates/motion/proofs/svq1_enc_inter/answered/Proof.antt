@@ -1,3 +1,4 @@
+-- An error below 65,536 is a found vector's; its components are small, so lowering them loses nothing.
 use native.Mathlib.Omega.{arith}
 use borrow.Author.Tests.{lt-ltb, le-ltb}
 use mir.ValLaws.{toZ-ofZ}

@@ -1,3 +1,4 @@
+-- Test by test; a side that passes is 8 or 16, so the remainders and the square are safe.
 use mathlib.Core.Path.{sym, _∙_}
 use native.Mathlib.Omega.{arith}
 use borrow.Author.Tests.{lt-ltb, le-ltb, eq-eqb, ne-eqb, not-true, not-false}

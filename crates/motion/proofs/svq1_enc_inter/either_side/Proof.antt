@@ -1,3 +1,4 @@
+-- Two equations, each one of the definition's.
 use borrow.Author.Tests.{eq-eqb, ne-eqb}
 use Rattle.motion.proofs.svq1_enc_inter.either_side.Statement.{statement}
 use Rattle.motion.proofs.svq1_enc_inter.either_side.Tie as tie

@@ -1,3 +1,4 @@
+-- The two comparisons are the definition's, once the 32-bit number is read as the signed one.
 use mathlib.Core.Path.{_≡_}
 use mathlib.Core.Bool.{true, false}
 use mir.ValLaws.{toZ-ofZ}

@@ -1,3 +1,4 @@
+-- A number below 2^31 keeps its value as a signed one, and so does what is 1,024 less.
 use mathlib.Core.Path.{_≡_, refl}
 use native.Mathlib.Omega.{arith}
 use mir.ValLaws.{toZ-ofZ}

@@ -1,3 +1,4 @@
+-- The lowest refusal answers; a size that passes bounds what the canvas test multiplies.
 use mathlib.Core.Path.{sym, _∙_}
 use Rattle.bits.specs.BasicsLaws.{or-first, or-next}
 use Rattle.motion.specs.SearchCallLaws.{size-passes}

@@ -1,3 +1,4 @@
+-- A component in -32..31 and 1,024 add up to a number that is not negative.
 use mathlib.Core.Path.{_≡_}
 use mir.ValLaws.{toZ-ofZ}
 use mir.Val.{toZ, ofZ}

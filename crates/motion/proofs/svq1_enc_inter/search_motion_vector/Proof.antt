@@ -1,3 +1,4 @@
+-- A call that passes makes the search's spot, with the predictor raised; what it finds, lowered, is the definition's answer.
 use mathlib.Core.Path.{sym, _∙_, ap}
 use native.Mathlib.Omega.{arith}
 use mir.ValLaws.{toZ-ofZ}

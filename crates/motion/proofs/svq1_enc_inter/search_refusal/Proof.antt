@@ -1,3 +1,4 @@
+-- One law for each refusal in their order, and one for none.
 use mathlib.Core.Path.{sym, _∙_}
 use borrow.Author.Tests.{not-true, not-false}
 use Rattle.motion.specs.Search.{Search}

@@ -1,3 +1,4 @@
+-- Two tests, each one of the definition's.
 use borrow.Author.Tests.{le-leb, lt-leb}
 use Rattle.motion.proofs.svq1_enc_inter.side_ok.Statement.{statement}
 use Rattle.motion.proofs.svq1_enc_inter.side_ok.Tie as tie

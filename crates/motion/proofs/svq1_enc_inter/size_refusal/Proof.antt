@@ -1,3 +1,4 @@
+-- Width, then height: either one that fails is 1.
 use mathlib.Core.Path.{sym, _∙_}
 use borrow.Author.Tests.{not-true, not-false}
 use borrow.Author.Needs.{needs}

@@ -1,3 +1,4 @@
+-- Component by component.
 use mathlib.Core.Path.{sym, _∙_}
 use borrow.Author.Tests.{not-true, not-false}
 use mir.ValLaws.{toZ-ofZ}

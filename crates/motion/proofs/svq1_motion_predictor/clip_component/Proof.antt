@@ -1,3 +1,4 @@
+-- A 32-bit number keeps its value in 64 bits.
 use mathlib.Core.Path.{_∙_}
 use native.Mathlib.Omega.{arith}
 use borrow.Author.Needs.{needs}

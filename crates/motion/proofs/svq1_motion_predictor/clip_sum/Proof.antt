@@ -1,3 +1,4 @@
+-- Two 32-bit numbers add up in 64 bits without loss.
 use mathlib.Core.Path.{_∙_}
 use native.Mathlib.Omega.{arith}
 use borrow.Author.Needs.{needs}

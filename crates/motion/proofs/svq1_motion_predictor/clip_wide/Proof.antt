@@ -1,3 +1,4 @@
+-- Under, over, or between, where the number fits in 32 bits.
 use Prim.Native.Nat.{_<_}
 use native.Mathlib.Omega.{arith}
 use lib.Signed.{mag}

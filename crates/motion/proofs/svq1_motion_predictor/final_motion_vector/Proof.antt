@@ -1,3 +1,4 @@
+-- Component by component.
 use mathlib.Core.Path.{ap₂}
 use borrow.Author.Needs.{needs}
 use lib.IntN.{ℤ}

@@ -1,3 +1,4 @@
+-- The test is the definition's, once the 32-bit numbers are read as signed ones.
 use mir.ValLaws.{toZ-ofZ}
 use mir.Syntax.{w32}
 use mathlib.Core.Path.{_≡_}

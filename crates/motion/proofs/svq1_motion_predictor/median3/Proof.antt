@@ -1,3 +1,4 @@
+-- The definition is made of the same least and greatest ones.
 use mir.ValLaws.{toZ-ofZ}
 use mir.Syntax.{w32}
 use mathlib.Core.Path.{_∙_}

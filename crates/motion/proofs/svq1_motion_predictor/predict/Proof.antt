@@ -1,3 +1,4 @@
+-- Eight cases, each one of the definition's.
 use mathlib.Core.Path.{sym, _∙_}
 use Rattle.motion.specs.Vectors.{predicted}
 use borrow.Author.Needs.{needs}

@@ -1,3 +1,4 @@
+-- A full-sample place is the case in which both offsets are 0; the side is then named, so that each loop has a known length.
 use native.Mathlib.Omega.{arith}
 use Rattle.motion.specs.Compensation.{Canvas}
 use Rattle.motion.specs.RowsLaws.{read-full, summed-full}

@@ -1,3 +1,4 @@
+-- The side is 8 or 16, so the named number is it.
 use mathlib.Core.Path.{_≡_}
 use native.Mathlib.Omega.{arith}
 use Rattle.motion.proofs.inner.error.gaps_two.Statement.{statement}

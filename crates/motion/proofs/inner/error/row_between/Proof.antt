@@ -1,3 +1,4 @@
+-- One law for each way to lie between samples: across, down, both.
 use Rattle.motion.specs.Compensation.{Canvas}
 use mathlib.Core.Path.{_≡_, _∙_}
 use Prim.Native.Nat.{_*_, _≤_}

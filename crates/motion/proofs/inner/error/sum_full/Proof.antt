@@ -1,3 +1,4 @@
+-- The sum of the first i gaps; 16 of them stay below 2^16.
 use mathlib.Core.Path.{_≡_, refl, _∙_}
 use Prim.Native.Nat.{_-_, _*_, _≤_}
 use lib.ListN.{getD}

@@ -1,3 +1,4 @@
+-- A sample of a part is the one of the whole, further on by the part's start.
 use mathlib.Core.Path.{_∙_}
 use Rattle.motion.specs.RowsLaws.{parts-two}
 use borrow.Author.Needs.{needs}

@@ -1,3 +1,4 @@
+-- One law for each end and one for between; the number lowered by 2^31 is the signed place.
 use native.Mathlib.Omega.{arith}
 use Rattle.motion.specs.MovedLaws.{clamp-low, clamp-in, clamp-high}
 use borrow.Author.Needs.{needs}

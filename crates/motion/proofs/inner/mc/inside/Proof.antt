@@ -1,3 +1,4 @@
+-- The two tests are the definition's two.
 use borrow.Author.Tests.{le-leb, lt-leb}
 use borrow.Author.Needs.{needs}
 use Rattle.motion.proofs.inner.mc.inside.Statement.{statement}

@@ -1,3 +1,4 @@
+-- A 32-bit number and 2^32 add up in 64 bits to a number that is not negative.
 use mathlib.Core.Path.{_≡_}
 use mir.ValLaws.{toZ-ofZ}
 use mir.Val.{SFits, toZ, ofZ}

@@ -1,3 +1,4 @@
+-- One part of side 16 sets every sample, so nothing of the old ones is left.
 use mathlib.Core.Path.{_∙_}
 use Rattle.motion.specs.Compensation.{Canvas}
 use Rattle.motion.specs.PartsLaws.{whole-moved}

@@ -1,3 +1,4 @@
+-- Where both axes lie inside, no read is clamped, and the rows show the same samples as the reads one by one.
 use mathlib.Core.Path.{_≡_, sym, _∙_}
 use Prim.Native.Nat.{_+_, _*_, _/_, _%_}
 use native.Mathlib.Omega.{arith}

@@ -1,3 +1,4 @@
+-- The first i samples of the row are set, the rest as it came.
 use mathlib.Core.Path.{_≡_}
 use Prim.Native.Nat.{_+_, _-_, _≤_}
 use lib.ListN.{getD}

@@ -1,3 +1,4 @@
+-- The first j samples of the part are put where its order puts them; each is the definition's at its place.
 use mathlib.Core.Path.{_≡_, _∙_, ap}
 use Prim.Native.Nat.{ℕ, _-_, _*_, _≤_}
 use Rattle.motion.specs.Compensation.{Canvas}

@@ -1,3 +1,4 @@
+-- The first s times i samples of the part are put; a row of them is one run of the output and one of the canvas.
 use Rattle.bits.specs.Basics.{valuesFrom}
 use Rattle.motion.specs.Rows.{cell}
 use mathlib.Core.Path.{_≡_, _∙_, ap}

@@ -1,3 +1,4 @@
+-- One law for each of the four ways to lie between samples.
 use mathlib.Core.Path.{_≡_, _∙_}
 use Prim.Native.Nat.{_*_, _≤_}
 use native.Mathlib.Omega.{arith}

@@ -1,3 +1,4 @@
+-- Both numbers are clamped into the canvas, so the place is below its length.
 use native.Mathlib.Omega.{arith}
 use Rattle.motion.specs.Compensation.{sampleAt}
 use Rattle.motion.specs.MovedLaws.{place-in}

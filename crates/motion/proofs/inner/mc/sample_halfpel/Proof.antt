@@ -1,3 +1,4 @@
+-- Half of a raised number is the raised floor of the half, and its remainder tells whether it lies between samples.
 use borrow.Author.Tests.{eq-eqb, ne-eqb}
 use Rattle.motion.specs.Compensation.{Canvas}
 use Rattle.motion.specs.MovedLaws.{half-is}

@@ -1,3 +1,4 @@
+-- Below 0 the byte is the number plus 256, which a component in -32..31 keeps within a byte.
 use mathlib.Core.Path.{ap}
 use native.Mathlib.Omega.{arith}
 use lib.IntN.{pos, natAbs}

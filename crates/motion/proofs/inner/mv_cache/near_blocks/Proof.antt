@@ -1,3 +1,4 @@
+-- Each neighbour is the one read at its row and column; no row up or no column back is the row or column itself.
 use mathlib.Core.Path.{_∙_}
 use native.Mathlib.Omega.{arith}
 use Rattle.motion.specs.Neighbours.{nearOf}

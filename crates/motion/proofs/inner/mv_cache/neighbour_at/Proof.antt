@@ -1,3 +1,4 @@
+-- One law for each side off the plane; inside, the place is below the length of both slices.
 use mathlib.Core.Path.{ap₂, _∙_}
 use Prim.Native.Nat.{_-_}
 use native.Mathlib.Omega.{arith}

@@ -1,3 +1,4 @@
+-- The test at 128 is that of two's complement.
 use mathlib.Core.Path.{_∙_}
 use native.Mathlib.Omega.{arith}
 use borrow.Author.Needs.{needs}

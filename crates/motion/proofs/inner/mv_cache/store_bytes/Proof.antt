@@ -1,3 +1,4 @@
+-- The first j bytes are put; all four are the macroblock's, and every other place is as it came.
 use mathlib.Core.Path.{_≡_, refl, ap, _∙_}
 use Prim.Native.Nat.{ℕ, _-_, _≤_}
 use native.Mathlib.Omega.{arith}

@@ -1,3 +1,4 @@
+-- Four bytes, each that of its component.
 use mathlib.Core.Path.{_∙_}
 use mir.ValLaws.{toZ-ofZ}
 use mir.Syntax.{w32}

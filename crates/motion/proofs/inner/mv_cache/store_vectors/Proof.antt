@@ -1,3 +1,4 @@
+-- Each slice has room for the macroblock's four places; x goes into one, y into the other.
 use mir.ValLaws.{toZ-ofZ}
 use mir.Syntax.{w32}
 use Rattle.motion.specs.CacheLaws.{room-x, room-y}

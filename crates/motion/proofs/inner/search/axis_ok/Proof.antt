@@ -1,3 +1,4 @@
+-- Six tests, each one of the definition's; the numbers are raised, so none falls below 0.
 use borrow.Author.Tests.{le-leb, lt-leb}
 use borrow.Author.Needs.{needs}
 use Rattle.motion.proofs.inner.search.axis_ok.Statement.{statement}

@@ -1,3 +1,4 @@
+-- The rows before the span are not codable and change nothing, and neither do those behind it; between them row by row.
 use mathlib.Core.Path.{_≡_, _∙_}
 use Prim.Native.Nat.{_-_, _≤_}
 use Rattle.motion.specs.Search.{rowsTo}

@@ -1,3 +1,4 @@
+-- The first k of the nine places around the vector are tried.
 use mathlib.Core.Path.{_≡_}
 use Prim.Native.Nat.{_-_, _≤_}
 use Rattle.motion.specs.Search.{aroundTo}

@@ -1,3 +1,4 @@
+-- The middle place is the vector itself, which is not tried again.
 use mathlib.Core.Path.{refl}
 use borrow.Author.Needs.{needs}
 use Rattle.motion.proofs.inner.search.near_one.Statement.{statement}

@@ -1,3 +1,4 @@
+-- The columns before the span are not codable and change nothing, and neither do those behind it; between them one by one.
 use mathlib.Core.Path.{_≡_, _∙_}
 use Prim.Native.Nat.{_-_, _≤_}
 use Rattle.motion.specs.Search.{rowTo}

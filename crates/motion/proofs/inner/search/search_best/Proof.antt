@@ -1,3 +1,4 @@
+-- Zero, the full samples and the places around their best, one after the other, are the definition's search.
 use Rattle.motion.specs.Candidates.{spotSearch, shown}
 use Rattle.motion.specs.ScanLaws.{whole}
 use borrow.Author.Needs.{needs}

@@ -1,3 +1,4 @@
+-- Outside the span a candidate is out of -32..31 or further than that from the predictor.
 use Prim.Native.Nat.{_+_, _-_, _/_}
 use native.Mathlib.Omega.{arith}
 use Rattle.motion.specs.ScanLaws.{spans}

@@ -1,3 +1,4 @@
+-- An error that ends early has reached the best one, so it does not replace it; whole, it is the definition's error.
 use mathlib.Core.Path.{sym, _∙_}
 use borrow.Author.Tests.{not-true, not-false}
 use Rattle.motion.specs.CandidatesLaws.{Both, not-x, not-y, better, no-better, held, reads-x, reads-y, read-in, judged}
