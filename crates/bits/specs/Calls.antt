@@ -1,13 +1,13 @@
 -- What the public calls on bits answer and leave (document 01, refusals 5, 6, 10, 21, 22, 24).
-use Prim.Native.Nat.{ℕ, zero, suc, _+_, _-_, _*_, _/_, _%_, _^_}
+use Prim.Native.Nat.{ℕ, _+_, _-_, _*_, _/_, _%_, _^_}
 use mathlib.Core.Path.{_≡_}
-use mathlib.Core.Bool.{Bool, true, false, _&&_}
-use mathlib.Core.List.{List, [], _∷_}
+use mathlib.Core.Bool.{_&&_}
+use mathlib.Core.List.{List}
 use lib.Dec.{eqb, leb, ltb}
 use lib.ListN.{length, take, drop}
 use Rattle.bits.specs.Basics.{pick, orElse, unless}
-use Rattle.bits.specs.Bits.{msb, valOf, bitsOf, putBits}
-use Rattle.bits.specs.Codes.{codeVal, codeLen, code, codesOf, goodEntry, goodTable, readCode}
+use Rattle.bits.specs.Bits.{valOf, bitsOf, putBits}
+use Rattle.bits.specs.Codes.{codeVal, codeLen, codesOf, goodEntry, goodTable, readCode}
 use Rattle.bits.specs.declared.svq1_enc.Pushed.{Pushed}
 use Rattle.bits.specs.declared.svq1_enc.Pushed.the-variants as pushed
 use Rattle.bits.specs.declared.svq1_vlc.CodeRead.{CodeRead}

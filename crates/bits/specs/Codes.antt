@@ -1,5 +1,5 @@
 -- Tables of codes, and reading one code or a number from the front of a bit list (document 01, "The book", "Reading", refusals 6, 7, 10, 24).
-use Prim.Native.Nat.{ℕ, zero, suc, _+_, _*_, _^_}
+use Prim.Native.Nat.{ℕ, suc, _+_, _*_, _^_}
 use mathlib.Core.Bool.{Bool, true, false, not, _&&_, _||_}
 use mathlib.Core.List.{List, [], _∷_}
 use lib.Dec.{eqb, leb, ltb}

@@ -5,7 +5,7 @@ use mathlib.Core.List.{List, [], _++_}
 use native.Mathlib.Nat.{add-zero}
 use native.Mathlib.Omega.{arith}
 use lib.ListN.{length, drop, length-append}
-use Rattle.bits.specs.Bits.{bitsOf, putBits, afterBits}
+use Rattle.bits.specs.Bits.{bitsOf, afterBits}
 use Rattle.bits.specs.BitsLaws.{put-nil, put-put, put-length, drop-put, bits-whole, length-bitsOf}
 use Rattle.bits.specs.Inner.{Wrote}
 

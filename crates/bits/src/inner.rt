@@ -1,8 +1,8 @@
 // Functions that only the crates of this repository call. Most have a `requires`: the caller, proved too, meets it. The functions for
 // everybody else, which refuse what does not fit, are in svq1_enc and svq1_vlc.
 ghost use mathlib.Core.Path.{_≡_};
-ghost use mathlib.Core.Bool.{true, false};
-ghost use Prim.Native.Nat.{ℕ, _+_, _*_, _/_, _%_, _-_, _^_, _<_, _≤_, min};
+ghost use mathlib.Core.Bool.{true};
+ghost use Prim.Native.Nat.{_+_, _*_, _/_, _%_, _-_, _^_, _<_, _≤_, min};
 ghost use lib.ListN.{length, take, drop};
 ghost use Rattle.bits.specs.Bits.{msb, valOf, bitsOf, putBits};
 ghost use Rattle.bits.specs.Inner.{Fits, GoodEntry, Wrote, FirstThatBegins};

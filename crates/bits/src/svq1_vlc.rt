@@ -1,7 +1,6 @@
 // Numbers and codes read from a lent slice.
 ghost use mathlib.Core.Path.{_≡_};
-ghost use lib.ListN.{length};
-ghost use Rattle.bits.specs.Calls.{tableRefusal, startRefusal, bitsAnswer, bitsAt, codeAnswer, codeAt, readAnswer};
+ghost use Rattle.bits.specs.Calls.{tableRefusal, bitsAnswer, bitsAt, codeAnswer, codeAt, readAnswer};
 use super::inner;
 
 // What reading a code finds at a bit: the position of its entry and the bit behind it; no code; or the start of one, cut off by the end.

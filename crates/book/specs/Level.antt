@@ -1,6 +1,6 @@
 -- The levels of the block tree and their blocks' dimensions (document 01, `svq1_blocktree.rs`).
 use Prim.Native.Nat.{ℕ, zero, suc, _+_, _*_}
-use mathlib.Core.Bool.{Bool, true, false, not}
+use mathlib.Core.Bool.{Bool, false, not}
 use mathlib.Core.Path.{_≡_, refl}
 use Rattle.bits.specs.Basics.{pick}
 use Rattle.book.specs.declared.svq1_blocktree.Svq1Level.{Svq1Level}

@@ -1,10 +1,10 @@
 // What refuses a lent book.
 ghost use mathlib.Core.Path.{_≡_};
 ghost use mathlib.Core.Bool.{true};
-ghost use Prim.Native.Nat.{_<_, _≤_};
+ghost use Prim.Native.Nat.{_<_};
 ghost use lib.ListN.{length, getD};
 ghost use Rattle.bits.specs.Codes.{goodTable};
-ghost use Rattle.book.specs.Book.{bookBytes, codeTableSizes, eachPrefixFree, codesRefusal, bookRefusal, dataRefusal};
+ghost use Rattle.book.specs.Book.{bookBytes, codeTableSizes, eachPrefixFree, bookRefusal, dataRefusal};
 use bits::inner;
 
 // Entries of each of the sixteen code tables, in the order in which a book holds them.

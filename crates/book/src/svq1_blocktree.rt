@@ -1,5 +1,5 @@
 ghost use mathlib.Core.Path.{_≡_};
-ghost use Prim.Native.Nat.{ℕ, _≤_};
+ghost use Prim.Native.Nat.{_≤_};
 ghost use Rattle.book.specs.Calls.{subdivision};
 ghost use Rattle.book.specs.Level.{levelNumber, width, height, area};
 

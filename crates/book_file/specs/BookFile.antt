@@ -1,10 +1,9 @@
 -- A book file: its lines, what refuses it and the book that it holds (document 01, "The book", refusals 5, 6, 7).
-use Prim.Native.Nat.{ℕ, zero, suc, _+_, _*_, _/_, _%_}
-use mathlib.Core.Bool.{Bool, true, false, _&&_}
+use Prim.Native.Nat.{ℕ, zero, suc, _+_, _/_, _%_}
+use mathlib.Core.Bool.{Bool, true, _&&_}
 use mathlib.Core.List.{List, [], _∷_}
 use mathlib.Core.Option.{Option, none, some}
 use lib.Dec.{eqb, ltb}
-use lib.ListN.{length}
 use Rattle.bits.specs.Basics.{pick, every, orElse, unless}
 use Rattle.bits.specs.Codes.{goodEntry}
 use Rattle.text.specs.Text.{numberUpTo, linesOf, fieldsOf, same}

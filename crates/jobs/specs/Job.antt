@@ -1,10 +1,9 @@
 -- The job line of the listing program (document 01, "Refused for the state met", the listing program).
 use Prim.Native.Nat.{ℕ, _-_, _^_}
-use mathlib.Core.Bool.{Bool, true, false, _&&_}
+use mathlib.Core.Bool.{Bool}
 use mathlib.Core.List.{List, [], _∷_}
 use mathlib.Core.Option.{Option, none, some}
-use lib.Dec.{eqb, leb}
-use Rattle.bits.specs.Basics.{pick}
+use lib.Dec.{eqb}
 use Rattle.text.specs.Text.{numberUpTo, linesOf, fieldsOf}
 
 -- width, height, lambda, radius, four

@@ -1,6 +1,5 @@
 -- What the listing program prints (document 01, "Refused for the state met", the listing program; "Bench cards").
-use Prim.Native.Nat.{ℕ, zero, suc, _+_, _*_, _/_, _%_, _^_}
-use mathlib.Core.Bool.{Bool, true, false}
+use Prim.Native.Nat.{ℕ, zero, suc, _*_, _/_, _%_}
 use mathlib.Core.List.{List, [], _∷_, _++_}
 use mathlib.Core.Option.{Option, none, some}
 use lib.Dec.{eqb}
@@ -11,13 +10,11 @@ use Rattle.book.specs.Book.{codebookBytes}
 use Rattle.text.specs.Text.{decimal, lineOf}
 use Rattle.book_file.specs.BookFile.{fileRefusal, fileBook}
 use Rattle.motion.specs.Search.{padded16, sizeRefusal, canvasRefusal}
-use Rattle.motion.specs.Compensation.{Canvas}
 use Rattle.macroblock.specs.declared.svq1_enc_inter.Svq1MbMode.{Svq1MbMode}
 use Rattle.macroblock.specs.declared.svq1_enc_inter.Svq1MbMode.the-variants.{Inter, Inter4Mv, Intra, Skip}
 use Rattle.macroblock.specs.Macroblock.{Given, cols}
 use Rattle.macroblock.specs.Choice.{Task}
-use Rattle.plane.specs.Run.{End}
-use Rattle.plane.specs.Plane.{count, Slices, Writing, StepStated, stepStated, writePlane, writingAt}
+use Rattle.plane.specs.Plane.{count, Slices, Writing, stepStated, writePlane, writingAt}
 use Rattle.plane.specs.Calls.{sourceRefusal}
 use Rattle.jobs.specs.Job.{Job, jobIn}
 
