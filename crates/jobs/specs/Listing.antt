@@ -17,7 +17,8 @@ use Rattle.macroblock.specs.declared.svq1_enc_inter.Svq1MbMode.the-variants.{In
 use Rattle.macroblock.specs.Macroblock.{Given, cols}
 use Rattle.macroblock.specs.Choice.{Task}
 use Rattle.plane.specs.Run.{End}
-use Rattle.plane.specs.Plane.{count, Slices, Writing, StepStated, stepStated, writePlane, writingAt}
+use Rattle.macroblock.specs.Slices.{Slices}
+use Rattle.plane.specs.Plane.{count, Writing, StepStated, stepStated, writePlane, writingAt}
 use Rattle.plane.specs.Calls.{sourceRefusal}
 use Rattle.jobs.specs.Job.{Job, jobIn}
 

@@ -3,4 +3,7 @@ pub mod Mode
 pub mod Macroblock
 pub mod Choice
 pub mod Reading
+pub mod Slices
+pub mod Inner
+pub mod Motions
 pub mod MacroblockLaws

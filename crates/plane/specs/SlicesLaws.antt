@@ -11,7 +11,8 @@ use Rattle.motion.specs.Grid.{putPart}
 use Rattle.motion.specs.GridLaws.{Agree, Holds, agree-put, length-put, in-owner, put-past}
 use Rattle.motion.specs.NeighboursLaws.{near-same}
 use Rattle.macroblock.specs.Macroblock.{Given, cols, rows, Choice, vectorsOf, shown}
-use Rattle.plane.specs.Plane.{count, Slices, near, laid}
+use Rattle.macroblock.specs.Slices.{Slices, near, laid}
+use Rattle.plane.specs.Plane.{count}
 
 -- slices that pass refusal 20
 pub record Sized (g : Given) (s : Slices) : Type 0 where

@@ -2,9 +2,6 @@ ghost use mathlib.Core.Path.{_≡_};
 ghost use Prim.Native.Nat.{ℕ, _*_};
 ghost use Rattle.motion.specs.Search.{sizeRefusal};
 
-// The side of a macroblock in samples.
-pub const MB_DIM: usize = 16;
-
 // The longest side of a plane.
 const LARGEST_SIDE: usize = 1024;
 
