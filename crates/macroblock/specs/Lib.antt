@@ -6,4 +6,7 @@ pub mod Reading
 pub mod Slices
 pub mod Inner
 pub mod Motions
+pub mod Samples
+pub mod SamplesLaws
+pub mod InnerLaws
 pub mod MacroblockLaws

@@ -1,0 +1,99 @@
+-- Laws of a macroblock's samples: the block that a zero vector reads, what a tree is laid over by cases, and the room for both.
+-- Assumes nothing.
+use mathlib.Core.Path.{_≡_, sym, ap, _∙_}
+use mathlib.Core.List.{List}
+use Prim.Native.Nat.{ℕ, _+_, _*_, _/_, _%_, _<_}
+use native.Mathlib.Omega.{arith}
+use native.Mathlib.Nat.{zero-add}
+use native.Mathlib.Numerals.{add-one}
+use lib.ListN.{length, take, set, getD, replicate, length-set, replicate-append-replicate}
+use lib.Seq.{ext-getD, take-suc-set}
+use Rattle.bits.specs.BasicsLaws.{length-values, value-at}
+use Rattle.motion.specs.declared.svq1_motion_predictor.Svq1Mv.{Svq1Mv}
+use Rattle.motion.specs.Vectors.{zeroMv}
+use Rattle.motion.specs.Compensation.{Canvas, movedSample, movedBlock}
+use Rattle.motion.specs.Grid.{entryOf, part}
+use Rattle.motion.specs.GridLaws.{length-part, part-at}
+use Rattle.motion.specs.Moved.{movedPart, Placed}
+use Rattle.motion.specs.PartsLaws.{four-moved}
+use Rattle.motion.specs.Search.{blocksAlong}
+use Rattle.motion.specs.Rows.{cell}
+use Rattle.motion.specs.RowsLaws.{half-in}
+use Rattle.macroblock.specs.declared.svq1_enc_inter.MbMotion.{MbMotion}
+use Rattle.macroblock.specs.declared.svq1_enc_inter.MbMotion.the-variants.{None, One, Four}
+use Rattle.macroblock.specs.declared.svq1_plane.Svq1PlaneCanvas.{Svq1PlaneCanvas}
+use Rattle.macroblock.specs.Macroblock.{baseline}
+use Rattle.macroblock.specs.Inner.{givenBy}
+use Rattle.macroblock.specs.Motions.{motionOf}
+use Rattle.macroblock.specs.Samples.{Stands, quarters}
+
+-- the macroblocks in a row, and macroblock k's place, by the stride
+module _ (c : Canvas) (cols k : ℕ) (s : Stands c cols k) where
+  pub cols-is : c .stride / 16 ≡ cols
+  cols-is = omega (arith, s .across)
+
+  pub stands-at : Placed c (16 * (k % (c .stride / 16))) (16 * (k / (c .stride / 16)))
+  stands-at = rw cols-is (s .placed)
+
+-- a sample that a zero vector reads
+still-sample : (c : Canvas) (cols k : ℕ) → Stands c cols k → (j : ℕ) → j < 256
+    → movedSample c 16 (16 * (k % cols)) (16 * (k / cols)) zeroMv j ≡ getD (c .samples) (entryOf 16 cols k j) 0
+unfolding cell
+still-sample c cols k s j h =
+    let p = s .placed in
+    let x : ℕ = 16 * (k % cols) + j % 16 in
+    let y : ℕ = 16 * (k / cols) + j / 16 in
+    let e : y * c .stride + x ≡ entryOf 16 cols k j =
+    let a : y ≡ k / cols * 16 + j / 16 = omega arith in
+    let b : x ≡ k % cols * 16 + j % 16 = omega arith in
+    rw (a, b, s .across) in
+    half-in c x y 0 0 (omega arith) (omega arith) (omega (arith, p .x-in)) (omega (arith, p .y-in)) ∙ ap (λ (i : ℕ). getD (c .samples) i 0) e
+
+-- MACROBLOCK k is the block that a zero vector reads
+pub still-block : (c : Canvas) (cols k : ℕ) → Stands c cols k → movedBlock c 16 (16 * (k % cols)) (16 * (k / cols)) zeroMv ≡ part 16 cols k (c .samples)
+unfolding movedBlock
+still-block c cols k s =
+    ext-getD 0 _ _ (length-values _ 256 0 ∙ sym (length-part 16 cols (omega arith) (s .wide) k (c .samples))) (λ j l.
+    let h : j < 256 = rw length-values at l in
+    value-at (movedSample c 16 (16 * (k % cols)) (16 * (k / cols)) zeroMv) 256 0 j 0 h
+    ∙ ap (movedSample c 16 (16 * (k % cols)) (16 * (k / cols)) zeroMv) (zero-add j)
+    ∙ still-sample c cols k s j h
+    ∙ sym (part-at 16 cols (omega arith) (s .wide) k (c .samples) j h))
+
+-- one zero more
+pub clear-more : (xs : List ℕ) (j : ℕ) → j < 256 → length xs ≡ 256 → take j xs ≡ replicate j 0
+    → (length (set xs j 0) ≡ 256) × (take (j + 1) (set xs j 0) ≡ replicate (j + 1) 0)
+clear-more xs j h n e = (
+  length-set xs j 0 ∙ n,
+  rw (add-one j, take-suc-set xs j 0 (omega arith), e) (replicate-append-replicate j 1 0 ∙ ap (λ (m : ℕ). replicate m 0) (add-one j)),
+)
+
+-- four quarters, one after the other
+pub quarters-moved : (c : Canvas) (x y : ℕ) (vs : List Svq1Mv) (a b d e : Svq1Mv) (o1 o2 o3 o4 xs : List ℕ) → length xs ≡ 256
+    → a ≡ getD vs 0 zeroMv → b ≡ getD vs 1 zeroMv → d ≡ getD vs 2 zeroMv → e ≡ getD vs 3 zeroMv
+    → o1 ≡ movedPart c x y a 8 2 0 xs → o2 ≡ movedPart c x y b 8 2 1 o1 → o3 ≡ movedPart c x y d 8 2 2 o2 → o4 ≡ movedPart c x y e 8 2 3 o3
+    → o4 ≡ quarters c x y vs
+unfolding quarters
+quarters-moved c x y vs a b d e o1 o2 o3 o4 xs h p q r s f1 f2 f3 f4 =
+    rw (f4, f3, f2, f1, p, q, r, s) (four-moved c x y (getD vs 0 zeroMv) (getD vs 1 zeroMv) (getD vs 2 zeroMv) (getD vs 3 zeroMv) xs h)
+
+-- what a tree is laid over, by the motion
+module _ (c : Svq1PlaneCanvas) (reference : List ℕ) (k : ℕ) (m : MbMotion) (vs : List Svq1Mv) (out : List ℕ) where
+  abbrev lent : Canvas
+  lent = record { samples = reference; stride = c .stride; rows = c .rows }
+
+  abbrev pub Laid : Type 0
+  Laid = (book codebook : List ℕ) → out ≡ baseline (givenBy c reference book codebook) k (motionOf m vs)
+
+  pub over-none : m ≡ None → out ≡ replicate 256 0 → Laid
+  unfolding baseline
+  over-none e o book codebook = rw e o
+
+  module _ (s : Stands lent (blocksAlong (c .width)) k) where
+    pub over-one : (v d : Svq1Mv) → m ≡ One v d → out ≡ movedBlock lent 16 (16 * (k % (c .stride / 16))) (16 * (k / (c .stride / 16))) v → Laid
+    unfolding baseline
+    over-one v d e o book codebook = rw e (rw (cols-is lent (blocksAlong (c .width)) k s) at o)
+
+    pub over-four : m ≡ Four → out ≡ quarters lent (16 * (k % (c .stride / 16))) (16 * (k / (c .stride / 16))) vs → Laid
+    unfolding baseline quarters
+    over-four e o book codebook = rw e (rw (cols-is lent (blocksAlong (c .width)) k s) at o)

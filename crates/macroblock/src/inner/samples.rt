@@ -1,0 +1,106 @@
+// A macroblock's 256 samples.
+ghost use mathlib.Core.Path.{_≡_};
+ghost use mathlib.Core.List.{List};
+ghost use Prim.Native.Nat.{ℕ};
+ghost use lib.ListN.{length, replicate};
+ghost use Rattle.motion.specs.Grid.{part, putPart};
+ghost use Rattle.motion.specs.Moved.{Placed};
+ghost use Rattle.motion.specs.Search.{blocksAlong};
+ghost use Rattle.macroblock.specs.Macroblock.{baseline};
+ghost use Rattle.macroblock.specs.Motions.{motionOf};
+ghost use Rattle.macroblock.specs.Inner.{givenBy};
+ghost use Rattle.macroblock.specs.Samples.{Stands, Room, quarters};
+use super::super::svq1_enc_inter::MbMotion;
+use super::super::svq1_plane::Svq1PlaneCanvas;
+use motion::inner::mc::mc_macroblock;
+use motion::inner::mc::mc_quarter;
+use motion::svq1_motion_predictor::Svq1Mv;
+use motion::svq1_motion_predictor::zero_vector;
+
+// Macroblock k of a plane, whose canvas has this stride and so many rows: the block that a zero vector reads.
+pub fn take_block(
+    plane: &[u8],
+    stride: usize,
+    rows: usize,
+    cols: usize,
+    k: usize,
+    out: &mut [u8; 256],
+)
+    requires { ⌜ Stands (record { samples = now plane; stride = stride; rows = rows }) cols k × (length (now out) ≡ 256) ⌝ }
+    ensures { λ _. ⌜ now (out .exit) ≡ part 16 cols k (now (plane .entry)) ⌝ }
+{
+    let x = 16 * (k % cols);
+    let y = 16 * (k / cols);
+    mc_macroblock(out, plane, stride, rows, x, y, zero_vector());
+}
+
+// The samples v as macroblock k of a plane that is cols macroblocks wide.
+pub fn put_block(plane: &mut [u8], cols: usize, k: usize, v: &[u8; 256])
+    requires { ⌜ Room cols k (now plane) ⌝ }
+    ensures { λ _. ⌜ now (plane .exit) ≡ putPart 16 cols k (now (v .entry)) (now (plane .entry)) ⌝ }
+{
+    let mut j: usize = 0;
+    while j < 256 {
+        plane[(k / cols * 16 + j / 16) * (16 * cols) + (k % cols * 16 + j % 16)] = v[j];
+        j += 1;
+    }
+}
+
+// Zeros.
+pub fn clear(out: &mut [u8; 256])
+    requires { ⌜ length (now out) ≡ 256 ⌝ }
+    ensures { λ _. ⌜ now (out .exit) ≡ replicate 256 0 ⌝ }
+{
+    let mut j: usize = 0;
+    while j < 256 {
+        out[j] = 0;
+        j += 1;
+    }
+}
+
+// The macroblock at (x, y), each quarter moved by its vector.
+fn move_quarters(
+    out: &mut [u8; 256],
+    reference: &[u8],
+    stride: usize,
+    rows: usize,
+    x: usize,
+    y: usize,
+    vectors: [Svq1Mv; 4],
+)
+    requires { ⌜ Placed (record { samples = now reference; stride = stride; rows = rows }) x y × (length (now out) ≡ 256) ⌝ }
+    ensures { λ _. ⌜ now (out .exit) ≡ quarters (record { samples = now (reference .entry); stride = stride; rows = rows }) x y vectors ⌝ }
+{
+    let a = vectors[0];
+    let b = vectors[1];
+    let c = vectors[2];
+    let d = vectors[3];
+    mc_quarter(out, reference, stride, rows, x, y, a, 0);
+    mc_quarter(out, reference, stride, rows, x, y, b, 1);
+    mc_quarter(out, reference, stride, rows, x, y, c, 2);
+    mc_quarter(out, reference, stride, rows, x, y, d, 3);
+}
+
+// What the tree of macroblock k is laid over: 0 where there is no motion, else the reference moved by one vector or by four.
+pub fn baseline_of(
+    canvas: Svq1PlaneCanvas,
+    reference: &[u8],
+    k: usize,
+    motion: MbMotion,
+    vectors: [Svq1Mv; 4],
+    out: &mut [u8; 256],
+)
+    requires { ⌜ Stands (record { samples = now reference; stride = canvas .stride; rows = canvas .rows }) (blocksAlong (canvas .width)) k × (length (now out) ≡ 256) ⌝ }
+    ensures { λ _. ⌜ ((book codebook : List ℕ) → now (out .exit) ≡ baseline (givenBy canvas (now (reference .entry)) book codebook) k (motionOf motion vectors)) ⌝ }
+{
+    let stride = canvas.stride;
+    let rows = canvas.rows;
+    let cols = stride / 16;
+    let x = 16 * (k % cols);
+    let y = 16 * (k / cols);
+    match motion {
+        MbMotion::None => clear(out),
+        MbMotion::One { mv, diff: _ } => mc_macroblock(out, reference, stride, rows, x, y, mv),
+        MbMotion::Four => move_quarters(out, reference, stride, rows, x, y, vectors),
+    }
+}
