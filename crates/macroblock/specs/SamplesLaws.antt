@@ -1,17 +1,19 @@
 -- Laws of a macroblock's samples: the block that a zero vector reads, what a tree is laid over by cases, and the room for both.
 -- Assumes nothing.
-use mathlib.Core.Path.{_≡_, sym, ap, _∙_}
+use mathlib.Core.Path.{_≡_, refl, sym, ap, _∙_}
 use mathlib.Core.List.{List}
 use Prim.Native.Nat.{ℕ, _+_, _*_, _/_, _%_, _<_}
 use native.Mathlib.Omega.{arith}
 use native.Mathlib.Nat.{zero-add}
 use native.Mathlib.Numerals.{add-one}
-use lib.ListN.{length, take, set, getD, replicate, length-set, replicate-append-replicate}
+use lib.ListN.{length, take, set, getD, replicate, length-set, length-replicate, replicate-append-replicate}
 use lib.Seq.{ext-getD, take-suc-set}
+use Rattle.book.specs.declared.svq1_vlc.Svq1Half.{Svq1Half}
 use Rattle.bits.specs.BasicsLaws.{length-values, value-at}
 use Rattle.motion.specs.declared.svq1_motion_predictor.Svq1Mv.{Svq1Mv}
 use Rattle.motion.specs.Vectors.{zeroMv}
 use Rattle.motion.specs.Compensation.{Canvas, movedSample, movedBlock}
+use Rattle.motion.specs.CompensationLaws.{length-moved}
 use Rattle.motion.specs.Grid.{entryOf, part}
 use Rattle.motion.specs.GridLaws.{length-part, part-at}
 use Rattle.motion.specs.Moved.{movedPart, Placed}
@@ -19,13 +21,18 @@ use Rattle.motion.specs.PartsLaws.{four-moved}
 use Rattle.motion.specs.Search.{blocksAlong}
 use Rattle.motion.specs.Rows.{cell}
 use Rattle.motion.specs.RowsLaws.{half-in}
+use Rattle.tree.specs.GeometryLaws.{in-whole}
+use Rattle.tree.specs.Rebuild.{Lies, Rebuilding, rebuiltBy}
+use Rattle.tree.specs.ShownLaws.{rebuilt-shown}
+use Rattle.tree.specs.TreeBits.{Node}
+use Rattle.tree.specs.Walk.{SoundTree}
 use Rattle.macroblock.specs.declared.svq1_enc_inter.MbMotion.{MbMotion}
 use Rattle.macroblock.specs.declared.svq1_enc_inter.MbMotion.the-variants.{None, One, Four}
 use Rattle.macroblock.specs.declared.svq1_plane.Svq1PlaneCanvas.{Svq1PlaneCanvas}
-use Rattle.macroblock.specs.Macroblock.{baseline}
+use Rattle.macroblock.specs.Macroblock.{Given, Motion, still, single, four, halfOf, leftOf, topOf, baseline, shown}
 use Rattle.macroblock.specs.Inner.{givenBy}
 use Rattle.macroblock.specs.Motions.{motionOf}
-use Rattle.macroblock.specs.Samples.{Stands, quarters}
+use Rattle.macroblock.specs.Samples.{Stands, Showing, Shows, quarters}
 
 -- the macroblocks in a row, and macroblock k's place, by the stride
 module _ (c : Canvas) (cols k : ℕ) (s : Stands c cols k) where
@@ -97,3 +104,25 @@ module _ (c : Svq1PlaneCanvas) (reference : List ℕ) (k : ℕ) (m : MbMotion) (
     pub over-four : m ≡ Four → out ≡ quarters lent (16 * (k % (c .stride / 16))) (16 * (k / (c .stride / 16))) vs → Laid
     unfolding baseline quarters
     over-four e o book codebook = rw e (rw (cols-is lent (blocksAlong (c .width)) k s) at o)
+
+-- ---- what a tree shows
+pub length-baseline : (g : Given) (k : ℕ) (m : Motion) → length (baseline g k m) ≡ 256
+unfolding baseline
+length-baseline g k still = length-replicate {A = ℕ} 256 0
+length-baseline g k (single v) = length-moved (g .reference) 16 (leftOf g k) (topOf g k) v
+length-baseline g k (four a b c d) = length-values _ 256 0
+
+-- the whole macroblock, in 256 samples
+pub whole-tree : (c : Canvas) (cols k raised p n : ℕ) (h half : Svq1Half) (t : List Node) → Showing c cols k raised half t → h ≡ half → p ≡ 256 → n ≡ 256
+    → Rebuilding h t p raised 16 5 0 n
+whole-tree c cols k raised p n h half t g e a b =
+    let lies : Lies 16 5 0 256 256 =
+    record { deep = refl; number = omega arith; stride = omega arith; predictor = in-whole; predictor-small = omega arith; shown = in-whole; shown-small = omega arith } in
+    rw (e, a, b) (record { lies = lies; copy = g .copy; sound = g .sound })
+
+pub tree-shown : (c : Svq1PlaneCanvas) (reference raised : List ℕ) (k : ℕ) (m : Motion) (t : List Node) (h : Svq1Half) (base zeros out : List ℕ) → h ≡ halfOf m → SoundTree (halfOf m) t
+    → ((book codebook : List ℕ) → base ≡ baseline (givenBy c reference book codebook) k m) → zeros ≡ replicate 256 0 → out ≡ rebuiltBy raised h 16 base t 5 0 zeros
+    → Shows c reference raised k m t out
+unfolding shown
+tree-shown c reference raised k m t h base zeros out e sound b z o book codebook bytes r =
+    o ∙ rw (r, e, b book codebook, z) (rebuilt-shown codebook bytes (halfOf m) 5 (baseline (givenBy c reference book codebook) k m) t sound)

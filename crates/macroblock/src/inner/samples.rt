@@ -6,16 +6,21 @@ ghost use lib.ListN.{length, replicate};
 ghost use Rattle.motion.specs.Grid.{part, putPart};
 ghost use Rattle.motion.specs.Moved.{Placed};
 ghost use Rattle.motion.specs.Search.{blocksAlong};
-ghost use Rattle.macroblock.specs.Macroblock.{baseline};
+ghost use Rattle.motion.specs.declared.svq1_motion_predictor.Svq1Mv.{Svq1Mv};
+ghost use Rattle.tree.specs.Nodes.{treeOf};
+ghost use Rattle.macroblock.specs.Macroblock.{halfOf, baseline};
 ghost use Rattle.macroblock.specs.Motions.{motionOf};
 ghost use Rattle.macroblock.specs.Inner.{givenBy};
-ghost use Rattle.macroblock.specs.Samples.{Stands, Room, quarters};
+ghost use Rattle.macroblock.specs.Samples.{Stands, Room, Showing, Shows, quarters};
 use super::super::svq1_enc_inter::MbMotion;
 use super::super::svq1_plane::Svq1PlaneCanvas;
+use book::svq1_vlc::Svq1Half;
 use motion::inner::mc::mc_macroblock;
 use motion::inner::mc::mc_quarter;
 use motion::svq1_motion_predictor::Svq1Mv;
 use motion::svq1_motion_predictor::zero_vector;
+use tree::svq1_enc_tree::Block;
+use tree::walk::rebuild;
 
 // Macroblock k of a plane, whose canvas has this stride and so many rows: the block that a zero vector reads.
 pub fn take_block(
@@ -103,4 +108,36 @@ pub fn baseline_of(
         MbMotion::One { mv, diff: _ } => mc_macroblock(out, reference, stride, rows, x, y, mv),
         MbMotion::Four => move_quarters(out, reference, stride, rows, x, y, vectors),
     }
+}
+
+// The half that a motion's tree is of.
+pub fn half_of(motion: MbMotion) -> Svq1Half
+    ensures { λ r. ⌜ ((vectors : List Svq1Mv) → r ≡ halfOf (motionOf motion vectors)) ⌝ }
+{
+    match motion {
+        MbMotion::None => Svq1Half::Intra,
+        MbMotion::One { mv: _, diff: _ } => Svq1Half::Inter,
+        MbMotion::Four => Svq1Half::Inter,
+    }
+}
+
+// The samples of macroblock k that a tree shows over its motion's baseline, which `base` holds at the end. `raised` is the raised codebook.
+pub fn show_coded(
+    canvas: Svq1PlaneCanvas,
+    reference: &[u8],
+    raised: &[u8],
+    k: usize,
+    motion: MbMotion,
+    vectors: [Svq1Mv; 4],
+    blocks: [Block; 63],
+    base: &mut [u8; 256],
+    out: &mut [u8; 256],
+)
+    requires { ⌜ Showing (record { samples = now reference; stride = canvas .stride; rows = canvas .rows }) (blocksAlong (canvas .width)) k (length (now raised)) (halfOf (motionOf motion vectors)) (treeOf blocks) × (length (now base) ≡ 256) × (length (now out) ≡ 256) ⌝ }
+    ensures { λ _. ⌜ Shows canvas (now (reference .entry)) (now (raised .entry)) k (motionOf motion vectors) (treeOf blocks) (now (out .exit)) ⌝ }
+{
+    let half = half_of(motion);
+    baseline_of(canvas, reference, k, motion, vectors, base);
+    clear(out);
+    rebuild(blocks, half, base, raised, 16, 5, 0, out);
 }
