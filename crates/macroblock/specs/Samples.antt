@@ -1,15 +1,16 @@
 -- A macroblock's 256 samples in a plane, and its quarters moved each by a vector of its own.
-use mathlib.Core.List.{List}
+use mathlib.Core.List.{List, map}
 use mathlib.Core.Path.{_≡_}
 use Prim.Native.Nat.{ℕ, suc, _*_, _/_, _%_, _≤_, _<_}
 use lib.ListN.{getD}
-use Rattle.bits.specs.Basics.{Bytes, valuesFrom}
+use Rattle.bits.specs.Basics.{Bytes, valuesFrom, signedByte}
 use Rattle.book.specs.Book.{codebookBytes}
 use Rattle.book.specs.declared.svq1_vlc.Svq1Half.{Svq1Half}
 use Rattle.leaf.specs.Raised.{raisedCodebook}
 use Rattle.motion.specs.declared.svq1_motion_predictor.Svq1Mv.{Svq1Mv}
 use Rattle.motion.specs.Vectors.{zeroMv}
 use Rattle.motion.specs.Compensation.{Canvas, movedSample}
+use Rattle.motion.specs.Grid.{putPart}
 use Rattle.motion.specs.GridLaws.{Holds}
 use Rattle.motion.specs.Moved.{Placed}
 use Rattle.motion.specs.Search.{largestSide, blocksAlong}
@@ -30,6 +31,12 @@ pub record Room (cols k : ℕ) (xs : List ℕ) : Type 0 where
   pub wide : 0 < cols
   pub cols-most : cols ≤ blocksAlong largestSide
   pub holds : Holds 16 cols (suc k) xs
+
+-- macroblock k's samples and vectors, put into the three slices; every other entry stays
+pub record Laid (cols k : ℕ) (samples : List ℕ) (vs : List Svq1Mv) (recon vx vy recon' vx' vy' : List ℕ) : Type 0 where
+  pub recon-put : recon' ≡ putPart 16 cols k samples recon
+  pub vx-put : vx' ≡ putPart 2 cols k (map (λ (v : Svq1Mv). signedByte (v .x)) vs) vx
+  pub vy-put : vy' ≡ putPart 2 cols k (map (λ (v : Svq1Mv). signedByte (v .y)) vs) vy
 
 -- the macroblock at (x, y), each quarter moved by the vector in its place
 unfoldable pub quarters : Canvas → ℕ → ℕ → List Svq1Mv → List ℕ

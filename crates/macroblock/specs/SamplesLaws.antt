@@ -1,24 +1,27 @@
 -- Laws of a macroblock's samples: the block that a zero vector reads, what a tree is laid over by cases, and the room for both.
 -- Assumes nothing.
 use mathlib.Core.Path.{_≡_, refl, sym, ap, _∙_}
-use mathlib.Core.List.{List}
-use Prim.Native.Nat.{ℕ, _+_, _*_, _/_, _%_, _<_}
+use mathlib.Core.List.{List, [], _∷_, map}
+use Prim.Native.Nat.{ℕ, zero, suc, _+_, _*_, _/_, _%_, _<_}
 use native.Mathlib.Omega.{arith}
 use native.Mathlib.Nat.{zero-add}
 use native.Mathlib.Numerals.{add-one}
 use lib.ListN.{length, take, set, getD, replicate, length-set, length-replicate, replicate-append-replicate}
 use lib.Seq.{ext-getD, take-suc-set}
 use Rattle.book.specs.declared.svq1_vlc.Svq1Half.{Svq1Half}
+use Rattle.bits.specs.Basics.{All, signedByte}
 use Rattle.bits.specs.BasicsLaws.{length-values, value-at}
 use Rattle.motion.specs.declared.svq1_motion_predictor.Svq1Mv.{Svq1Mv}
 use Rattle.motion.specs.Vectors.{zeroMv}
 use Rattle.motion.specs.Compensation.{Canvas, movedSample, movedBlock}
 use Rattle.motion.specs.CompensationLaws.{length-moved}
-use Rattle.motion.specs.Grid.{entryOf, part}
+use Rattle.motion.specs.Cache.{Stored}
+use Rattle.motion.specs.Grid.{entryOf, part, putPart}
 use Rattle.motion.specs.GridLaws.{length-part, part-at}
 use Rattle.motion.specs.Moved.{movedPart, Placed}
 use Rattle.motion.specs.PartsLaws.{four-moved}
 use Rattle.motion.specs.Search.{blocksAlong}
+use Rattle.motion.specs.VectorsLaws.{Inside, zero-inside}
 use Rattle.motion.specs.Rows.{cell}
 use Rattle.motion.specs.RowsLaws.{half-in}
 use Rattle.tree.specs.GeometryLaws.{in-whole}
@@ -32,7 +35,7 @@ use Rattle.macroblock.specs.declared.svq1_plane.Svq1PlaneCanvas.{Svq1Pla
 use Rattle.macroblock.specs.Macroblock.{Given, Motion, still, single, four, halfOf, leftOf, topOf, baseline, shown}
 use Rattle.macroblock.specs.Inner.{givenBy}
 use Rattle.macroblock.specs.Motions.{motionOf}
-use Rattle.macroblock.specs.Samples.{Stands, Showing, Shows, quarters}
+use Rattle.macroblock.specs.Samples.{Stands, Laid, Showing, Shows, quarters}
 
 -- the macroblocks in a row, and macroblock k's place, by the stride
 module _ (c : Canvas) (cols k : ℕ) (s : Stands c cols k) where
@@ -89,19 +92,19 @@ module _ (c : Svq1PlaneCanvas) (reference : List ℕ) (k : ℕ) (m : MbMotion) (
   abbrev lent : Canvas
   lent = record { samples = reference; stride = c .stride; rows = c .rows }
 
-  abbrev pub Laid : Type 0
-  Laid = (book codebook : List ℕ) → out ≡ baseline (givenBy c reference book codebook) k (motionOf m vs)
+  abbrev Over : Type 0
+  Over = (book codebook : List ℕ) → out ≡ baseline (givenBy c reference book codebook) k (motionOf m vs)
 
-  pub over-none : m ≡ None → out ≡ replicate 256 0 → Laid
+  pub over-none : m ≡ None → out ≡ replicate 256 0 → Over
   unfolding baseline
   over-none e o book codebook = rw e o
 
   module _ (s : Stands lent (blocksAlong (c .width)) k) where
-    pub over-one : (v d : Svq1Mv) → m ≡ One v d → out ≡ movedBlock lent 16 (16 * (k % (c .stride / 16))) (16 * (k / (c .stride / 16))) v → Laid
+    pub over-one : (v d : Svq1Mv) → m ≡ One v d → out ≡ movedBlock lent 16 (16 * (k % (c .stride / 16))) (16 * (k / (c .stride / 16))) v → Over
     unfolding baseline
     over-one v d e o book codebook = rw e (rw (cols-is lent (blocksAlong (c .width)) k s) at o)
 
-    pub over-four : m ≡ Four → out ≡ quarters lent (16 * (k % (c .stride / 16))) (16 * (k / (c .stride / 16))) vs → Laid
+    pub over-four : m ≡ Four → out ≡ quarters lent (16 * (k % (c .stride / 16))) (16 * (k / (c .stride / 16))) vs → Over
     unfolding baseline quarters
     over-four e o book codebook = rw e (rw (cols-is lent (blocksAlong (c .width)) k s) at o)
 
@@ -126,3 +129,26 @@ pub tree-shown : (c : Svq1PlaneCanvas) (reference raised : List ℕ) (k : ℕ) (
 unfolding shown
 tree-shown c reference raised k m t h base zeros out e sound b z o book codebook bytes r =
     o ∙ rw (r, e, b book codebook, z) (rebuilt-shown codebook bytes (halfOf m) 5 (baseline (givenBy c reference book codebook) k m) t sound)
+
+-- ---- the four vectors
+pub inside-at : (vs : List Svq1Mv) → All Inside vs → (j : ℕ) → Inside (getD vs j zeroMv)
+inside-at [] h j = zero-inside
+inside-at (v ∷ vs) h zero = h .0
+inside-at (v ∷ vs) h (suc j) = inside-at vs (h .1) j
+
+pub four-are : (vs : List Svq1Mv) → length vs ≡ 4 → vs ≡ getD vs 0 zeroMv ∷ getD vs 1 zeroMv ∷ getD vs 2 zeroMv ∷ getD vs 3 zeroMv ∷ []
+four-are [] h = absurd (omega arith)
+four-are (a ∷ []) h = absurd (omega arith)
+four-are (a ∷ b ∷ []) h = absurd (omega arith)
+four-are (a ∷ b ∷ c ∷ []) h = absurd (omega arith)
+four-are (a ∷ b ∷ c ∷ d ∷ []) h = refl
+four-are (a ∷ b ∷ c ∷ d ∷ e ∷ vs) h = absurd (omega arith)
+
+pub laid-four : (cols k : ℕ) (samples : List ℕ) (vs : List Svq1Mv) (recon vx vy recon' vx' vy' : List ℕ) → length vs ≡ 4 → recon' ≡ putPart 16 cols k samples recon
+    → Stored cols k (getD vs 0 zeroMv ∷ getD vs 1 zeroMv ∷ getD vs 2 zeroMv ∷ getD vs 3 zeroMv ∷ []) vx vy vx' vy' → Laid cols k samples vs recon vx vy recon' vx' vy'
+laid-four cols k samples vs recon vx vy recon' vx' vy' n e s =
+    record {
+      recon-put = e;
+      vx-put = s .x-put ∙ ap (λ (l : List Svq1Mv). putPart 2 cols k (map (λ (v : Svq1Mv). signedByte (v .x)) l) vx) (sym (four-are vs n));
+      vy-put = s .y-put ∙ ap (λ (l : List Svq1Mv). putPart 2 cols k (map (λ (v : Svq1Mv). signedByte (v .y)) l) vy) (sym (four-are vs n));
+    }

@@ -1,22 +1,26 @@
 // A macroblock's 256 samples.
 ghost use mathlib.Core.Path.{_≡_};
 ghost use mathlib.Core.List.{List};
-ghost use Prim.Native.Nat.{ℕ};
+ghost use Prim.Native.Nat.{ℕ, _*_, _<_};
 ghost use lib.ListN.{length, replicate};
+ghost use Rattle.bits.specs.Basics.{All};
+ghost use Rattle.motion.specs.Cache.{Slices};
 ghost use Rattle.motion.specs.Grid.{part, putPart};
 ghost use Rattle.motion.specs.Moved.{Placed};
 ghost use Rattle.motion.specs.Search.{blocksAlong};
+ghost use Rattle.motion.specs.VectorsLaws.{Inside};
 ghost use Rattle.motion.specs.declared.svq1_motion_predictor.Svq1Mv.{Svq1Mv};
 ghost use Rattle.tree.specs.Nodes.{treeOf};
 ghost use Rattle.macroblock.specs.Macroblock.{halfOf, baseline};
 ghost use Rattle.macroblock.specs.Motions.{motionOf};
 ghost use Rattle.macroblock.specs.Inner.{givenBy};
-ghost use Rattle.macroblock.specs.Samples.{Stands, Room, Showing, Shows, quarters};
+ghost use Rattle.macroblock.specs.Samples.{Stands, Room, Laid, Showing, Shows, quarters};
 use super::super::svq1_enc_inter::MbMotion;
 use super::super::svq1_plane::Svq1PlaneCanvas;
 use book::svq1_vlc::Svq1Half;
 use motion::inner::mc::mc_macroblock;
 use motion::inner::mc::mc_quarter;
+use motion::inner::mv_cache::store_vectors;
 use motion::svq1_motion_predictor::Svq1Mv;
 use motion::svq1_motion_predictor::zero_vector;
 use tree::svq1_enc_tree::Block;
@@ -140,4 +144,26 @@ pub fn show_coded(
     baseline_of(canvas, reference, k, motion, vectors, base);
     clear(out);
     rebuild(blocks, half, base, raised, 16, 5, 0, out);
+}
+
+// Macroblock k's samples and its four vectors into the result slices.
+pub fn lay_block(
+    cols: usize,
+    rows: usize,
+    k: usize,
+    samples: &[u8; 256],
+    vectors: [Svq1Mv; 4],
+    recon: &mut [u8],
+    vx: &mut [u8],
+    vy: &mut [u8],
+)
+    requires { ⌜ Room cols k (now recon) × Slices cols rows (now vx) (now vy) × (k < rows * cols) × All Inside vectors ⌝ }
+    ensures { λ _. ⌜ Laid cols k (now (samples .entry)) vectors (now (recon .entry)) (now (vx .entry)) (now (vy .entry)) (now (recon .exit)) (now (vx .exit)) (now (vy .exit)) ⌝ }
+{
+    let a = vectors[0];
+    let b = vectors[1];
+    let c = vectors[2];
+    let d = vectors[3];
+    put_block(recon, cols, k, samples);
+    store_vectors(vx, vy, cols, rows, k, a, b, c, d);
 }
