@@ -6,6 +6,8 @@ pub mod Reading
 pub mod Slices
 pub mod Inner
 pub mod Motions
+pub mod Finding
+pub mod FindingLaws
 pub mod Samples
 pub mod SamplesLaws
 pub mod InnerLaws
