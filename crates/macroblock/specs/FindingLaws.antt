@@ -2,30 +2,42 @@
 -- Assumes nothing.
 use mathlib.Core.Path.{_≡_, refl, sym, ap, _∙_}
 use mathlib.Core.Bool.{Bool, true, false}
-use mathlib.Core.List.{List}
+use mathlib.Core.List.{List, [], _∷_}
+use mathlib.Core.Logic.{_⊎_, ⊎-elim}
 use Prim.Native.Nat.{ℕ, zero, suc, _+_, _*_, _/_, _≤_, _<_, min}
 use native.Mathlib.Omega.{arith}
 use lib.Dec.{eqb}
 use lib.IntN.{ℤ, pos, negsuc, _+ℤ_}
-use lib.ListN.{length, drop}
+use lib.ListN.{length, drop, replicate}
 use borrow.Author.Tests.{eq-eqb, ne-eqb}
-use Rattle.bits.specs.Basics.{pick}
+use Rattle.bits.specs.Basics.{pick, All}
 use Rattle.bits.specs.Bits.{bitsOf}
 use Rattle.bits.specs.BitsLaws.{length-bitsOf}
 use Rattle.bits.specs.Codes.{codesOf, goodTable, readCode, Got, got, bad, then, takeCode}
 use Rattle.bits.specs.CodeReadLaws.{code-at-bit}
 use Rattle.bits.specs.Inner.{Fits}
 use Rattle.bits.specs.declared.svq1_vlc.CodeRead.the-variants as code
-use Rattle.book.specs.Book.{modeTable, vectorTable}
+use Rattle.book.specs.Book.{modeTable, vectorTable, tablesOf, bookRefusal}
+use Rattle.book.specs.declared.svq1_vlc.Svq1Half.{Svq1Half}
 use Rattle.book.specs.BookLaws.{GoodBook, good-book}
 use Rattle.leaf.specs.LentReadLaws.{read-on}
 use Rattle.motion.specs.declared.svq1_motion_predictor.Svq1Mv.{Svq1Mv}
-use Rattle.motion.specs.Vectors.{clipped, finalMv, differenceAt}
-use Rattle.motion.specs.VectorsLaws.{InRange, pos-in, neg-in, Inside}
-use Rattle.tree.specs.Walk.{Reads}
-use Rattle.macroblock.specs.declared.inner.reading.ReadPosition.{ReadPosition}
+use Rattle.motion.specs.Vectors.{zeroMv, clipped, finalMv, differenceAt}
+use Rattle.motion.specs.Neighbours.{Near, forOne, forFirst, forSecond, forThird, forFourth}
+use Rattle.motion.specs.VectorsLaws.{InRange, pos-in, neg-in, Inside, zero-inside}
+use Rattle.tree.specs.declared.walk.ReadTree.{ReadTree}
+use Rattle.tree.specs.Nodes.{treeOf}
+use Rattle.tree.specs.TreeBits.{readTree}
+use Rattle.tree.specs.ReadSoundLaws.{read-sound}
+use Rattle.tree.specs.Walk.{Reads, TreeHere}
+use Rattle.macroblock.specs.declared.svq1_enc_inter.Svq1MbMode.{Svq1MbMode}
+use Rattle.macroblock.specs.declared.svq1_enc_inter.Svq1MbMode.the-variants as Mode
+use Rattle.macroblock.specs.declared.svq1_enc_inter.MbMotion.the-variants.{None, One, Four}
+use Rattle.macroblock.specs.Mode.{modePosition}
+use Rattle.macroblock.specs.Macroblock.{Motion, still, single}
 use Rattle.macroblock.specs.Reading.{readVector}
-use Rattle.macroblock.specs.Finding.{gotBy, Found, PositionFound, Pair, readPair, byBook}
+use Rattle.macroblock.specs.Finding.{Found, PositionFound, Pair, readPair, byBook, readFour, fourOf, readMotion, MotionFound, TreeFound}
+use Rattle.macroblock.specs.SamplesLaws.{four-are}
 
 -- ---- one reading behind another
 module _ {A B : Type 0} (s : List ℕ) (g : Got A) (f : A → List ℕ → Got B) (n : ℕ) (a : A) (next : ℕ) (one : Found s g n a next) where
@@ -112,3 +124,78 @@ vector-found s book at p v n a b next e f =
       found-made s (readPair book (drop at (bitsOf s))) (λ (d : Pair). finalMv p (differenceAt (d .x)) (differenceAt (d .y))) n (record { x = a; y = b }) next f,
       record { x-in = clipped-in (p .x +ℤ differenceAt a); y-in = clipped-in (p .y +ℤ differenceAt b) },
     )
+
+pub zeros-inside : (v : Svq1Mv) → v ≡ zeroMv → All Inside (replicate 4 v)
+zeros-inside v e = rw e (zero-inside, (zero-inside, (zero-inside, (zero-inside, tt))))
+
+-- ---- four vectors, one behind the other
+module _ (s book : List ℕ) (n : Near) (at : ℕ) (l : at ≤ 8 * length s) (vs : List Svq1Mv) where
+  abbrev vectorAt : Svq1Mv → ℕ → Got Svq1Mv
+  vectorAt p i = readVector (byBook book) p (drop i (bitsOf s))
+
+  abbrev whole : Got (List Svq1Mv)
+  whole = readFour (byBook book) n (drop at (bitsOf s))
+
+  module _ (n1 : ℕ) (a : Svq1Mv) (i1 : ℕ) (one : Found s (vectorAt (forFirst n) at) n1 a i1) where
+    pub first-refused : (n1 ≡ 0 → ⊥) → Found s whole n1 vs at
+    unfolding readFour
+    first-refused h = found-refused s _ _ n1 a i1 one vs at h l
+
+    module _ (z1 : n1 ≡ 0) (n2 : ℕ) (b : Svq1Mv) (i2 : ℕ) (two : Found s (vectorAt (forSecond n a) i1) n2 b i2) where
+      pub second-refused : (n2 ≡ 0 → ⊥) → Found s whole n2 vs at
+      unfolding readFour
+      second-refused h = found-then s _ _ n1 a i1 one n2 vs at z1 (found-refused s _ _ n2 b i2 two vs at h l)
+
+      module _ (z2 : n2 ≡ 0) (n3 : ℕ) (c : Svq1Mv) (i3 : ℕ) (three : Found s (vectorAt (forThird n a b) i2) n3 c i3) where
+        pub third-refused : (n3 ≡ 0 → ⊥) → Found s whole n3 vs at
+        unfolding readFour
+        third-refused h = found-then s _ _ n1 a i1 one n3 vs at z1 (found-then s _ _ n2 b i2 two n3 vs at z2 (found-refused s _ _ n3 c i3 three vs at h l))
+
+        pub four-found : n3 ≡ 0 → (n4 : ℕ) (d : Svq1Mv) (i4 : ℕ) → Found s (vectorAt (forFourth a b c) i3) n4 d i4 → Found s whole n4 (a ∷ b ∷ c ∷ d ∷ []) i4
+        unfolding readFour
+        four-found z3 n4 d i4 last =
+            let made = found-made s (vectorAt (forFourth a b c) i3) (λ (v : Svq1Mv). a ∷ b ∷ c ∷ v ∷ []) n4 d i4 last in
+            found-then s _ _ n1 a i1 one n4 (a ∷ b ∷ c ∷ d ∷ []) i4 z1
+            (found-then s _ _ n2 b i2 two n4 (a ∷ b ∷ c ∷ d ∷ []) i4 z2 (found-then s _ _ n3 c i3 three n4 (a ∷ b ∷ c ∷ d ∷ []) i4 z3 made))
+
+-- ---- a motion
+module _ (s book : List ℕ) (n : Near) (at : ℕ) (m : Svq1MbMode) where
+  abbrev motionAt : Got Motion
+  motionAt = readMotion (byBook book) n (modePosition m) (drop at (bitsOf s))
+
+  pub one-found : (k : ℕ) (v d : Svq1Mv) (next : ℕ) → m ≡ Mode.Inter → Found s (readVector (byBook book) (forOne n) (drop at (bitsOf s))) k v next → Inside v
+      → MotionFound s motionAt (record { refused = k; next = next; motion = One v d; vectors = replicate 4 v })
+  unfolding readMotion
+  one-found k v d next e f i = rw e (record {
+    found = found-made s (readVector (byBook book) (forOne n) (drop at (bitsOf s))) single k v next f;
+    vectors-are = refl;
+    inside = (i, (i, (i, (i, tt))));
+  })
+
+  pub fours-found : (k : ℕ) (vs : List Svq1Mv) (next : ℕ) → length vs ≡ 4 → m ≡ Mode.Inter4Mv → Found s (readFour (byBook book) n (drop at (bitsOf s))) k vs next → All Inside vs
+      → MotionFound s motionAt (record { refused = k; next = next; motion = Four; vectors = vs })
+  unfolding readMotion
+  fours-found k vs next l e f i = rw e (record {
+    found = found-made s (readFour (byBook book) n (drop at (bitsOf s))) fourOf k vs next f;
+    vectors-are = four-are vs l;
+    inside = i;
+  })
+
+  pub none-found : at ≤ 8 * length s → (m ≡ Mode.Intra) ⊎ (m ≡ Mode.Skip) → (v : Svq1Mv) → v ≡ zeroMv
+      → MotionFound s motionAt (record { refused = 0; next = at; motion = None; vectors = replicate 4 v })
+  unfolding readMotion
+  none-found l e v z =
+      let is : got still (drop at (bitsOf s)) ≡ motionAt = ⊎-elim (λ a. rw a) (λ a. rw a) e in
+      record {
+        found = record { is = is; within = l };
+        vectors-are = rw z;
+        inside = zeros-inside v z;
+      }
+
+-- ---- a tree
+pub tree-found : (book : List ℕ) → bookRefusal book ≡ 0 → (h : Svq1Half) (s : List ℕ) (at : ℕ) (r : ReadTree) → TreeHere (tablesOf book h) 5 s at r
+    → TreeFound s (readTree (tablesOf book h) 5 (drop at (bitsOf s))) h r
+tree-found book passes h s at r t = record {
+  found = record { is = t .is; within = t .within };
+  sound = λ e. read-sound book passes h 5 s at (treeOf (r .blocks)) (drop (r .next) (bitsOf s)) (sym (t .is) ∙ rw (eq-eqb (r .refused) 0 e));
+}

@@ -7,8 +7,8 @@ pub mod Slices
 pub mod Inner
 pub mod Motions
 pub mod Finding
-pub mod FindingLaws
 pub mod Samples
 pub mod SamplesLaws
 pub mod InnerLaws
+pub mod FindingLaws
 pub mod MacroblockLaws

@@ -3,21 +3,34 @@ ghost use mathlib.Core.Path.{_≡_};
 ghost use mathlib.Core.Bool.{true};
 ghost use Prim.Native.Nat.{_<_, _≤_};
 ghost use lib.ListN.{length, drop};
+ghost use Rattle.bits.specs.Basics.{All};
 ghost use Rattle.bits.specs.Bits.{bitsOf};
 ghost use Rattle.bits.specs.Codes.{codesOf, goodTable, takeCode};
 ghost use Rattle.bits.specs.Inner.{Fits};
-ghost use Rattle.book.specs.Book.{modeTable, vectorTable};
+ghost use Rattle.book.specs.Book.{modeTable, vectorTable, tablesOf};
 ghost use Rattle.motion.specs.Vectors.{differenceAt};
 ghost use Rattle.motion.specs.VectorsLaws.{Inside};
 ghost use Rattle.motion.specs.Cache.{nearFrom};
+ghost use Rattle.tree.specs.TreeBits.{readTree};
 ghost use Rattle.tree.specs.Walk.{Reads};
 ghost use Rattle.macroblock.specs.Mode.{modePosition};
 ghost use Rattle.macroblock.specs.Reading.{readVector};
-ghost use Rattle.macroblock.specs.Finding.{Found, PositionFound, readPair, byBook};
+ghost use Rattle.macroblock.specs.Finding.{Found, PositionFound, MotionFound, TreeFound, readPair, readFour, readMotion, byBook};
+use super::super::svq1_enc_inter::MbMotion;
 use super::super::svq1_enc_inter::Svq1MbMode;
 use bits::svq1_vlc::CodeRead;
+use book::svq1_vlc::Svq1Half;
 use motion::svq1_motion_predictor::Svq1Mv;
 use motion::svq1_motion_predictor::final_motion_vector;
+use motion::svq1_motion_predictor::zero_vector;
+use motion::svq1_mv_cache::NearBlocks;
+use motion::svq1_mv_cache::predict_first;
+use motion::svq1_mv_cache::predict_fourth;
+use motion::svq1_mv_cache::predict_one;
+use motion::svq1_mv_cache::predict_second;
+use motion::svq1_mv_cache::predict_third;
+use tree::svq1_enc_tree::Block;
+use tree::walk::ReadTree;
 
 // A code that was read: the number of a refusal, or 0 with the code's position in its table and the bit behind it.
 pub struct ReadPosition {
@@ -151,4 +164,120 @@ fn read_vector(s: &[u8], at: usize, book: &[u8], predictor: Svq1Mv) -> ReadMv
         mv,
         diff: Svq1Mv { x, y },
     }
+}
+
+// Four vectors, a motion with its four vectors, and a macroblock, that were read likewise. A refused one has vectors too, which mean nothing.
+pub struct ReadFour {
+    pub refused: u8,
+    pub next: usize,
+    pub vectors: [Svq1Mv; 4],
+}
+
+pub struct ReadMotion {
+    pub refused: u8,
+    pub next: usize,
+    pub motion: MbMotion,
+    pub vectors: [Svq1Mv; 4],
+}
+
+pub struct ReadChoice {
+    pub refused: u8,
+    pub next: usize,
+    pub skip: bool,
+    pub motion: MbMotion,
+    pub vectors: [Svq1Mv; 4],
+    pub blocks: [Block; 63],
+}
+
+// The four vectors that stand at bit `at`, each predicted from those before it.
+fn read_four(s: &[u8], at: usize, book: &[u8], near: NearBlocks) -> ReadFour
+    requires { ⌜ Reads (now book) 5 (length (now s)) at ⌝ }
+    ensures { λ r. ⌜ Found (now (s .entry)) (readFour (byBook (now (book .entry))) (nearFrom near) (drop at (bitsOf (now (s .entry))))) (r .refused) (r .vectors) (r .next) × All Inside (r .vectors) × (length (r .vectors) ≡ 4) ⌝ }
+{
+    let none = zero_vector();
+    let a = read_vector(s, at, book, predict_first(near));
+    let first = a.mv;
+    if a.refused != 0 {
+        return ReadFour {
+            refused: a.refused,
+            next: at,
+            vectors: [none; 4],
+        };
+    }
+    let b = read_vector(s, a.next, book, predict_second(near, first));
+    let second = b.mv;
+    if b.refused != 0 {
+        return ReadFour {
+            refused: b.refused,
+            next: at,
+            vectors: [none; 4],
+        };
+    }
+    let c = read_vector(s, b.next, book, predict_third(near, first, second));
+    let third = c.mv;
+    if c.refused != 0 {
+        return ReadFour {
+            refused: c.refused,
+            next: at,
+            vectors: [none; 4],
+        };
+    }
+    let d = read_vector(s, c.next, book, predict_fourth(first, second, third));
+    let fourth = d.mv;
+    ReadFour {
+        refused: d.refused,
+        next: d.next,
+        vectors: [first, second, third, fourth],
+    }
+}
+
+// The motion of a mode that stands at bit `at`; INTRA has none, and neither has SKIP.
+fn read_motion(s: &[u8], at: usize, book: &[u8], near: NearBlocks, mode: Svq1MbMode) -> ReadMotion
+    requires { ⌜ Reads (now book) 5 (length (now s)) at ⌝ }
+    ensures { λ r. ⌜ MotionFound (now (s .entry)) (readMotion (byBook (now (book .entry))) (nearFrom near) (modePosition mode) (drop at (bitsOf (now (s .entry))))) r ⌝ }
+{
+    let none = zero_vector();
+    match mode {
+        Svq1MbMode::Inter => {
+            let v = read_vector(s, at, book, predict_one(near));
+            let mv = v.mv;
+            let diff = v.diff;
+            ReadMotion {
+                refused: v.refused,
+                next: v.next,
+                motion: MbMotion::One { mv, diff },
+                vectors: [mv; 4],
+            }
+        }
+        Svq1MbMode::Inter4Mv => {
+            let f = read_four(s, at, book, near);
+            let vectors = f.vectors;
+            ReadMotion {
+                refused: f.refused,
+                next: f.next,
+                motion: MbMotion::Four,
+                vectors,
+            }
+        }
+        Svq1MbMode::Intra => ReadMotion {
+            refused: 0,
+            next: at,
+            motion: MbMotion::None,
+            vectors: [none; 4],
+        },
+        Svq1MbMode::Skip => ReadMotion {
+            refused: 0,
+            next: at,
+            motion: MbMotion::None,
+            vectors: [none; 4],
+        },
+    }
+}
+
+// The tree of a macroblock that stands at bit `at`.
+fn decode_mb_block_tree(s: &[u8], at: usize, half: Svq1Half, book: &[u8]) -> ReadTree
+    requires { ⌜ Reads (now book) 5 (length (now s)) at ⌝ }
+    ensures { λ r. ⌜ TreeFound (now (s .entry)) (readTree (tablesOf (now (book .entry)) half) 5 (drop at (bitsOf (now (s .entry))))) half r ⌝ }
+{
+    tree::walk::read(s, at, half, book, 5)
 }
