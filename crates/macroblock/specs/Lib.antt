@@ -11,4 +11,5 @@ pub mod Samples
 pub mod SamplesLaws
 pub mod InnerLaws
 pub mod FindingLaws
+pub mod MacroblockReadLaws
 pub mod MacroblockLaws

@@ -14,10 +14,11 @@ ghost use Rattle.motion.specs.Cache.{nearFrom};
 ghost use Rattle.tree.specs.TreeBits.{readTree};
 ghost use Rattle.tree.specs.Walk.{Reads};
 ghost use Rattle.macroblock.specs.Mode.{modePosition};
-ghost use Rattle.macroblock.specs.Reading.{readVector};
-ghost use Rattle.macroblock.specs.Finding.{Found, PositionFound, MotionFound, TreeFound, readPair, readFour, readMotion, byBook};
+ghost use Rattle.macroblock.specs.Reading.{readVector, readBehind, readMacroblock};
+ghost use Rattle.macroblock.specs.Finding.{Found, PositionFound, MotionFound, TreeFound, ChoiceFound, readPair, readFour, readMotion, byBook};
 use super::super::svq1_enc_inter::MbMotion;
 use super::super::svq1_enc_inter::Svq1MbMode;
+use super::samples::half_of;
 use bits::svq1_vlc::CodeRead;
 use book::svq1_vlc::Svq1Half;
 use motion::svq1_motion_predictor::Svq1Mv;
@@ -30,6 +31,7 @@ use motion::svq1_mv_cache::predict_one;
 use motion::svq1_mv_cache::predict_second;
 use motion::svq1_mv_cache::predict_third;
 use tree::svq1_enc_tree::Block;
+use tree::svq1_enc_tree::TreeNode;
 use tree::walk::ReadTree;
 
 // A code that was read: the number of a refusal, or 0 with the code's position in its table and the bit behind it.
@@ -280,4 +282,85 @@ fn decode_mb_block_tree(s: &[u8], at: usize, half: Svq1Half, book: &[u8]) -> Rea
     ensures { λ r. ⌜ TreeFound (now (s .entry)) (readTree (tablesOf (now (book .entry)) half) 5 (drop at (bitsOf (now (s .entry))))) half r ⌝ }
 {
     tree::walk::read(s, at, half, book, 5)
+}
+
+// No tree.
+fn no_blocks() -> [Block; 63] {
+    [Block {
+        node: TreeNode::Off,
+        stages: [0u8; 6],
+    }; 63]
+}
+
+// What stands behind a mode other than SKIP: its motion and its tree.
+fn read_coded(s: &[u8], at: usize, book: &[u8], near: NearBlocks, mode: Svq1MbMode) -> ReadChoice
+    requires { ⌜ Reads (now book) 5 (length (now s)) at × (modePosition mode < 3) ⌝ }
+    ensures { λ r. ⌜ ChoiceFound (now (s .entry)) (readBehind (byBook (now (book .entry))) (nearFrom near) (modePosition mode) (drop at (bitsOf (now (s .entry))))) r ⌝ }
+{
+    let m = read_motion(s, at, book, near, mode);
+    let motion = m.motion;
+    let vectors = m.vectors;
+    if m.refused != 0 {
+        let blocks = no_blocks();
+        return ReadChoice {
+            refused: m.refused,
+            next: at,
+            skip: false,
+            motion,
+            vectors,
+            blocks,
+        };
+    }
+    let t = decode_mb_block_tree(s, m.next, half_of(motion), book);
+    let blocks = t.blocks;
+    ReadChoice {
+        refused: t.refused,
+        next: t.next,
+        skip: false,
+        motion,
+        vectors,
+        blocks,
+    }
+}
+
+// What stands behind a mode: nothing behind SKIP.
+fn read_behind(s: &[u8], at: usize, book: &[u8], near: NearBlocks, mode: Svq1MbMode) -> ReadChoice
+    requires { ⌜ Reads (now book) 5 (length (now s)) at ⌝ }
+    ensures { λ r. ⌜ ChoiceFound (now (s .entry)) (readBehind (byBook (now (book .entry))) (nearFrom near) (modePosition mode) (drop at (bitsOf (now (s .entry))))) r ⌝ }
+{
+    if mode.position() < 3 {
+        return read_coded(s, at, book, near, mode);
+    }
+    let none = zero_vector();
+    let blocks = no_blocks();
+    ReadChoice {
+        refused: 0,
+        next: at,
+        skip: true,
+        motion: MbMotion::None,
+        vectors: [none; 4],
+        blocks,
+    }
+}
+
+// The macroblock that stands at bit `at`, among these neighbours.
+fn read_choice(s: &[u8], at: usize, book: &[u8], near: NearBlocks) -> ReadChoice
+    requires { ⌜ Reads (now book) 5 (length (now s)) at ⌝ }
+    ensures { λ r. ⌜ ChoiceFound (now (s .entry)) (readMacroblock (byBook (now (book .entry))) (nearFrom near) (drop at (bitsOf (now (s .entry))))) r ⌝ }
+{
+    let m = read_mb_mode(s, at, book);
+    let mode = m.mode;
+    if m.refused != 0 {
+        let none = zero_vector();
+        let blocks = no_blocks();
+        return ReadChoice {
+            refused: m.refused,
+            next: at,
+            skip: true,
+            motion: MbMotion::None,
+            vectors: [none; 4],
+            blocks,
+        };
+    }
+    read_behind(s, m.next, book, near, mode)
 }
