@@ -8,8 +8,10 @@ pub mod Inner
 pub mod Motions
 pub mod Finding
 pub mod Samples
+pub mod MacroblockRead
 pub mod SamplesLaws
 pub mod InnerLaws
 pub mod FindingLaws
 pub mod MacroblockReadLaws
+pub mod LayLaws
 pub mod MacroblockLaws
