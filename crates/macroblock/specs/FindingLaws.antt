@@ -1,10 +1,10 @@
 -- Laws of what reading finds: one reading behind another, and the first refusal met.
 -- Assumes nothing.
-use mathlib.Core.Path.{_≡_, refl, sym, ap, _∙_}
+use mathlib.Core.Path.{_≡_, refl, sym, _∙_}
 use mathlib.Core.Bool.{Bool, true, false}
 use mathlib.Core.List.{List, [], _∷_}
 use mathlib.Core.Logic.{_⊎_, ⊎-elim}
-use Prim.Native.Nat.{ℕ, zero, suc, _+_, _*_, _/_, _≤_, _<_, min}
+use Prim.Native.Nat.{ℕ, _+_, _*_, _≤_, min}
 use native.Mathlib.Omega.{arith}
 use lib.Dec.{eqb}
 use lib.IntN.{ℤ, pos, negsuc, _+ℤ_}
@@ -12,14 +12,12 @@ use lib.ListN.{length, drop, replicate}
 use borrow.Author.Tests.{eq-eqb, ne-eqb}
 use Rattle.bits.specs.Basics.{pick, All}
 use Rattle.bits.specs.Bits.{bitsOf}
-use Rattle.bits.specs.BitsLaws.{length-bitsOf}
-use Rattle.bits.specs.Codes.{codesOf, goodTable, readCode, Got, got, bad, then, takeCode}
+use Rattle.bits.specs.Codes.{codesOf, readCode, Got, got, bad, then, takeCode}
 use Rattle.bits.specs.CodeReadLaws.{code-at-bit}
 use Rattle.bits.specs.Inner.{Fits}
 use Rattle.bits.specs.declared.svq1_vlc.CodeRead.the-variants as code
-use Rattle.book.specs.Book.{modeTable, vectorTable, tablesOf, bookRefusal}
+use Rattle.book.specs.Book.{vectorTable, tablesOf, bookRefusal}
 use Rattle.book.specs.declared.svq1_vlc.Svq1Half.{Svq1Half}
-use Rattle.book.specs.BookLaws.{GoodBook, good-book}
 use Rattle.leaf.specs.LentReadLaws.{read-on}
 use Rattle.motion.specs.declared.svq1_motion_predictor.Svq1Mv.{Svq1Mv}
 use Rattle.motion.specs.Vectors.{zeroMv, clipped, finalMv, differenceAt}

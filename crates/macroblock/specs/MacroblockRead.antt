@@ -1,6 +1,6 @@
 -- What reading a macroblock asks, and what it leaves in the result slices (document 01, "Reading"; document 00, demand 1).
 use mathlib.Core.Path.{_≡_}
-use mathlib.Core.Bool.{Bool, true, false}
+use mathlib.Core.Bool.{Bool, false}
 use mathlib.Core.List.{List}
 use Prim.Native.Nat.{ℕ, _*_, _≤_, _<_}
 use lib.Dec.{eqb}

@@ -1,8 +1,8 @@
 -- Laws of a macroblock that is read: its mode, its motion and its tree, the first refusal met, and what it leaves in the result slices.
 -- Assumes nothing.
-use mathlib.Core.Path.{_≡_, refl, sym, ap, _∙_}
+use mathlib.Core.Path.{_≡_, refl, _∙_}
 use mathlib.Core.Bool.{true, false, true≢false}
-use mathlib.Core.List.{List, [], _∷_}
+use mathlib.Core.List.{List, []}
 use Prim.Native.Nat.{ℕ, zero, suc, _*_, _≤_, _<_}
 use native.Mathlib.Omega.{arith}
 use lib.ListN.{length, drop, replicate}
@@ -23,7 +23,7 @@ use Rattle.macroblock.specs.declared.inner.reading.ReadChoice.{ReadChoic
 use Rattle.macroblock.specs.Macroblock.{Given, Motion, still, single, four, Choice, skipped, coded, halfOf, vectorsOf, modeCodes}
 use Rattle.macroblock.specs.Motions.{motionOf}
 use Rattle.macroblock.specs.Reading.{readVector, readCoded, readBehind, readMacroblock}
-use Rattle.macroblock.specs.Finding.{Found, byBook, readFour, fourOf, readMotion, MotionFound, TreeFound, choiceOf, ChoiceFound}
+use Rattle.macroblock.specs.Finding.{Found, byBook, readFour, readMotion, MotionFound, TreeFound, choiceOf, ChoiceFound}
 use Rattle.macroblock.specs.FindingLaws.{found-refused, found-then, found-made, zeros-inside}
 
 -- readings in a row, gathered and handed on at the end, or handed on one by one

@@ -1,7 +1,7 @@
 // One macroblock, read from a bit string and laid into the result slices.
 ghost use mathlib.Core.Path.{_≡_};
 ghost use mathlib.Core.Bool.{true};
-ghost use Prim.Native.Nat.{_<_, _≤_};
+ghost use Prim.Native.Nat.{_*_, _<_, _≤_};
 ghost use lib.ListN.{length, drop};
 ghost use Rattle.bits.specs.Basics.{All};
 ghost use Rattle.bits.specs.Bits.{bitsOf};
@@ -10,7 +10,8 @@ ghost use Rattle.bits.specs.Inner.{Fits};
 ghost use Rattle.book.specs.Book.{modeTable, vectorTable, tablesOf};
 ghost use Rattle.motion.specs.Vectors.{differenceAt};
 ghost use Rattle.motion.specs.VectorsLaws.{Inside};
-ghost use Rattle.motion.specs.Cache.{nearFrom};
+ghost use Rattle.motion.specs.Cache.{nearFrom, Slices};
+ghost use Rattle.motion.specs.Neighbours.{nearOf};
 ghost use Rattle.tree.specs.TreeBits.{readTree};
 ghost use Rattle.tree.specs.Walk.{Reads};
 ghost use Rattle.motion.specs.Search.{blocksAlong};
@@ -19,7 +20,8 @@ ghost use Rattle.macroblock.specs.Mode.{modePosition};
 ghost use Rattle.macroblock.specs.Macroblock.{halfOf};
 ghost use Rattle.macroblock.specs.Motions.{motionOf};
 ghost use Rattle.macroblock.specs.Samples.{Shows};
-ghost use Rattle.macroblock.specs.MacroblockRead.{ShowingIf, Laying, LaysChoice};
+ghost use Rattle.macroblock.specs.MacroblockRead.{ShowingIf, Laying, LaysChoice, Ready, MbRead};
+ghost use Rattle.macroblock.specs.Inner.{givenBy};
 ghost use Rattle.macroblock.specs.Reading.{readVector, readBehind, readMacroblock};
 ghost use Rattle.macroblock.specs.Finding.{Found, PositionFound, MotionFound, TreeFound, choiceBy, ChoiceFound, readPair, readFour, readMotion, byBook};
 use super::super::svq1_enc_inter::MbMotion;
@@ -31,6 +33,7 @@ use super::samples::show_coded;
 use super::samples::take_block;
 use bits::svq1_vlc::CodeRead;
 use book::svq1_vlc::Svq1Half;
+use motion::inner::mv_cache::near_blocks;
 use motion::svq1_motion_predictor::Svq1Mv;
 use motion::svq1_motion_predictor::final_motion_vector;
 use motion::svq1_motion_predictor::zero_vector;
@@ -495,4 +498,68 @@ fn lay_choice(
         &mut base,
         &mut out,
     );
+}
+
+// The macroblock that stands at bit `at`, as macroblock k of a plane of cols x rows macroblocks whose vectors lie in vx and vy.
+fn read_among(
+    s: &[u8],
+    at: usize,
+    book: &[u8],
+    vx: &[u8],
+    vy: &[u8],
+    cols: usize,
+    rows: usize,
+    k: usize,
+) -> ReadChoice
+    requires { ⌜ Reads (now book) 5 (length (now s)) at × Slices cols rows (now vx) (now vy) × (k < rows * cols) ⌝ }
+    ensures { λ r. ⌜ ChoiceFound (now (s .entry)) (readMacroblock (byBook (now (book .entry))) (nearOf cols rows (now (vx .entry)) (now (vy .entry)) k) (drop at (bitsOf (now (s .entry))))) r ⌝ }
+{
+    let near = near_blocks(vx, vy, cols, rows, k);
+    read_choice(s, at, book, near)
+}
+
+// Macroblock k, read from bit `at` on and laid into the result slices; a refused one leaves them as they were. `raised` is the raised codebook.
+pub fn read_macroblock(
+    canvas: Svq1PlaneCanvas,
+    reference: &[u8],
+    book: &[u8],
+    codebook: &[u8],
+    raised: &[u8],
+    s: &[u8],
+    at: usize,
+    k: usize,
+    recon: &mut [u8],
+    vx: &mut [u8],
+    vy: &mut [u8],
+) -> ReadMb
+    requires { ⌜ Ready (givenBy canvas (now reference) (now book) (now codebook)) (now raised) (record { recon = now recon; vx = now vx; vy = now vy }) k (length (now s)) at ⌝ }
+    ensures { λ r. ⌜ MbRead (givenBy canvas (now (reference .entry)) (now (book .entry)) (now (codebook .entry))) (now (s .entry)) at k (record { recon = now (recon .entry); vx = now (vx .entry); vy = now (vy .entry) }) r (record { recon = now (recon .exit); vx = now (vx .exit); vy = now (vy .exit) }) ⌝ }
+{
+    let c = read_among(s, at, book, vx, vy, canvas.stride / 16, canvas.rows / 16, k);
+    let motion = c.motion;
+    let vectors = c.vectors;
+    let blocks = c.blocks;
+    if c.refused != 0 {
+        return ReadMb {
+            refused: c.refused,
+            next: at,
+        };
+    }
+    lay_choice(
+        canvas,
+        reference,
+        raised,
+        k,
+        c.skip,
+        motion,
+        vectors,
+        blocks,
+        recon,
+        vx,
+        vy,
+    );
+    ReadMb {
+        refused: 0,
+        next: c.next,
+    }
 }

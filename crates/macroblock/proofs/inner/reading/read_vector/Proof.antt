@@ -3,7 +3,6 @@ use mathlib.Core.Path.{_∙_}
 use mir.ValLaws.{toZ-ofZ}
 use mir.Syntax.{w32}
 use Rattle.macroblock.specs.FindingLaws.{vector-found}
-use native.Mathlib.Omega.{arith}
 use borrow.Author.Needs.{needs}
 use Rattle.macroblock.proofs.inner.reading.read_vector.Statement.{statement}
 use Rattle.macroblock.proofs.inner.reading.read_vector.Tie as tie

@@ -2,8 +2,6 @@
 use Rattle.tree.specs.Nodes.{treeOf}
 use Rattle.macroblock.specs.Motions.{motionOf}
 use Rattle.macroblock.specs.LayLaws.{stands-by, shows-skip, shows-coded}
-use native.Mathlib.Omega.{arith}
-use borrow.Author.Needs.{needs}
 use Rattle.macroblock.proofs.inner.reading.show_choice.Statement.{statement}
 use Rattle.macroblock.proofs.inner.reading.show_choice.Tie as tie
 
