@@ -1,4 +1,4 @@
--- What the functions of `inner::reading` find at a bit: a refusal's number, or a value and the bit behind it (document 01, "Reading", refusals 10, 11, 24).
+-- What reading finds at a bit: a refusal's number, or a value and the bit behind it (document 01, "Reading", refusals 10, 11, 24).
 use mathlib.Core.Path.{_≡_}
 use mathlib.Core.Bool.{Bool, true, false}
 use mathlib.Core.List.{List, [], _∷_}
@@ -18,7 +18,7 @@ use Rattle.tree.specs.declared.walk.ReadTree.{ReadTree}
 use Rattle.tree.specs.Nodes.{treeOf}
 use Rattle.tree.specs.TreeBits.{Node}
 use Rattle.tree.specs.Walk.{SoundTree}
-use Rattle.macroblock.specs.declared.inner.reading.ReadPosition.{ReadPosition}
+use Rattle.macroblock.specs.declared.inner.codes.ReadPosition.{ReadPosition}
 use Rattle.macroblock.specs.declared.inner.reading.ReadMotion.{ReadMotion}
 use Rattle.macroblock.specs.declared.inner.reading.ReadChoice.{ReadChoice}
 use Rattle.macroblock.specs.Macroblock.{Given, Motion, still, single, four, Choice, skipped, coded, halfOf, vectorsOf}

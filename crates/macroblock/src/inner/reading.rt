@@ -1,41 +1,31 @@
 // One macroblock, read from a bit string and laid into the result slices.
 ghost use mathlib.Core.Path.{_≡_};
 ghost use mathlib.Core.Bool.{true};
-ghost use Prim.Native.Nat.{_*_, _<_, _≤_};
+ghost use Prim.Native.Nat.{_*_, _<_};
 ghost use lib.ListN.{length, drop};
 ghost use Rattle.bits.specs.Basics.{All};
 ghost use Rattle.bits.specs.Bits.{bitsOf};
-ghost use Rattle.bits.specs.Codes.{codesOf, goodTable, takeCode};
-ghost use Rattle.bits.specs.Inner.{Fits};
-ghost use Rattle.book.specs.Book.{modeTable, vectorTable, tablesOf};
-ghost use Rattle.motion.specs.Vectors.{differenceAt};
+ghost use Rattle.book.specs.Book.{tablesOf};
 ghost use Rattle.motion.specs.VectorsLaws.{Inside};
 ghost use Rattle.motion.specs.Cache.{nearFrom, Slices};
 ghost use Rattle.motion.specs.Neighbours.{nearOf};
 ghost use Rattle.tree.specs.TreeBits.{readTree};
 ghost use Rattle.tree.specs.Walk.{Reads};
-ghost use Rattle.motion.specs.Search.{blocksAlong};
-ghost use Rattle.tree.specs.Nodes.{treeOf};
 ghost use Rattle.macroblock.specs.Mode.{modePosition};
-ghost use Rattle.macroblock.specs.Macroblock.{halfOf};
-ghost use Rattle.macroblock.specs.Motions.{motionOf};
-ghost use Rattle.macroblock.specs.Samples.{Shows};
-ghost use Rattle.macroblock.specs.MacroblockRead.{ShowingIf, Laying, LaysChoice, Ready, MbRead};
+ghost use Rattle.macroblock.specs.MacroblockRead.{Ready, MbRead};
 ghost use Rattle.macroblock.specs.Inner.{givenBy};
-ghost use Rattle.macroblock.specs.Reading.{readVector, readBehind, readMacroblock};
-ghost use Rattle.macroblock.specs.Finding.{Found, PositionFound, MotionFound, TreeFound, choiceBy, ChoiceFound, readPair, readFour, readMotion, byBook};
+ghost use Rattle.macroblock.specs.Reading.{readBehind, readMacroblock};
+ghost use Rattle.macroblock.specs.Finding.{Found, MotionFound, TreeFound, ChoiceFound, readFour, readMotion, byBook};
 use super::super::svq1_enc_inter::MbMotion;
 use super::super::svq1_enc_inter::Svq1MbMode;
 use super::super::svq1_plane::Svq1PlaneCanvas;
+use super::codes::read_mb_mode;
+use super::codes::read_vector;
+use super::laying::lay_choice;
 use super::samples::half_of;
-use super::samples::lay_block;
-use super::samples::show_coded;
-use super::samples::take_block;
-use bits::svq1_vlc::CodeRead;
 use book::svq1_vlc::Svq1Half;
 use motion::inner::mv_cache::near_blocks;
 use motion::svq1_motion_predictor::Svq1Mv;
-use motion::svq1_motion_predictor::final_motion_vector;
 use motion::svq1_motion_predictor::zero_vector;
 use motion::svq1_mv_cache::NearBlocks;
 use motion::svq1_mv_cache::predict_first;
@@ -46,140 +36,6 @@ use motion::svq1_mv_cache::predict_third;
 use tree::svq1_enc_tree::Block;
 use tree::svq1_enc_tree::TreeNode;
 use tree::walk::ReadTree;
-
-// A code that was read: the number of a refusal, or 0 with the code's position in its table and the bit behind it.
-pub struct ReadPosition {
-    pub refused: u8,
-    pub next: usize,
-    pub position: usize,
-}
-
-// A mode, two positions (x before y) and a vector with its difference, that were read likewise.
-pub struct ReadMode {
-    pub refused: u8,
-    pub next: usize,
-    pub mode: Svq1MbMode,
-}
-
-pub struct ReadPair {
-    pub refused: u8,
-    pub next: usize,
-    pub x: usize,
-    pub y: usize,
-}
-
-pub struct ReadMv {
-    pub refused: u8,
-    pub next: usize,
-    pub mv: Svq1Mv,
-    pub diff: Svq1Mv,
-}
-
-// The code of the table that stands at bit `at`.
-fn read_position(s: &[u8], at: usize, table: &[u8]) -> ReadPosition
-    requires { ⌜ Fits (length (now s)) at 0 × (goodTable (now table) ≡ true) × (3 ≤ length (now table)) ⌝ }
-    ensures { λ r. ⌜ PositionFound (now (s .entry)) at (now (table .entry)) r ⌝ }
-{
-    match bits::inner::read_code(s, at, table) {
-        CodeRead::Code(k, next) => ReadPosition {
-            refused: 0,
-            next,
-            position: k,
-        },
-        CodeRead::NoCode => ReadPosition {
-            refused: 10,
-            next: at,
-            position: 0,
-        },
-        CodeRead::Ends => ReadPosition {
-            refused: 24,
-            next: at,
-            position: 0,
-        },
-    }
-}
-
-// The mode whose code has this position.
-fn mode_at(k: usize) -> Svq1MbMode
-    requires { ⌜ k < 4 ⌝ }
-    ensures { λ r. ⌜ modePosition r ≡ k ⌝ }
-{
-    match k {
-        0 => Svq1MbMode::Inter,
-        1 => Svq1MbMode::Inter4Mv,
-        2 => Svq1MbMode::Intra,
-        _ => Svq1MbMode::Skip,
-    }
-}
-
-// The mode that stands at bit `at`.
-pub fn read_mb_mode(s: &[u8], at: usize, book: &[u8]) -> ReadMode
-    requires { ⌜ Reads (now book) 5 (length (now s)) at ⌝ }
-    ensures { λ r. ⌜ Found (now (s .entry)) (takeCode (codesOf (modeTable (now (book .entry)))) (drop at (bitsOf (now (s .entry))))) (r .refused) (modePosition (r .mode)) (r .next) ⌝ }
-{
-    let p = read_position(s, at, &book[0..12]);
-    ReadMode {
-        refused: p.refused,
-        next: p.next,
-        mode: mode_at(p.position),
-    }
-}
-
-// The position of a component's difference.
-fn read_mv_component(s: &[u8], at: usize, book: &[u8]) -> ReadPosition
-    requires { ⌜ Reads (now book) 5 (length (now s)) at ⌝ }
-    ensures { λ r. ⌜ PositionFound (now (s .entry)) at (vectorTable (now (book .entry))) r × (r .position < 64) ⌝ }
-{
-    read_position(s, at, &book[12..204])
-}
-
-// The positions of a vector's two differences, x before y.
-pub fn read_mv_differential(s: &[u8], at: usize, book: &[u8]) -> ReadPair
-    requires { ⌜ Reads (now book) 5 (length (now s)) at ⌝ }
-    ensures { λ r. ⌜ Found (now (s .entry)) (readPair (now (book .entry)) (drop at (bitsOf (now (s .entry))))) (r .refused) (record { x = r .x; y = r .y }) (r .next) × (r .x < 64) × (r .y < 64) ⌝ }
-{
-    let a = read_mv_component(s, at, book);
-    if a.refused != 0 {
-        return ReadPair {
-            refused: a.refused,
-            next: at,
-            x: 0,
-            y: 0,
-        };
-    }
-    let b = read_mv_component(s, a.next, book);
-    ReadPair {
-        refused: b.refused,
-        next: b.next,
-        x: a.position,
-        y: b.position,
-    }
-}
-
-// The difference whose code has this position.
-fn difference_at(k: usize) -> i32
-    requires { ⌜ k < 64 ⌝ }
-    ensures { λ r. ⌜ r ≡ differenceAt k ⌝ }
-{
-    k as i32 - 32
-}
-
-// The vector that stands at bit `at`, against its predictor.
-fn read_vector(s: &[u8], at: usize, book: &[u8], predictor: Svq1Mv) -> ReadMv
-    requires { ⌜ Reads (now book) 5 (length (now s)) at ⌝ }
-    ensures { λ r. ⌜ Found (now (s .entry)) (readVector (byBook (now (book .entry))) predictor (drop at (bitsOf (now (s .entry))))) (r .refused) (r .mv) (r .next) × Inside (r .mv) ⌝ }
-{
-    let p = read_mv_differential(s, at, book);
-    let x = difference_at(p.x);
-    let y = difference_at(p.y);
-    let mv = final_motion_vector(predictor, x, y);
-    ReadMv {
-        refused: p.refused,
-        next: p.next,
-        mv,
-        diff: Svq1Mv { x, y },
-    }
-}
 
 // Four vectors, a motion with its four vectors, and a macroblock, that were read likewise. A refused one has vectors too, which mean nothing.
 pub struct ReadFour {
@@ -382,122 +238,6 @@ fn read_choice(s: &[u8], at: usize, book: &[u8], near: NearBlocks) -> ReadChoice
         };
     }
     read_behind(s, m.next, book, near, mode)
-}
-
-// The samples of macroblock k as it was read. `base` is scratch.
-fn show_choice(
-    canvas: Svq1PlaneCanvas,
-    reference: &[u8],
-    raised: &[u8],
-    k: usize,
-    skip: bool,
-    motion: MbMotion,
-    vectors: [Svq1Mv; 4],
-    blocks: [Block; 63],
-    base: &mut [u8; 256],
-    out: &mut [u8; 256],
-)
-    requires { ⌜ ShowingIf skip (record { samples = now reference; stride = canvas .stride; rows = canvas .rows }) (blocksAlong (canvas .width)) k (length (now raised)) (halfOf (motionOf motion vectors)) (treeOf blocks) × (length (now base) ≡ 256) × (length (now out) ≡ 256) ⌝ }
-    ensures { λ _. ⌜ Shows canvas (now (reference .entry)) (now (raised .entry)) k (choiceBy skip (motionOf motion vectors) (treeOf blocks)) (now (out .exit)) ⌝ }
-{
-    if skip {
-        let stride = canvas.stride;
-        let cols = stride / 16;
-        take_block(reference, stride, canvas.rows, cols, k, out);
-        return;
-    }
-    show_coded(
-        canvas,
-        reference,
-        raised,
-        k,
-        motion,
-        vectors,
-        blocks,
-        base,
-        out,
-    );
-}
-
-// Macroblock k as it was read, laid into the result slices. `base` and `out` are scratch.
-fn lay_shown(
-    canvas: Svq1PlaneCanvas,
-    reference: &[u8],
-    raised: &[u8],
-    k: usize,
-    skip: bool,
-    motion: MbMotion,
-    vectors: [Svq1Mv; 4],
-    blocks: [Block; 63],
-    recon: &mut [u8],
-    vx: &mut [u8],
-    vy: &mut [u8],
-    base: &mut [u8; 256],
-    out: &mut [u8; 256],
-)
-    requires { ⌜ ShowingIf skip (record { samples = now reference; stride = canvas .stride; rows = canvas .rows }) (blocksAlong (canvas .width)) k (length (now raised)) (halfOf (motionOf motion vectors)) (treeOf blocks) × (length (now base) ≡ 256) × (length (now out) ≡ 256) ⌝ }
-    requires { ⌜ Laying canvas k vectors (now recon) (now vx) (now vy) ⌝ }
-    ensures { λ _. ⌜ LaysChoice canvas (now (reference .entry)) (now (raised .entry)) k (choiceBy skip (motionOf motion vectors) (treeOf blocks)) vectors (now (recon .entry)) (now (vx .entry)) (now (vy .entry)) (now (recon .exit)) (now (vx .exit)) (now (vy .exit)) ⌝ }
-{
-    show_choice(
-        canvas,
-        reference,
-        raised,
-        k,
-        skip,
-        motion,
-        vectors,
-        blocks,
-        base,
-        out,
-    );
-    lay_block(
-        canvas.stride / 16,
-        canvas.rows / 16,
-        k,
-        out,
-        vectors,
-        recon,
-        vx,
-        vy,
-    );
-}
-
-// The same with scratch of its own.
-fn lay_choice(
-    canvas: Svq1PlaneCanvas,
-    reference: &[u8],
-    raised: &[u8],
-    k: usize,
-    skip: bool,
-    motion: MbMotion,
-    vectors: [Svq1Mv; 4],
-    blocks: [Block; 63],
-    recon: &mut [u8],
-    vx: &mut [u8],
-    vy: &mut [u8],
-)
-    requires { ⌜ ShowingIf skip (record { samples = now reference; stride = canvas .stride; rows = canvas .rows }) (blocksAlong (canvas .width)) k (length (now raised)) (halfOf (motionOf motion vectors)) (treeOf blocks) ⌝ }
-    requires { ⌜ Laying canvas k vectors (now recon) (now vx) (now vy) ⌝ }
-    ensures { λ _. ⌜ LaysChoice canvas (now (reference .entry)) (now (raised .entry)) k (choiceBy skip (motionOf motion vectors) (treeOf blocks)) vectors (now (recon .entry)) (now (vx .entry)) (now (vy .entry)) (now (recon .exit)) (now (vx .exit)) (now (vy .exit)) ⌝ }
-{
-    let mut base = [0u8; 256];
-    let mut out = [0u8; 256];
-    lay_shown(
-        canvas,
-        reference,
-        raised,
-        k,
-        skip,
-        motion,
-        vectors,
-        blocks,
-        recon,
-        vx,
-        vy,
-        &mut base,
-        &mut out,
-    );
 }
 
 // The macroblock that stands at bit `at`, as macroblock k of a plane of cols x rows macroblocks whose vectors lie in vx and vy.

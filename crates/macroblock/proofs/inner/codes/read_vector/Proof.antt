@@ -4,8 +4,8 @@ use mir.ValLaws.{toZ-ofZ}
 use mir.Syntax.{w32}
 use Rattle.macroblock.specs.FindingLaws.{vector-found}
 use borrow.Author.Needs.{needs}
-use Rattle.macroblock.proofs.inner.reading.read_vector.Statement.{statement}
-use Rattle.macroblock.proofs.inner.reading.read_vector.Tie as tie
+use Rattle.macroblock.proofs.inner.codes.read_vector.Statement.{statement}
+use Rattle.macroblock.proofs.inner.codes.read_vector.Tie as tie
 
 read-mv-differential-requires : tie.Need-read-mv-differential-requires
 read-mv-differential-requires c κs = search needs

@@ -8,8 +8,8 @@ use lib.IntN.{pos, _-ℤ_}
 use Rattle.motion.specs.Vectors.{differenceAt}
 use Rattle.motion.specs.ClipLaws.{sub-mag}
 use borrow.Author.Needs.{needs}
-use Rattle.macroblock.proofs.inner.reading.difference_at.Statement.{statement}
-use Rattle.macroblock.proofs.inner.reading.difference_at.Tie as tie
+use Rattle.macroblock.proofs.inner.codes.difference_at.Statement.{statement}
+use Rattle.macroblock.proofs.inner.codes.difference_at.Tie as tie
 
 cast-result : tie.Need-cast-result
 cast-result c = search needs

@@ -2,8 +2,8 @@
 use native.Mathlib.Omega.{arith}
 use Rattle.macroblock.specs.FindingLaws.{reads-on, pair-refused, pair-found}
 use borrow.Author.Needs.{needs}
-use Rattle.macroblock.proofs.inner.reading.read_mv_differential.Statement.{statement}
-use Rattle.macroblock.proofs.inner.reading.read_mv_differential.Tie as tie
+use Rattle.macroblock.proofs.inner.codes.read_mv_differential.Statement.{statement}
+use Rattle.macroblock.proofs.inner.codes.read_mv_differential.Tie as tie
 
 read-mv-component-requires : tie.Need-read-mv-component-requires
 read-mv-component-requires c κs = search needs

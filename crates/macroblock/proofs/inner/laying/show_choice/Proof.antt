@@ -2,8 +2,8 @@
 use Rattle.tree.specs.Nodes.{treeOf}
 use Rattle.macroblock.specs.Motions.{motionOf}
 use Rattle.macroblock.specs.LayLaws.{stands-by, shows-skip, shows-coded}
-use Rattle.macroblock.proofs.inner.reading.show_choice.Statement.{statement}
-use Rattle.macroblock.proofs.inner.reading.show_choice.Tie as tie
+use Rattle.macroblock.proofs.inner.laying.show_choice.Statement.{statement}
+use Rattle.macroblock.proofs.inner.laying.show_choice.Tie as tie
 
 take-block-requires : tie.Need-take-block-requires
 take-block-requires c κs = let s = c .before .before .before .before in (stands-by _ _ _ (s .pre .0 .place), s .pre .2)

@@ -4,8 +4,8 @@ use Rattle.macroblock.specs.Motions.{motionOf}
 use Rattle.macroblock.specs.Finding.{choiceBy}
 use Rattle.macroblock.specs.LayLaws.{lay-asks, lays}
 use borrow.Author.Needs.{needs}
-use Rattle.macroblock.proofs.inner.reading.lay_shown.Statement.{statement}
-use Rattle.macroblock.proofs.inner.reading.lay_shown.Tie as tie
+use Rattle.macroblock.proofs.inner.laying.lay_shown.Statement.{statement}
+use Rattle.macroblock.proofs.inner.laying.lay_shown.Tie as tie
 
 show-choice-requires : tie.Need-show-choice-requires
 show-choice-requires c κs = search needs

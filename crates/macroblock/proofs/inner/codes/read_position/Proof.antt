@@ -2,8 +2,8 @@
 use mathlib.Core.Path.{sym, _∙_}
 use Rattle.macroblock.specs.FindingLaws.{position-found, position-none, position-ends}
 use borrow.Author.Needs.{needs}
-use Rattle.macroblock.proofs.inner.reading.read_position.Statement.{statement}
-use Rattle.macroblock.proofs.inner.reading.read_position.Tie as tie
+use Rattle.macroblock.proofs.inner.codes.read_position.Statement.{statement}
+use Rattle.macroblock.proofs.inner.codes.read_position.Tie as tie
 
 read-code-requires : tie.Need-read-code-requires
 read-code-requires c κs = search needs

@@ -1,9 +1,9 @@
--- The code of the book's vector table. Assumes nothing.
+-- The code of the book's mode table. Assumes nothing.
 use native.Mathlib.Omega.{arith}
 use Rattle.book.specs.BookLaws.{good-book}
 use borrow.Author.Needs.{needs}
-use Rattle.macroblock.proofs.inner.reading.read_mv_component.Statement.{statement}
-use Rattle.macroblock.proofs.inner.reading.read_mv_component.Tie as tie
+use Rattle.macroblock.proofs.inner.codes.read_mb_mode.Statement.{statement}
+use Rattle.macroblock.proofs.inner.codes.read_mb_mode.Tie as tie
 
 sub-read-position : tie.Need-sub-read-position
 sub-read-position c = search needs
@@ -17,21 +17,25 @@ part-read-position-end c = let g = good-book _ (c .before .before .pre .passes) 
 read-position-requires : tie.Need-read-position-requires
 read-position-requires c κs =
     let s = c .before .before .before in
-    let g = good-book (s .args .book .now) (s .pre .passes) .vector in
+    let g = good-book (s .args .book .now) (s .pre .passes) .mode in
     (s .pre .from, g .good, omega (arith, g .size))
 
-returns : tie.Need-returns
-returns c =
+mode-at-requires : tie.Need-mode-at-requires
+mode-at-requires c κs =
     let s = c .before .before .before .before in
-    let g = good-book (s .args .book .now) (s .pre .passes) .vector in
-    (c .read-position .ensures, omega (arith, g .size, c .read-position .ensures .there))
+    let g = good-book (s .args .book .now) (s .pre .passes) .mode in
+    omega (arith, g .size, c .read-position .ensures .there)
 
-pub read-mv-component-spec : {M : Type 1} → statement M
-read-mv-component-spec =
+returns : tie.Need-returns
+returns c = rw (c .mode-at .ensures) (c .before .read-position .ensures .found)
+
+pub read-mb-mode-spec : {M : Type 1} → statement M
+read-mb-mode-spec =
     tie.close
     (tie.spec
     sub-read-position
     part-read-position-start
     part-read-position-end
     read-position-requires
+    mode-at-requires
     returns)
