@@ -1,20 +1,20 @@
 -- Laws of the plane reader: one macroblock is one step of the run, the loop's turns, and the call refused or read.
 -- Assumes nothing.
-use mathlib.Core.Path.{_≡_, refl, sym, ap, _∙_}
+use mathlib.Core.Path.{_≡_, refl, sym, _∙_}
 use mathlib.Core.Bool.{Bool, true, false, _&&_}
 use mathlib.Core.List.{List}
-use Prim.Native.Nat.{ℕ, zero, suc, _+_, _-_, _*_, _/_, _≤_, _<_}
+use Prim.Native.Nat.{ℕ, _+_, _-_, _*_, _/_, _≤_, _<_}
 use native.Mathlib.Omega.{arith}
 use native.Mathlib.Nat.{mul-le-mul}
 use native.Mathlib.Numerals.{add-one}
 use lib.Dec.{eqb, leb}
 use lib.ListN.{length, drop, length-drop}
 use borrow.Author.Tests.{eq-eqb, ne-eqb, eqb-true, leb-true, le-leb, lt-leb}
-use Rattle.bits.specs.Basics.{pick, orElse, unless}
+use Rattle.bits.specs.Basics.{orElse}
 use Rattle.bits.specs.BasicsLaws.{both-true, or-first, or-next, or-none, unless-none}
 use Rattle.bits.specs.Bits.{bitsOf}
 use Rattle.bits.specs.BitsLaws.{length-bitsOf}
-use Rattle.bits.specs.Codes.{Got, got, bad}
+use Rattle.bits.specs.Codes.{got, bad}
 use Rattle.bits.specs.Calls.{startRefusal}
 use Rattle.book.specs.Book.{dataRefusal}
 use Rattle.motion.specs.GridLaws.{length-put}

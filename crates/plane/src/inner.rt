@@ -104,7 +104,16 @@ fn read_raised(
 {
     raise_codebook(codebook, raised);
     read_blocks(
-        canvas, reference, book, codebook, raised, bytes, start, recon, vx, vy,
+        canvas,
+        reference,
+        book,
+        codebook,
+        raised,
+        bytes,
+        start,
+        recon,
+        vx,
+        vy,
     )
 }
 

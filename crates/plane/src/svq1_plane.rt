@@ -81,6 +81,14 @@ pub fn decode_inter_plane(
         };
     }
     read_accepted(
-        canvas, reference, book, codebook, bytes, start, recon, vx, vy,
+        canvas,
+        reference,
+        book,
+        codebook,
+        bytes,
+        start,
+        recon,
+        vx,
+        vy,
     )
 }

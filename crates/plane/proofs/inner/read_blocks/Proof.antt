@@ -8,7 +8,6 @@ use Rattle.plane.specs.Plane.{count}
 use Rattle.plane.specs.Reader.{Going}
 use Rattle.plane.specs.ReaderLaws.{count-by, count-most, begun, ready, turn, stop-early, stop-last}
 use native.Mathlib.Omega.{arith}
-use borrow.Author.Needs.{needs}
 use Rattle.plane.proofs.inner.read_blocks.Statement.{statement}
 use Rattle.plane.proofs.inner.read_blocks.Tie as tie
 

@@ -1,7 +1,6 @@
 -- Each test decides one of the definition's. Assumes nothing.
 use Rattle.plane.specs.ReaderLaws.{four-fits, short-x, short-y, recon-other, all-held}
 use native.Mathlib.Omega.{arith}
-use borrow.Author.Needs.{needs}
 use Rattle.plane.proofs.inner.slices_refusal.Statement.{statement}
 use Rattle.plane.proofs.inner.slices_refusal.Tie as tie
 
