@@ -77,12 +77,14 @@ count-by g raised ok =
     let c : g .reference .stride / 16 ≡ cols g = omega (arith, f .stride) in
     rw (r, c)
 
+-- a grid of macroblocks is small
+pub grid-most : (cols rows : ℕ) → cols ≤ blocksAlong largestSide → rows ≤ blocksAlong largestSide → rows * cols ≤ blocksAlong largestSide * blocksAlong largestSide
+grid-most cols rows c r = mul-le-mul r c
+
 pub count-most : (g : Given) (raised : List ℕ) → Accepted g raised → count g ≤ blocksAlong largestSide * blocksAlong largestSide
 count-most g raised ok =
     let f = fits g raised ok in
-    let r : rows g ≤ blocksAlong largestSide = omega (arith, f .height .most) in
-    let c : cols g ≤ blocksAlong largestSide = omega (arith, f .width .most) in
-    mul-le-mul r c
+    grid-most (cols g) (rows g) (omega (arith, f .width .most)) (omega (arith, f .height .most))
 
 module _ (g : Given) (raised bytes : List ℕ) (start : ℕ) (u₀ : Slices) (p : PlaneReady g raised u₀ (length bytes) start) where
   pub begun : Going g bytes start u₀ u₀ 0 start
@@ -123,9 +125,6 @@ module _ (g : Given) (raised bytes : List ℕ) (start : ℕ) (u₀ : Slices) (p 
     stop-last h = sym (i .whole) ∙ ended (readStep g (bitsOf bytes)) (count g) k (record { next = at; slices = u }) h
 
 -- ---- refusals
-pub four-fits : (cols rows : ℕ) → cols ≤ blocksAlong largestSide → rows ≤ blocksAlong largestSide → rows * cols ≤ blocksAlong largestSide * blocksAlong largestSide
-four-fits cols rows c r = mul-le-mul r c
-
 -- 20, by the tests
 module _ (n size recon vx vy : ℕ) where
   pub short-x : vx < 4 * n → 20 ≡ lengthsRefusal n size recon vx vy

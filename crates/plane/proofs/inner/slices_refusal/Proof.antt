@@ -1,14 +1,14 @@
 -- Each test decides one of the definition's. Assumes nothing.
-use Rattle.plane.specs.ReaderLaws.{four-fits, short-x, short-y, recon-other, all-held}
+use Rattle.plane.specs.ReaderLaws.{grid-most, short-x, short-y, recon-other, all-held}
 use native.Mathlib.Omega.{arith}
 use Rattle.plane.proofs.inner.slices_refusal.Statement.{statement}
 use Rattle.plane.proofs.inner.slices_refusal.Tie as tie
 
 mul-vectors : tie.Need-mul-vectors
-mul-vectors c = let a = c .args in omega (arith, four-fits (a .cols) (a .rows) (c .pre .0) (c .pre .1))
+mul-vectors c = let a = c .args in omega (arith, grid-most (a .cols) (a .rows) (c .pre .0) (c .pre .1))
 
 mul-vectors-2 : tie.Need-mul-vectors-2
-mul-vectors-2 c = let a = c .args in omega (arith, four-fits (a .cols) (a .rows) (c .pre .0) (c .pre .1))
+mul-vectors-2 c = let a = c .args in omega (arith, grid-most (a .cols) (a .rows) (c .pre .0) (c .pre .1))
 
 returns : tie.Need-returns
 returns c = short-x _ _ _ _ _ (c .if1 .taken)
