@@ -14,7 +14,8 @@ use Rattle.macroblock.specs.declared.svq1_enc_inter.Svq1MbMode.{Svq1MbMode}
 use Rattle.macroblock.specs.declared.svq1_enc_inter.Svq1MbMode.the-variants.{Inter, Inter4Mv, Intra, Skip}
 use Rattle.macroblock.specs.Macroblock.{Given, cols}
 use Rattle.macroblock.specs.Choice.{Task}
-use Rattle.plane.specs.Plane.{count, Slices, Writing, stepStated, writePlane, writingAt}
+use Rattle.macroblock.specs.Slices.{Slices}
+use Rattle.plane.specs.Plane.{count, Writing, stepStated, writePlane, writingAt}
 use Rattle.plane.specs.Calls.{sourceRefusal}
 use Rattle.jobs.specs.Job.{Job, jobIn}
 

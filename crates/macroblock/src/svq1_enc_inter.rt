@@ -1,6 +1,7 @@
 ghost use mathlib.Core.Path.{_≡_};
 ghost use Prim.Native.Nat.{ℕ, _<_};
 ghost use Rattle.macroblock.specs.Mode.{modePosition};
+use motion::svq1_motion_predictor::Svq1Mv;
 
 // How a macroblock is coded.
 pub enum Svq1MbMode {
@@ -22,4 +23,11 @@ impl Svq1MbMode {
             Svq1MbMode::Skip => 3,
         }
     }
+}
+
+// A macroblock's motion: none, one vector with its difference from the predictor, or four, which lie in an array beside it.
+pub enum MbMotion {
+    None,
+    One { mv: Svq1Mv, diff: Svq1Mv },
+    Four,
 }

@@ -13,7 +13,8 @@ use Rattle.motion.specs.Search.{sizeRefusal, canvasRefusal}
 use Rattle.macroblock.specs.Macroblock.{Given}
 use Rattle.macroblock.specs.Choice.{Task}
 use Rattle.plane.specs.Run.{End}
-use Rattle.plane.specs.Plane.{count, Slices, Writing, writePlane, ReadingState, readPlane}
+use Rattle.macroblock.specs.Slices.{Slices}
+use Rattle.plane.specs.Plane.{count, Writing, writePlane, ReadingState, readPlane}
 
 -- 2: source length not width × height
 abbrev pub sourceRefusal : Given → Task → ℕ

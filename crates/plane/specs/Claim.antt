@@ -14,7 +14,8 @@ use Rattle.macroblock.specs.declared.svq1_enc_inter.Svq1MbMode.the-variants.{Sk
 use Rattle.macroblock.specs.Macroblock.{Given, cols, Choice, modeBits}
 use Rattle.macroblock.specs.Choice.{Task, paddedSource, target, motionsTried, planningFor, tried, weightOf}
 use Rattle.plane.specs.Run.{End}
-use Rattle.plane.specs.Plane.{count, Slices, near, Writing, wrote, wroteWeight, wroteBits, writePlane, writingAt, ReadingState, readUpTo, readPlane}
+use Rattle.macroblock.specs.Slices.{Slices, near}
+use Rattle.plane.specs.Plane.{count, Writing, wrote, wroteWeight, wroteBits, writePlane, writingAt, ReadingState, readUpTo, readPlane}
 use Rattle.plane.specs.Calls.{writeRefusal, readRefusal, slicesRefusal}
 
 -- macroblock k, written in state s, leads to state u: it appends exactly the bits that it states

@@ -1,45 +1,23 @@
 -- A plane, written and read macroblock by macroblock, from any start bit, ended early or not (document 01, "Rust forms that need another build", "Files as they stay", "Reading", refusals 10, 11, 22, 24).
 use Prim.Native.Nat.{ℕ, _+_, _-_, _*_}
 use mathlib.Core.Bool.{Bool}
-use mathlib.Core.List.{List, map}
+use mathlib.Core.List.{List}
 use lib.Dec.{leb}
-use lib.IntN.{ℤ}
 use lib.ListN.{length, drop}
 use Rattle.bits.specs.Basics.{pick}
 use Rattle.bits.specs.Bits.{putBits}
 use Rattle.bits.specs.Codes.{Got, got, bad}
-use Rattle.bits.specs.Basics.{signedByte}
-use Rattle.motion.specs.declared.svq1_motion_predictor.Svq1Mv.{Svq1Mv}
-use Rattle.motion.specs.Neighbours.{Near, nearOf}
-use Rattle.motion.specs.Grid.{putPart}
 use Rattle.tree.specs.Plan.{Weight}
 use Rattle.macroblock.specs.declared.svq1_enc_inter.Svq1MbMode.{Svq1MbMode}
-use Rattle.macroblock.specs.Macroblock.{Given, cols, rows, Choice, modeOf, vectorsOf, shown, choiceBits}
+use Rattle.macroblock.specs.Macroblock.{Given, cols, rows, Choice, modeOf, choiceBits}
 use Rattle.macroblock.specs.Choice.{Task, weightOf, chosen}
 use Rattle.macroblock.specs.Reading.{readMacroblock}
+use Rattle.macroblock.specs.Slices.{Slices, near, laid}
 use Rattle.plane.specs.Run.{Step, on, stop, End, run, after}
 
 -- the macroblocks of a plane
 abbrev pub count : Given → ℕ
 count g = rows g * cols g
-
--- the result slices that writer and reader share: the reconstruction, and the block vectors' x and y
-pub record Slices : Type 0 where
-  pub recon : List ℕ
-  pub vx : List ℕ
-  pub vy : List ℕ
-
--- the neighbours of macroblock k, as the vectors of the macroblocks before it were left
-abbrev pub near : Given → Slices → ℕ → Near
-near g s k = nearOf (cols g) (rows g) (s .vx) (s .vy) k
-
--- macroblock k of each slice as a choice leaves it
-unfoldable pub laid : Given → ℕ → Choice → Slices → Slices
-laid g k c s = record {
-  recon = putPart 16 (cols g) k (shown g k c) (s .recon);
-  vx = putPart 2 (cols g) k (map (λ v. signedByte (v .x)) (vectorsOf c)) (s .vx);
-  vy = putPart 2 (cols g) k (map (λ v. signedByte (v .y)) (vectorsOf c)) (s .vy);
-}
 
 -- ---- the writer
 -- its state: the output's bits, the next bit, the slices, both totals

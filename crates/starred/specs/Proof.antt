@@ -14,7 +14,7 @@ use Rattle.motion.specs.Vectors.{zeroMv}
 use Rattle.motion.specs.Neighbours.{Near}
 use Rattle.macroblock.specs.Macroblock.{Given, Motion, still, single, four, Choice, skipped, coded, halfOf}
 use Rattle.macroblock.specs.Choice.{Task}
-use Rattle.plane.specs.Plane.{near, Slices}
+use Rattle.macroblock.specs.Slices.{near, laid}
 use Rattle.tree.specs.TreeBits.{Node, planTree}
 use Rattle.jobs.specs.Job.{Job}
 use Rattle.jobs.specs.Listing.{noSlices, outputBytes}
@@ -38,7 +38,7 @@ use Rattle.motion.specs.Grid.{owner, placeIn, part, putFrom, putPart}
 use Rattle.motion.specs.Neighbours.{neighbourAt, nearOf}
 use Rattle.motion.specs.Search.{inWindow, allowed, sad, errorOf, consider, fullAt, rowTo, rowsTo, fullSearch, aroundTo, searchBest, searched, searchOk, searchRefusal, searchAnswer}
 use Rattle.motion.specs.Vectors.{median, predicted, codable}
-use Rattle.plane.specs.Plane.{laid, written, writePlane}
+use Rattle.plane.specs.Plane.{written, writePlane}
 use Rattle.plane.specs.Run.{run, after}
 use Rattle.text.specs.Text.{isNumber, valueFrom, numberUpTo, pieces, allEnded, linesOf, fieldsOf, digitsBefore, decimal, joined, lineOf}
 use Rattle.tree.specs.Blocks.{gather, paint, placeUnder, place, blockOf, paintAt, rebuilt}

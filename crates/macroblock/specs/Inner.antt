@@ -1,0 +1,34 @@
+-- What the functions of `inner` are lent, as the refusals of a plane call leave it.
+use mathlib.Core.List.{List}
+use mathlib.Core.Path.{_≡_}
+use Prim.Native.Nat.{ℕ, _*_, _≤_}
+use lib.ListN.{length}
+use Rattle.book.specs.Book.{dataRefusal}
+use Rattle.leaf.specs.Raised.{raisedCodebook}
+use Rattle.motion.specs.Search.{sizeRefusal, canvasRefusal}
+use Rattle.macroblock.specs.Macroblock.{Given, cols, rows}
+use Rattle.macroblock.specs.Slices.{Slices}
+use Rattle.macroblock.specs.declared.svq1_plane.Svq1PlaneCanvas.{Svq1PlaneCanvas}
+
+-- what a call is given, by its parameters
+abbrev pub givenBy : Svq1PlaneCanvas → List ℕ → List ℕ → List ℕ → Given
+givenBy c reference book codebook = record {
+  width = c .width;
+  height = c .height;
+  reference = record { samples = reference; stride = c .stride; rows = c .rows };
+  book = book;
+  codebook = codebook;
+}
+
+-- nothing of it is refused, and the codebook's raised copy is lent beside it
+pub record Accepted (g : Given) (raised : List ℕ) : Type 0 where
+  pub size : sizeRefusal (g .width) (g .height) ≡ 0
+  pub canvas : canvasRefusal (g .width) (g .height) (g .reference) ≡ 0
+  pub tables : dataRefusal (g .book) (g .codebook) ≡ 0
+  pub copy : raised ≡ raisedCodebook (g .codebook)
+
+-- the result slices pass 20
+pub record Held (g : Given) (s : Slices) : Type 0 where
+  pub recon-whole : length (s .recon) ≡ g .reference .stride * g .reference .rows
+  pub vx-long : 4 * (rows g * cols g) ≤ length (s .vx)
+  pub vy-long : 4 * (rows g * cols g) ≤ length (s .vy)

@@ -1,0 +1,25 @@
+-- The result slices, and what a macroblock leaves in them (document 01, "Files as they stay": the vector slices, the reconstruction by plane).
+use Prim.Native.Nat.{ℕ}
+use mathlib.Core.List.{List, map}
+use Rattle.bits.specs.Basics.{signedByte}
+use Rattle.motion.specs.Neighbours.{Near, nearOf}
+use Rattle.motion.specs.Grid.{putPart}
+use Rattle.macroblock.specs.Macroblock.{Given, cols, rows, Choice, vectorsOf, shown}
+
+-- the result slices that writer and reader share: the reconstruction, and the block vectors' x and y
+pub record Slices : Type 0 where
+  pub recon : List ℕ
+  pub vx : List ℕ
+  pub vy : List ℕ
+
+-- the neighbours of macroblock k, as the vectors of the macroblocks before it were left
+abbrev pub near : Given → Slices → ℕ → Near
+near g s k = nearOf (cols g) (rows g) (s .vx) (s .vy) k
+
+-- macroblock k of each slice as a choice leaves it
+unfoldable pub laid : Given → ℕ → Choice → Slices → Slices
+laid g k c s = record {
+  recon = putPart 16 (cols g) k (shown g k c) (s .recon);
+  vx = putPart 2 (cols g) k (map (λ v. signedByte (v .x)) (vectorsOf c)) (s .vx);
+  vy = putPart 2 (cols g) k (map (λ v. signedByte (v .y)) (vectorsOf c)) (s .vy);
+}
