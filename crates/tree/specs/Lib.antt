@@ -27,3 +27,5 @@ pub mod QueueLaws
 pub mod ReadSoundLaws
 pub mod Planning
 pub mod PlanningLaws
+pub mod PlanCall
+pub mod PlanCallLaws
