@@ -7,3 +7,7 @@ pub mod Slices
 pub mod Inner
 pub mod Motions
 pub mod MacroblockLaws
+pub mod Target
+pub mod TargetLaws
+pub mod Codes
+pub mod CodesLaws

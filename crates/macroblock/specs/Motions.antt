@@ -11,5 +11,5 @@ use Rattle.macroblock.specs.declared.svq1_enc_inter.MbMotion.the-variant
 -- a motion and the four vectors beside it
 abbrev pub motionOf : MbMotion → List Svq1Mv → Motion
 motionOf None vs = still
-motionOf (One v d) vs = single v
+motionOf (One v) vs = single v
 motionOf Four vs = four (getD vs 0 zeroMv) (getD vs 1 zeroMv) (getD vs 2 zeroMv) (getD vs 3 zeroMv)
