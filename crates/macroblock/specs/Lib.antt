@@ -6,8 +6,13 @@ pub mod Reading
 pub mod Slices
 pub mod Inner
 pub mod Motions
+pub mod Samples
+pub mod SamplesLaws
+pub mod InnerLaws
 pub mod MacroblockLaws
 pub mod Target
 pub mod TargetLaws
 pub mod Codes
 pub mod CodesLaws
+pub mod Searches
+pub mod SearchesLaws
