@@ -16,3 +16,5 @@ pub mod Codes
 pub mod CodesLaws
 pub mod Searches
 pub mod SearchesLaws
+pub mod Candidates
+pub mod CandidatesLaws
