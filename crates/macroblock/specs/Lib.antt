@@ -18,3 +18,5 @@ pub mod Searches
 pub mod SearchesLaws
 pub mod Candidates
 pub mod CandidatesLaws
+pub mod Written
+pub mod WrittenLaws

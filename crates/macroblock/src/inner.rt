@@ -4,3 +4,4 @@ pub mod codes;
 pub mod motions;
 pub mod samples;
 pub mod target;
+pub mod writing;

@@ -1,0 +1,85 @@
+-- What writing a macroblock asks and leaves.
+use mathlib.Core.Path.{_≡_}
+use mathlib.Core.Bool.{Bool, true, false}
+use mathlib.Core.List.{List, _++_}
+use Prim.Native.Nat.{ℕ, _*_, _≤_, _<_}
+use lib.ListN.{length}
+use Rattle.bits.specs.Basics.{All, Bytes}
+use Rattle.bits.specs.Inner.{Fits}
+use Rattle.book.specs.Book.{tablesOf, bookRefusal, codebookBytes}
+use Rattle.leaf.specs.Raised.{raisedCodebook}
+use Rattle.motion.specs.Cache as cache
+use Rattle.motion.specs.Neighbours.{Near}
+use Rattle.motion.specs.Search.{largestSide, blocksAlong}
+use Rattle.motion.specs.VectorsLaws.{Inside}
+use Rattle.tree.specs.TreeBits.{Node, treeBits}
+use Rattle.tree.specs.Walk.{SoundTree}
+use Rattle.macroblock.specs.declared.inner.candidates.MbCandidate.{MbCandidate}
+use Rattle.macroblock.specs.declared.svq1_enc_inter.Svq1MbMode.{Svq1MbMode}
+use Rattle.macroblock.specs.declared.svq1_enc_inter.Svq1MbMode.the-variants as Mode
+use Rattle.macroblock.specs.declared.svq1_plane.Svq1PlaneCanvas.{Svq1PlaneCanvas}
+use Rattle.macroblock.specs.Macroblock.{Motion, Choice, skipped, coded, modeOf, halfOf, vectorsOf, shown, motionBits, choiceBits}
+use Rattle.macroblock.specs.MacroblockLaws.{Codables}
+use Rattle.macroblock.specs.Slices.{Slices, laid}
+use Rattle.macroblock.specs.Inner.{givenBy}
+use Rattle.macroblock.specs.Samples.{Stands, Room}
+use Rattle.macroblock.specs.Codes.{ofBook}
+use Rattle.macroblock.specs.Candidates.{choiceOf}
+
+abbrev pub skips : Svq1MbMode → Bool
+skips Mode.Inter = false
+skips Mode.Inter4Mv = false
+skips Mode.Intra = false
+skips Mode.Skip = true
+
+-- ---- bits
+-- a choice that has codes: codable vectors, and leaves that can be written
+abbrev pub Codes : Near → Choice → Type 0
+Codes n skipped = Unit
+Codes n (coded m t) = Codables n m × SoundTree (halfOf m) t
+
+-- vectors and tree with room for their bits
+pub record CodedRoom (book : List ℕ) (n : Near) (m : Motion) (t : List Node) (bytes at : ℕ) : Type 0 where
+  pub passes : bookRefusal book ≡ 0
+  pub codable : Codables n m
+  pub sound : SoundTree (halfOf m) t
+  pub room : Fits bytes at (length (motionBits (ofBook book) n m ++ treeBits (tablesOf book (halfOf m)) t))
+
+-- a candidate with room for its bits
+pub record PutReady (book : List ℕ) (n : Near) (c : MbCandidate) (bytes at : ℕ) : Type 0 where
+  pub passes : bookRefusal book ≡ 0
+  pub mode : c .mode ≡ modeOf (choiceOf c)
+  pub codes : Codes n (choiceOf c)
+  pub room : Fits bytes at (length (choiceBits (ofBook book) n (choiceOf c)))
+
+-- ---- samples and vectors
+-- leaves that can be shown
+abbrev pub SoundChoice : Choice → Type 0
+SoundChoice skipped = Unit
+SoundChoice (coded m t) = SoundTree (halfOf m) t
+
+pub record ShowReady (c : Svq1PlaneCanvas) (reference : List ℕ) (raised k : ℕ) (d : MbCandidate) : Type 0 where
+  pub place : Stands (record { samples = reference; stride = c .stride; rows = c .rows }) (blocksAlong (c .width)) k
+  pub copy : raised ≡ codebookBytes
+  pub sound : SoundChoice (choiceOf d)
+
+-- the samples out are what the candidate shows, by any codebook whose raised copy was lent
+abbrev pub ShowsChoice : Svq1PlaneCanvas → List ℕ → List ℕ → ℕ → MbCandidate → List ℕ → Type 0
+ShowsChoice c reference raised k d out =
+    (book codebook : List ℕ) → Bytes codebook → raised ≡ raisedCodebook codebook → out ≡ shown (givenBy c reference book codebook) k (choiceOf d)
+
+-- and result slices that hold the macroblock
+pub record LayReady (c : Svq1PlaneCanvas) (reference : List ℕ) (raised k : ℕ) (d : MbCandidate) (recon vx vy : List ℕ) : Type 0 where
+  pub shows : ShowReady c reference raised k d
+  pub width-most : c .width ≤ largestSide
+  pub height-most : c .height ≤ largestSide
+  pub number : k < blocksAlong (c .height) * blocksAlong (c .width)
+  pub recon-held : Room (blocksAlong (c .width)) k recon
+  pub vectors-held : cache.Slices (blocksAlong (c .width)) (blocksAlong (c .height)) vx vy
+  pub vectors : d .vectors ≡ vectorsOf (choiceOf d)
+  pub inside : All Inside (vectorsOf (choiceOf d))
+
+abbrev pub LaysChoice : Svq1PlaneCanvas → List ℕ → List ℕ → ℕ → MbCandidate → List ℕ → List ℕ → List ℕ → List ℕ → List ℕ → List ℕ → Type 0
+LaysChoice c reference raised k d recon vx vy recon' vx' vy' =
+    (book codebook : List ℕ) → Bytes codebook → raised ≡ raisedCodebook codebook
+    → _≡_ {A = Slices} (record { recon = recon'; vx = vx'; vy = vy' }) (laid (givenBy c reference book codebook) k (choiceOf d) (record { recon = recon; vx = vx; vy = vy }))
