@@ -2,9 +2,11 @@
 use mathlib.Core.Path.{_≡_}
 use mathlib.Core.Bool.{Bool, true, false}
 use mathlib.Core.List.{List, _++_}
-use Prim.Native.Nat.{ℕ, _*_, _≤_, _<_}
+use Prim.Native.Nat.{ℕ, _+_, _*_, _≤_, _<_}
+use lib.Dec.{leb}
 use lib.ListN.{length}
-use Rattle.bits.specs.Basics.{All, Bytes}
+use Rattle.bits.specs.Basics.{pick, unless, All, Bytes}
+use Rattle.bits.specs.Bits.{bitsOf, putBits}
 use Rattle.bits.specs.Inner.{Fits}
 use Rattle.book.specs.Book.{tablesOf, bookRefusal, codebookBytes}
 use Rattle.leaf.specs.Raised.{raisedCodebook}
@@ -15,6 +17,7 @@ use Rattle.motion.specs.VectorsLaws.{Inside}
 use Rattle.tree.specs.TreeBits.{Node, treeBits}
 use Rattle.tree.specs.Walk.{SoundTree}
 use Rattle.macroblock.specs.declared.inner.candidates.MbCandidate.{MbCandidate}
+use Rattle.macroblock.specs.declared.inner.writing.WrittenMb.{WrittenMb}
 use Rattle.macroblock.specs.declared.svq1_enc_inter.Svq1MbMode.{Svq1MbMode}
 use Rattle.macroblock.specs.declared.svq1_enc_inter.Svq1MbMode.the-variants as Mode
 use Rattle.macroblock.specs.declared.svq1_plane.Svq1PlaneCanvas.{Svq1PlaneCanvas}
@@ -83,3 +86,33 @@ abbrev pub LaysChoice : Svq1PlaneCanvas → List ℕ → List ℕ → ℕ → Mb
 LaysChoice c reference raised k d recon vx vy recon' vx' vy' =
     (book codebook : List ℕ) → Bytes codebook → raised ≡ raisedCodebook codebook
     → _≡_ {A = Slices} (record { recon = recon'; vx = vx'; vy = vy' }) (laid (givenBy c reference book codebook) k (choiceOf d) (record { recon = recon; vx = vx; vy = vy }))
+
+-- ---- a candidate written, where it fits
+-- its bits, counted and few, from a bit of a string that is not too long
+pub record WriteReady (book : List ℕ) (n : Near) (c : MbCandidate) (bytes at : ℕ) : Type 0 where
+  pub passes : bookRefusal book ≡ 0
+  pub mode : c .mode ≡ modeOf (choiceOf c)
+  pub codes : Codes n (choiceOf c)
+  pub bits : c .bits ≡ length (choiceBits (ofBook book) n (choiceOf c))
+  pub few : c .bits ≤ 65536
+  pub start : Fits bytes at 0
+
+-- it fits behind bit `at` of so many bytes
+abbrev pub fitsIn : ℕ → ℕ → ℕ → Bool
+fitsIn bytes at bits = leb (at + bits) (8 * bytes)
+
+-- what is answered, and what the output's bits are then: those put, or as they were with 22
+pub record CandidateWritten (book : List ℕ) (n : Near) (c : MbCandidate) (out : List ℕ) (at : ℕ) (r : WrittenMb) (left : List ℕ) : Type 0 where
+  pub mode : r .mode ≡ c .mode
+  pub bits : r .bits ≡ c .bits
+  pub error : r .error ≡ c .error
+  pub refused : r .refused ≡ unless (fitsIn (length out) at (c .bits)) 22
+  pub next : r .next ≡ pick (fitsIn (length out) at (c .bits)) (at + c .bits) at
+  pub output : bitsOf left ≡ pick (fitsIn (length out) at (c .bits)) (putBits (bitsOf out) at (choiceBits (ofBook book) n (choiceOf c))) (bitsOf out)
+
+-- and the slices
+abbrev pub CandidateLaid : Svq1PlaneCanvas → List ℕ → List ℕ → ℕ → MbCandidate → ℕ → ℕ → List ℕ → List ℕ → List ℕ → List ℕ → List ℕ → List ℕ → Type 0
+CandidateLaid c reference raised k d bytes at recon vx vy recon' vx' vy' =
+    (book codebook : List ℕ) → Bytes codebook → raised ≡ raisedCodebook codebook
+    → _≡_ {A = Slices} (record { recon = recon'; vx = vx'; vy = vy' })
+    (pick (fitsIn bytes at (d .bits)) (laid (givenBy c reference book codebook) k (choiceOf d) (record { recon = recon; vx = vx; vy = vy })) (record { recon = recon; vx = vx; vy = vy }))

@@ -3,8 +3,9 @@
 use mathlib.Core.Path.{_≡_, refl, sym, ap, _∙_}
 use mathlib.Core.Bool.{Bool, true, false, true≢false}
 use mathlib.Core.List.{List, _++_}
-use Prim.Native.Nat.{ℕ, _+_, _*_, _≤_}
+use Prim.Native.Nat.{ℕ, _+_, _*_, _≤_, _<_}
 use native.Mathlib.Omega.{arith}
+use borrow.Author.Tests.{le-leb, lt-leb}
 use lib.ListN.{length, length-append}
 use Rattle.bits.specs.Basics.{Bytes}
 use Rattle.bits.specs.Inner.{Fits, Wrote}
@@ -31,7 +32,7 @@ use Rattle.macroblock.specs.Samples.{Stands, Room, Laid, Showing, Shows}
 use Rattle.macroblock.specs.Codes.{ofBook}
 use Rattle.macroblock.specs.CodesLaws.{first-fits, second-fits}
 use Rattle.macroblock.specs.Candidates.{choiceAs, choiceOf}
-use Rattle.macroblock.specs.Written.{skips, Codes, CodedRoom, PutReady, SoundChoice, ShowReady, ShowsChoice, LayReady, LaysChoice}
+use Rattle.macroblock.specs.Written.{skips, Codes, CodedRoom, PutReady, SoundChoice, ShowReady, ShowsChoice, LayReady, LaysChoice, WriteReady, CandidateWritten, CandidateLaid}
 
 -- ---- vectors and tree
 module _ (book : List ℕ) (n : Near) (m : Motion) (t : List Node) (bytes at : ℕ) (r : CodedRoom book n m t bytes at) where
@@ -127,3 +128,33 @@ module _ (c : MbCandidate) where
     unfolding laid
     lays block recon vx vy recon' vx' vy' e f l book codebook b h =
         rw (← e, ← f book codebook b h) (λ i. record { recon = l .recon-put i; vx = l .vx-put i; vy = l .vy-put i })
+
+-- ---- a candidate, where it fits
+module _ (book : List ℕ) (n : Near) (c : MbCandidate) (out : List ℕ) (at : ℕ) (w : WriteReady book n c (length out) at) where
+  pub put-ready : at + c .bits ≤ 8 * length out → PutReady book n c (length out) at
+  put-ready h = record {
+    passes = w .passes;
+    mode = w .mode;
+    codes = w .codes;
+    room = record { bytes-fit = w .start .bytes-fit; bits-fit = omega (arith, w .bits) };
+  }
+
+  pub wrote-candidate : (next : ℕ) (left : List ℕ) → at + c .bits ≤ 8 * length out → Wrote out at (choiceBits (ofBook book) n (choiceOf c)) next left
+      → CandidateWritten book n c out at (record { refused = 0; mode = c .mode; bits = c .bits; error = c .error; next = next }) left
+  wrote-candidate next left h o =
+      let f = le-leb (at + c .bits) (8 * length out) h in
+      record { mode = refl; bits = refl; error = refl; refused = rw f; next = rw f (o .behind ∙ ap (λ (i : ℕ). at + i) (sym (w .bits))); output = rw f (o .bits) }
+
+  pub wrote-nothing : 8 * length out < at + c .bits
+      → CandidateWritten book n c out at (record { refused = 22; mode = c .mode; bits = c .bits; error = c .error; next = at }) out
+  wrote-nothing h =
+      let f = lt-leb (at + c .bits) (8 * length out) h in
+      record { mode = refl; bits = refl; error = refl; refused = rw f; next = rw f; output = rw f }
+
+module _ (v : Svq1PlaneCanvas) (reference raised : List ℕ) (k : ℕ) (c : MbCandidate) (bytes at : ℕ) (recon vx vy : List ℕ) where
+  pub laid-candidate : (recon' vx' vy' : List ℕ) → at + c .bits ≤ 8 * bytes → LaysChoice v reference raised k c recon vx vy recon' vx' vy'
+      → CandidateLaid v reference raised k c bytes at recon vx vy recon' vx' vy'
+  laid-candidate recon' vx' vy' h l book codebook b e = rw (le-leb (at + c .bits) (8 * bytes) h) (l book codebook b e)
+
+  pub laid-nothing : 8 * bytes < at + c .bits → CandidateLaid v reference raised k c bytes at recon vx vy recon vx vy
+  laid-nothing h book codebook b e = rw (lt-leb (at + c .bits) (8 * bytes) h)

@@ -18,7 +18,7 @@ ghost use Rattle.macroblock.specs.Motions.{motionOf};
 ghost use Rattle.macroblock.specs.Samples.{Stands, Room};
 ghost use Rattle.macroblock.specs.Codes.{ofBook};
 ghost use Rattle.macroblock.specs.Candidates.{choiceOf};
-ghost use Rattle.macroblock.specs.Written.{skips, CodedRoom, PutReady, ShowReady, ShowsChoice, LayReady, LaysChoice};
+ghost use Rattle.macroblock.specs.Written.{skips, CodedRoom, PutReady, ShowReady, ShowsChoice, LayReady, LaysChoice, WriteReady, CandidateWritten, CandidateLaid};
 use super::super::svq1_enc_inter::MbMotion;
 use super::super::svq1_enc_inter::Svq1MbMode;
 use super::super::svq1_plane::Svq1PlaneCanvas;
@@ -166,4 +166,56 @@ fn lay_chosen(
         vx,
         vy,
     );
+}
+
+// A macroblock that was written: 0, or 22 where it does not fit and everything lent is as it was. Its mode, bits and error are what was chosen,
+// in both cases; `next` is the bit behind it, or where it would have begun.
+pub struct WrittenMb {
+    pub refused: u8,
+    pub mode: Svq1MbMode,
+    pub bits: u32,
+    pub error: u32,
+    pub next: usize,
+}
+
+// A candidate written, where it fits.
+fn write_chosen(
+    canvas: Svq1PlaneCanvas,
+    reference: &[u8],
+    book: &[u8],
+    raised: &[u8],
+    near: NearBlocks,
+    c: MbCandidate,
+    out: &mut [u8],
+    at: usize,
+    k: usize,
+    recon: &mut [u8],
+    vx: &mut [u8],
+    vy: &mut [u8],
+) -> WrittenMb
+    requires { ⌜ WriteReady (now book) (nearFrom near) c (length (now out)) at × LayReady canvas (now reference) (length (now raised)) k c (now recon) (now vx) (now vy) ⌝ }
+    ensures { λ r. ⌜ CandidateWritten (now (book .entry)) (nearFrom near) c (now (out .entry)) at r (now (out .exit)) ⌝ }
+    ensures { λ r. ⌜ CandidateLaid canvas (now (reference .entry)) (now (raised .entry)) k c (length (now (out .entry))) at (now (recon .entry)) (now (vx .entry)) (now (vy .entry)) (now (recon .exit)) (now (vx .exit)) (now (vy .exit)) ⌝ }
+{
+    let mode = c.mode;
+    let bits = c.bits;
+    let error = c.error;
+    if at + bits as usize <= 8 * out.len() {
+        let next = put_candidate(out, at, book, near, c);
+        lay_chosen(canvas, reference, raised, k, c, recon, vx, vy);
+        return WrittenMb {
+            refused: 0,
+            mode,
+            bits,
+            error,
+            next,
+        };
+    }
+    WrittenMb {
+        refused: 22,
+        mode,
+        bits,
+        error,
+        next: at,
+    }
 }
