@@ -1,9 +1,9 @@
 -- The 63 blocks of a macroblock's tree by number: level, parts, place, samples (document 01, `TreeNode` and `svq1_blocktree.rs`).
 use Prim.Native.Nat.{ℕ, zero, suc, _+_, _-_, _*_, _/_, _%_, _^_}
-use mathlib.Core.Bool.{Bool, true, false}
-use mathlib.Core.List.{List, [], _∷_, _++_}
+use mathlib.Core.Bool.{Bool}
+use mathlib.Core.List.{List, [], _++_}
 use lib.Dec.{eqb, ltb}
-use lib.ListN.{length, take, drop}
+use lib.ListN.{take, drop}
 use lib.Seq.{sets}
 use Rattle.bits.specs.Basics.{pick}
 use Rattle.book.specs.Level.{square, width, height}

@@ -1,13 +1,12 @@
 -- Laws of the tree that splits and leaf choices make, for a block of any level: how many bits it has, and what it shows.
 -- Assumes nothing.
 use mathlib.Core.Path.{_≡_, refl, sym, ap, _∙_}
-use mathlib.Core.Bool.{Bool, true, false, _||_}
-use mathlib.Core.List.{List, [], _∷_, _++_}
-use Prim.Native.Nat.{ℕ, zero, suc, _+_, _-_, _*_, _/_, _^_, _≤_, _<_}
+use mathlib.Core.Bool.{Bool, true, false}
+use mathlib.Core.List.{List}
+use Prim.Native.Nat.{ℕ, zero, suc, _+_, _-_, _/_, _≤_, _<_}
 use native.Mathlib.Omega.{arith}
 use native.Mathlib.Nat.{add-zero, add-suc}
-use native.Mathlib.Decide.{decLt, ℕ-discrete}
-use lib.Dec.{eqb}
+use native.Mathlib.Decide.{decLt}
 use borrow.Author.Tests.{eq-eqb, ne-eqb}
 use lib.ListN.{length, getD, replicate, length-replicate, List·getD-eq-default}
 use Rattle.bits.specs.Basics.{pick}
@@ -15,13 +14,13 @@ use Rattle.book.specs.Book.{Tables}
 use Rattle.book.specs.Level.{width, height, area}
 use Rattle.leaf.specs.Leaf.{Leaf}
 use Rattle.leaf.specs.LeafBits.{leafBits}
-use Rattle.tree.specs.Blocks.{blockCount, left, right, level, first, paintAt, rebuilt, place}
-use Rattle.tree.specs.BlocksLaws.{level-0, level-le, level-part, zero-row, suc-row, suc-level, At}
+use Rattle.tree.specs.Blocks.{blockCount, left, right, level, first, paintAt, rebuilt}
+use Rattle.tree.specs.BlocksLaws.{zero-row, suc-level}
 use Rattle.tree.specs.RowsLaws.{paint-whole}
 use Rattle.tree.specs.GeometryLaws.{In, at-first, first-place, in-first, shown, length-shown, rebuilt-is}
 use Rattle.tree.specs.Plan.{Weight, pruned}
-use Rattle.tree.specs.SumLaws.{flat, tree-sum, flat-is-tree}
-use Rattle.tree.specs.TreeBits.{Node, Off, Split, Ends, isSplit, reached, grow, nodeBits, emit, treeBits, nodeShows}
+use Rattle.tree.specs.SumLaws.{tree-sum, flat-is-tree}
+use Rattle.tree.specs.TreeBits.{Node, Off, Split, Ends, isSplit, reached, grow, nodeBits, treeBits, nodeShows}
 use Rattle.tree.specs.TreeLaws.{length-grow, grown, length-emit}
 
 -- the first block of a level is the first part of the first block above it

@@ -1,13 +1,12 @@
 -- Laws of the tree's blocks: a block and its two parts, their samples and distances; what a pruning shows, and its error.
 -- Assumes nothing.
-use mathlib.Core.Path.{_≡_, refl, sym, ap, subst, _∙_}
-use mathlib.Core.Bool.{Bool, true, false, not}
-use mathlib.Core.List.{List, [], _∷_, _++_}
-use Prim.Native.Nat.{ℕ, zero, suc, _+_, _-_, _*_, _/_, _%_, _^_, _≤_, _<_}
+use mathlib.Core.Path.{_≡_, refl, sym, subst}
+use mathlib.Core.Bool.{Bool, true, false}
+use mathlib.Core.List.{List, _++_}
+use Prim.Native.Nat.{ℕ, zero, suc, _+_, _-_, _*_, _/_, _%_, _≤_, _<_}
 use native.Mathlib.Nat.{add-zero}
 use native.Mathlib.Decide.{ℕ-discrete}
 use native.Mathlib.Omega.{arith}
-use lib.Dec.{eqb}
 use borrow.Author.Tests.{eq-eqb, ne-eqb}
 use lib.ListN.{length, length-append}
 use Rattle.bits.specs.Basics.{pick, Bytes}
@@ -16,7 +15,7 @@ use Rattle.leaf.specs.Leaf.{sse}
 use Rattle.tree.specs.Blocks.{blockCount, left, right, level, first, gather, paint, step, placeUnder, place, blockOf, paintAt, rebuilt}
 use Rattle.tree.specs.BlocksLaws.{suc-level, suc-row, level-part, level-le}
 use Rattle.tree.specs.Plan.{Weight, pruned, joined, flagged}
-use Rattle.tree.specs.RowsLaws.{weave, Inside, sse-append, sse-weave, gather-add, gather-weave, length-gather, length-weave, gather-whole, paint-add, paint-weave, paint-whole, bytes-gather, bytes-both, bytes-weave, sse-most}
+use Rattle.tree.specs.RowsLaws.{weave, Inside, sse-append, sse-weave, gather-add, gather-weave, length-gather, length-weave, gather-whole, paint-add, paint-weave, bytes-gather, bytes-both, bytes-weave, sse-most}
 
 -- the samples of a block from those of its two parts of level d
 abbrev pub join : ℕ → List ℕ → List ℕ → List ℕ

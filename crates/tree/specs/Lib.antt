@@ -25,3 +25,5 @@ pub mod RebuildLaws
 pub mod ShownLaws
 pub mod QueueLaws
 pub mod ReadSoundLaws
+pub mod Planning
+pub mod PlanningLaws

@@ -1,6 +1,6 @@
 -- A block's place in a plane of any stride, by its row and its column: two tables, each proved by one computed test.
 -- Assumes nothing.
-use mathlib.Core.Path.{_≡_, refl, sym, _∙_}
+use mathlib.Core.Path.{_≡_, refl}
 use mathlib.Core.Bool.{Bool, true, false, _&&_}
 use mathlib.Core.List.{List, [], _∷_}
 use Prim.Native.Nat.{ℕ, zero, suc, _+_, _-_, _*_, _/_, _%_, _≤_, _<_}
@@ -12,7 +12,7 @@ use lib.ListN.{getD}
 use Rattle.bits.specs.Basics.{pick}
 use Rattle.bits.specs.BasicsLaws.{both-true, below, below-at}
 use Rattle.book.specs.Level.{square, width, height}
-use Rattle.tree.specs.Blocks.{blockCount, level, step, placeUnder, place}
+use Rattle.tree.specs.Blocks.{blockCount, level, placeUnder, place}
 
 -- the row and the column at which block i, n levels below the root, begins
 unfoldable pub rowUnder : ℕ → ℕ → ℕ

@@ -1,6 +1,6 @@
 -- The plan of a block: its leaf choices, costs, prunings, and which blocks it splits (document 01, `svq1_enc_tree.rs`, "Behind demand 3").
 use Prim.Native.Nat.{ℕ, zero, suc, _+_, _-_, _*_, _^_, min}
-use mathlib.Core.Bool.{Bool, true, false, _&&_}
+use mathlib.Core.Bool.{Bool, false}
 use mathlib.Core.List.{List}
 use lib.Dec.{ltb}
 use lib.ListN.{length}

@@ -8,7 +8,7 @@ use Rattle.bits.specs.Basics.{Bytes}
 use Rattle.bits.specs.Codes.{got}
 use Rattle.leaf.specs.Leaf.{sse}
 use Rattle.leaf.specs.LeafCall.{BlockIn, blockRefusal}
-use Rattle.tree.specs.Plan.{Weight, Planning, planWeight, prunedCost}
+use Rattle.tree.specs.Plan.{Planning, planWeight, prunedCost}
 use Rattle.tree.specs.TreeBits.{planTree, treeBits, readTree, treeShown, planningOf}
 
 -- lambda up to here

@@ -3,36 +3,34 @@
 use mathlib.Core.Path.{_≡_, refl, sym, ap, _∙_}
 use mathlib.Core.Bool.{Bool, true, false, not, _&&_, true≢false}
 use mathlib.Core.List.{List, _++_}
-use Prim.Native.Nat.{ℕ, zero, suc, _*_, _^_, _≤_, _<_}
-use native.Mathlib.Nat.{le-refl}
+use Prim.Native.Nat.{ℕ, zero, suc, _^_, _≤_, _<_}
 use native.Mathlib.Omega.{arith}
 use lib.Dec.{eqb, leb, ltb}
 use borrow.Author.Tests.{eqb-true, leb-true, ltb-true}
 use lib.ListN.{length}
-use Rattle.bits.specs.Basics.{pick, Bytes, orElse, unless}
+use Rattle.bits.specs.Basics.{pick, Bytes, unless}
 use Rattle.bits.specs.BasicsLaws.{both-true, or-none, unless-none}
-use Rattle.bits.specs.Codes.{Got, got}
-use Rattle.book.specs.Book.{Tables, tablesOf, dataRefusal}
+use Rattle.bits.specs.Codes.{got}
+use Rattle.book.specs.Book.{dataRefusal}
 use Rattle.book.specs.BookLaws.{GoodTables, good-tables, data-passes}
 use Rattle.book.specs.Level.{width, area}
-use Rattle.book.specs.declared.svq1_vlc.Svq1Half.{Svq1Half}
-use Rattle.book.specs.declared.svq1_vlc.Svq1Half.the-variants.{Intra, Inter}
-use Rattle.leaf.specs.Leaf.{Leaf, sse, Vectors, leafShown, capAt}
+use Rattle.book.specs.declared.svq1_vlc.Svq1Half.the-variants.{Inter}
+use Rattle.leaf.specs.Leaf.{sse}
 use Rattle.leaf.specs.LeafBits.{leafBits}
 use Rattle.leaf.specs.LeafBitsLaws.{Allowed, leaf-most}
 use Rattle.leaf.specs.LeafCall.{BlockIn, halfAt, blockOk, blockRefusal}
 use Rattle.leaf.specs.LeafLaws.{Sized, vectors-sized, rule-allowed}
 use Rattle.leaf.specs.LeafLaws as leaf-laws
-use Rattle.tree.specs.Blocks.{blockCount, left, right, level, first, blockOf, gather}
+use Rattle.tree.specs.Blocks.{blockCount, left, right, level, blockOf}
 use Rattle.tree.specs.BlocksLaws.{level-0, level-le, At, at-parts}
 use Rattle.tree.specs.RowsLaws.{bytes-gather}
 use Rattle.tree.specs.GeometryLaws.{In, at-first, in-first, in-parts, first-whole, length-block, error-most, error-is, shown, length-shown, bytes-shown}
-use Rattle.tree.specs.Plan.{Weight, Planning, total, pruned, stride, root, leafAt, shownAt, weightAt, planWeight, planSplits, prunedCost, planned}
+use Rattle.tree.specs.Plan.{Weight, Planning, total, pruned, root, leafAt, shownAt, weightAt, planWeight, planSplits, prunedCost, planned}
 use Rattle.tree.specs.PlanLaws.{Under, most-bits, most-err, planned-under, optimal, room, own-plan, splits-zero}
-use Rattle.tree.specs.TreeBits.{Node, Off, Split, Ends, planTree, treeBits, readTree, treeShown, planningOf}
+use Rattle.tree.specs.TreeBits.{Split, Ends, planTree, treeBits, readTree, treeShown, planningOf}
 use Rattle.tree.specs.TreeLaws.{Stands, tree-read}
-use Rattle.tree.specs.ChoiceLaws.{choice, tree, bits-are, shown-are}
-use Rattle.tree.specs.PlanClaim.{largestLambda, planCost, PlanClaim, PlanClaimed}
+use Rattle.tree.specs.ChoiceLaws.{bits-are, shown-are}
+use Rattle.tree.specs.PlanClaim.{largestLambda, planCost, PlanClaimed}
 
 -- what a plan may assume: tables that read back, vectors of their levels' sizes, a block and a predictor of bytes
 pub record Planned (g : Planning) : Type 0 where

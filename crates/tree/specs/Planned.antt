@@ -1,10 +1,7 @@
 -- The records of the plan's code, and the plan's array.
-use mathlib.Core.Path.{_≡_, refl, sym, ap, ap₂, _∙_}
+use mathlib.Core.Path.{_≡_, sym}
 use mathlib.Core.Bool.{Bool, true, false}
-use mathlib.Core.List.{List, [], _∷_}
-use Prim.Native.Nat.{ℕ, zero, suc, _+_, _*_, _^_, _≤_, _<_}
-use native.Mathlib.Omega.{arith}
-use lib.Dec.{ltb}
+use Prim.Native.Nat.{ℕ, _^_, _≤_, _<_}
 use borrow.Author.Tests.{lt-ltb, le-ltb}
 use Rattle.bits.specs.Basics.{pick}
 use Rattle.tree.specs.Plan.{Weight, cost, joined, flagged, cheaper}
@@ -13,9 +10,12 @@ use Rattle.tree.specs.declared.svq1_enc_tree.PlannedBlock.{PlannedBlock}
 abbrev pub costOf : ℕ → ℕ → ℕ → ℕ
 costOf lambda bits err = cost lambda (record { bits = bits; err = err })
 
--- what a record weighs
+-- bits and an error as a weight, and what a record weighs
+abbrev pub weight : ℕ → ℕ → Weight
+weight n e = record { bits = n; err = e }
+
 abbrev pub weigh : PlannedBlock → Weight
-weigh b = record { bits = b .bits; err = b .error }
+weigh b = weight (b .bits) (b .error)
 
 -- sums over a whole tree stay far below 32 bits
 pub record Light (b : PlannedBlock) : Type 0 where

@@ -3,19 +3,18 @@
 use mathlib.Core.Path.{_≡_, refl, sym, ap, ap₂, _∙_}
 use mathlib.Core.Bool.{Bool, true, false, true≢false}
 use mathlib.Core.List.{List, []}
-use Prim.Native.Nat.{ℕ, zero, suc, _+_, _*_, _^_, _≤_, _<_}
+use Prim.Native.Nat.{ℕ, zero, suc, _+_, _^_, _≤_, _<_}
 use native.Mathlib.Omega.{arith}
 use native.Mathlib.Decide.{ℕ-discrete}
 use lib.ListN.{length, getD, set}
 use lib.Seq.{getD-set-same, getD-set-other}
 use Rattle.bits.specs.Basics.{pick}
-use Rattle.book.specs.Level.{width, area}
 use Rattle.leaf.specs.Raised.{leafOf}
 use Rattle.leaf.specs.declared.svq1_enc_leaf.LeafCode.the-variants.{Skip}
-use Rattle.tree.specs.Blocks.{blockCount, left, right, level}
+use Rattle.tree.specs.Blocks.{left, right, level}
 use Rattle.tree.specs.BlocksLaws.{level-0, level-part, suc-level, level-le}
 use Rattle.tree.specs.Plan.{Weight, Planning, joined, flagged, cheaper, planned, splits, leafAt, weightAt, planSplits}
-use Rattle.tree.specs.PlanLaws.{Under, most-bits, most-err}
+use Rattle.tree.specs.PlanLaws.{most-bits, most-err}
 use Rattle.tree.specs.PlanClaimLaws as claim
 use Rattle.tree.specs.Subtree.{inTree, in-plane}
 use Rattle.tree.specs.Planned.{weigh, Light, decidedAs, decided}

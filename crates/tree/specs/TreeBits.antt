@@ -14,7 +14,7 @@ use Rattle.leaf.specs.Leaf.{Leaf, Vectors}
 use Rattle.leaf.specs.LeafBits.{leafBits, readLeaf}
 use Rattle.leaf.specs.LeafCall.{BlockIn, halfAt, blockRefusal}
 use Rattle.tree.specs.Blocks.{blockCount, level, first, rebuilt}
-use Rattle.tree.specs.Plan.{Weight, Planning, stride, root, leafAt, shownAt, planSplits, planWeight}
+use Rattle.tree.specs.Plan.{Weight, Planning, root, leafAt, shownAt, planSplits, planWeight}
 
 -- a block that the tree does not reach, a split, a leaf
 pub data Node : Type 0 where

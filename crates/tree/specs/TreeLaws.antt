@@ -3,26 +3,20 @@
 use mathlib.Core.Path.{_≡_, refl, sym, ap, _∙_}
 use mathlib.Core.Bool.{Bool, true, false, _||_}
 use mathlib.Core.List.{List, [], _∷_, _++_, append-assoc, append-nil}
-use Prim.Native.Nat.{ℕ, zero, suc, _+_, _*_, _/_, _≤_, _<_}
+use Prim.Native.Nat.{ℕ, zero, suc, _/_, _≤_, _<_}
 use native.Mathlib.Omega.{arith}
 use native.Mathlib.Nat.{le-refl}
 use native.Mathlib.Decide.{decLt}
 use lib.Dec.{eqb}
-use borrow.Author.Tests.{eq-eqb, ne-eqb}
-use lib.ListN.{length, getD, length-append, List·getD-append, List·getD-eq-default}
+use lib.ListN.{length, getD, length-append, List·getD-append}
 use lib.Seq.{getD-at, getD-append-seam, append-snoc}
 use Rattle.bits.specs.Basics.{pick}
-use Rattle.bits.specs.Codes.{Got, got, then}
+use Rattle.bits.specs.Codes.{got}
 use Rattle.book.specs.Book.{Tables}
-use Rattle.leaf.specs.Leaf.{Leaf}
-use Rattle.leaf.specs.LeafBits.{leafBits, readLeaf}
 use Rattle.book.specs.BookLaws.{GoodTables}
 use Rattle.leaf.specs.LeafBitsLaws.{Allowed, read-leaf}
-use Rattle.tree.specs.Blocks.{blockCount, left, right, level, first}
-use Rattle.tree.specs.BlocksLaws.{level-0, level-le, zero-row, suc-row, suc-level, At}
-use Rattle.tree.specs.GeometryLaws.{at-first}
-use Rattle.tree.specs.Plan.{Weight, pruned, joined, flagged}
-use Rattle.tree.specs.SumLaws.{flat, tree-sum, flat-is-tree}
+use Rattle.tree.specs.Blocks.{blockCount, level, first}
+use Rattle.tree.specs.SumLaws.{flat}
 use Rattle.tree.specs.TreeBits.{Node, Off, Split, Ends, isSplit, reached, grow, nodeBits, emit, treeBits, asNode, readNode, readIf, readFrom, readTree}
 
 -- a node that may stand at a block of level d that is reached

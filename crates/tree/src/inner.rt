@@ -1,12 +1,10 @@
 // Functions that only the crates of this repository call. Most have a `requires`: the caller, proved too, meets it.
 ghost use mathlib.Core.Path.{_≡_};
-ghost use Prim.Native.Nat.{ℕ, _+_, _-_, _*_, _^_, _<_, _≤_};
+ghost use Prim.Native.Nat.{_+_, _-_, _*_, _^_, _<_, _≤_};
 ghost use lib.ListN.{length};
 ghost use lib.Seq.{sets};
-ghost use mathlib.Core.Bool.{true};
 ghost use Rattle.book.specs.Level.{width};
-ghost use Rattle.tree.specs.Blocks.{gather, paint, level, place, first, blockOf};
-ghost use Rattle.tree.specs.RowsLaws.{Inside};
+ghost use Rattle.tree.specs.Blocks.{gather, paint, level, place, blockOf};
 ghost use Rattle.tree.specs.Turns.{Rows};
 ghost use Rattle.tree.specs.PlaceLaws.{rowOf, columnOf};
 ghost use Rattle.tree.specs.Subtree.{inTree, BlockIn};

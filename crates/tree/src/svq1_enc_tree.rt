@@ -1,5 +1,5 @@
 ghost use mathlib.Core.Path.{_≡_};
-ghost use Prim.Native.Nat.{ℕ, _+_, _*_};
+ghost use Prim.Native.Nat.{_+_, _*_};
 ghost use Rattle.tree.specs.Plan.{saturated};
 ghost use Rattle.tree.specs.Planned.{Light, costOf, decided};
 use leaf::svq1_enc_leaf::LeafCode;
@@ -47,6 +47,13 @@ pub fn cost(lambda: u64, bits: u32, error: u32) -> u64
     saturating_add(error as u64, saturating_mul(lambda, bits as u64))
 }
 
+// A plan: its bits, its error and its tree.
+pub struct MbPlan {
+    pub bits: u32,
+    pub error: u32,
+    pub blocks: [Block; 63],
+}
+
 // What is planned for a block: whether it is split, and its bits and its error as that. Its leaf choice stands there either way.
 pub struct PlannedBlock {
     pub split: bool,
@@ -57,7 +64,7 @@ pub struct PlannedBlock {
 }
 
 // The leaf `l`, or a split into parts planned as `x` and `y` if that is strictly cheaper.
-fn decide(lambda: u64, l: PlannedBlock, x: PlannedBlock, y: PlannedBlock) -> PlannedBlock
+pub fn decide(lambda: u64, l: PlannedBlock, x: PlannedBlock, y: PlannedBlock) -> PlannedBlock
     requires { ⌜ Light l × Light x × Light y ⌝ }
     ensures { λ r. ⌜ r ≡ decided lambda l x y ⌝ }
 {

@@ -67,7 +67,7 @@ fn is_split(b: Block) -> bool
 }
 
 // Whether block i is reached: it is the root, or its parent is split.
-fn is_reached(blocks: [Block; 63], root: usize, i: usize) -> bool
+pub fn is_reached(blocks: [Block; 63], root: usize, i: usize) -> bool
     requires { ⌜ i < 63 ⌝ }
     ensures { λ r. ⌜ r ≡ reached root (treeOf blocks) i ⌝ }
 {

@@ -1,6 +1,5 @@
 -- The block lies in the plane, since it lies under the plane's root.
-use mathlib.Core.Path.{_≡_, sym, ap, _∙_}
-use Prim.Native.Nat.{ℕ}
+use mathlib.Core.Path.{_≡_, ap, _∙_}
 use native.Mathlib.Omega.{arith}
 use Rattle.book.specs.Level.{levelNumber, width, height}
 use Rattle.tree.specs.Blocks.{level}

@@ -1,8 +1,6 @@
 -- One row for each number.
 use mathlib.Core.Path.{_≡_}
-use Prim.Native.Nat.{ℕ}
 use native.Mathlib.Omega.{arith}
-use borrow.Author.Needs.{needs}
 use Rattle.tree.proofs.inner.blocks_under.Statement.{statement}
 use Rattle.tree.proofs.inner.blocks_under.Tie as tie
 

@@ -1,6 +1,5 @@
 -- The level of a block by its number: the tests are those of the definition. Assumes nothing.
-use mathlib.Core.Path.{_≡_, sym}
-use native.Mathlib.Omega.{arith}
+use mathlib.Core.Path.{sym}
 use Rattle.tree.specs.BlocksLaws.{level-0, level-1, level-2, level-3, level-4, level-5}
 use borrow.Author.Needs.{needs}
 use Rattle.tree.proofs.inner.level_of.Statement.{statement}

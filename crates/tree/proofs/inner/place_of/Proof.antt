@@ -1,7 +1,6 @@
 -- A place is the stride times the row, plus the column. Assumes nothing.
 use native.Mathlib.Omega.{arith}
-use mathlib.Core.Path.{_≡_, sym, _∙_}
-use Prim.Native.Nat.{_*_, _≤_}
+use mathlib.Core.Path.{sym}
 use native.Mathlib.Nat.{mul-le-mul}
 use Rattle.tree.specs.PlaceLaws.{place-is}
 use borrow.Author.Needs.{needs}

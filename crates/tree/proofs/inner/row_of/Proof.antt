@@ -1,6 +1,5 @@
 -- The table follows its rule (`row-at`). Assumes nothing.
 use native.Mathlib.Omega.{arith}
-use mathlib.Core.Path.{_≡_}
 use Prim.Native.Nat.{_≤_}
 use lib.ListN.{getD}
 use Rattle.tree.specs.PlaceLaws.{rowTable, row-at}

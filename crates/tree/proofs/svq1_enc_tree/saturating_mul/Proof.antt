@@ -1,6 +1,6 @@
 -- a > (2^64 - 1) / b exactly where a × b is above 2^64 - 1.
 use mathlib.Core.Path.{_≡_, ap, _∙_}
-use Prim.Native.Nat.{ℕ, zero, _*_, _/_, _≤_, _<_}
+use Prim.Native.Nat.{ℕ, _*_, _/_, _≤_, _<_}
 use native.Mathlib.Omega.{arith}
 use native.Mathlib.Nat.{mul-zero, le-div-iff-mul-le, div-lt-iff-lt-mul}
 use borrow.Author.Needs.{needs}

@@ -1,0 +1,318 @@
+// The plan of a block: the leaf choice of every block of its tree, which of them are split, and the tree that this makes.
+// Functions that only the crates of this repository call. Most have a `requires`: the caller, proved too, meets it.
+ghost use mathlib.Core.Path.{_≡_};
+ghost use Prim.Native.Nat.{_+_, _<_};
+ghost use lib.ListN.{length, getD};
+ghost use Rattle.tree.specs.Blocks.{blockCount, level};
+ghost use Rattle.tree.specs.Nodes.{nodeOf, treeOf};
+ghost use Rattle.tree.specs.TreeBits.{grow};
+ghost use Rattle.tree.specs.PlannedLaws.{blank, LeafAt, PlannedAt, Done};
+ghost use Rattle.tree.specs.Planning.{LeafReady, Scratch, BlockLeaf, PlanReady, BlockReady, planningIn, leafRecord, plannedNode, PlanFound};
+use super::inner::block_of;
+use super::inner::in_tree;
+use super::inner::level_of;
+use super::svq1_enc_tree::Block;
+use super::svq1_enc_tree::MbPlan;
+use super::svq1_enc_tree::PlannedBlock;
+use super::svq1_enc_tree::TreeNode;
+use super::svq1_enc_tree::decide;
+use super::walk::first_of;
+use super::walk::is_reached;
+use super::walk::level_at;
+use book::svq1_vlc::Svq1Half;
+use leaf::inner::book_leaf_bits;
+use leaf::inner::level_leaf;
+use leaf::svq1_enc_leaf::LeafChoice;
+use leaf::svq1_enc_leaf::LeafCode;
+
+// The leaf choice of block i of a block of level d, by the raised codebook. `t` and `p` are scratch of block i's size, `sums` and `shown` of 256 samples.
+fn gathered_leaf(
+    half: Svq1Half,
+    raised: &[u8],
+    most: usize,
+    skip: bool,
+    d: usize,
+    target: &[u8],
+    predictor: &[u8],
+    i: usize,
+    t: &mut [u8],
+    p: &mut [u8],
+    sums: &mut [u16],
+    shown: &mut [u8],
+) -> LeafChoice
+    requires { ⌜ LeafReady (length (now raised)) most d (length (now target)) (length (now predictor)) i ⌝ }
+    requires { ⌜ Scratch (level i) (length (now t)) (length (now p)) (length (now sums)) (length (now shown)) ⌝ }
+    ensures { λ r. ⌜ BlockLeaf half (now (raised .entry)) most skip d (now (target .entry)) (now (predictor .entry)) i r ⌝ }
+{
+    block_of(target, d, i, t);
+    block_of(predictor, d, i, p);
+    let l = level_at(level_of(i));
+    level_leaf(l, half, t, p, sums, shown, raised, most, skip)
+}
+
+// The same with scratch of any size that is large enough.
+fn cut_leaf(
+    half: Svq1Half,
+    raised: &[u8],
+    most: usize,
+    skip: bool,
+    d: usize,
+    target: &[u8],
+    predictor: &[u8],
+    i: usize,
+    t: &mut [u8],
+    p: &mut [u8],
+    sums: &mut [u16],
+    shown: &mut [u8],
+) -> LeafChoice
+    requires { ⌜ LeafReady (length (now raised)) most d (length (now target)) (length (now predictor)) i ⌝ }
+    requires { ⌜ (length (now t) ≡ 256) × (length (now p) ≡ 256) × (length (now sums) ≡ 256) × (length (now shown) ≡ 256) ⌝ }
+    ensures { λ r. ⌜ BlockLeaf half (now (raised .entry)) most skip d (now (target .entry)) (now (predictor .entry)) i r ⌝ }
+{
+    let n = level_at(level_of(i)).vector_length();
+    gathered_leaf(
+        half,
+        raised,
+        most,
+        skip,
+        d,
+        target,
+        predictor,
+        i,
+        &mut t[0..n],
+        &mut p[0..n],
+        sums,
+        shown,
+    )
+}
+
+// The same with scratch of its own.
+fn leaf_in(
+    half: Svq1Half,
+    raised: &[u8],
+    most: usize,
+    skip: bool,
+    d: usize,
+    target: &[u8],
+    predictor: &[u8],
+    i: usize,
+) -> LeafChoice
+    requires { ⌜ LeafReady (length (now raised)) most d (length (now target)) (length (now predictor)) i ⌝ }
+    ensures { λ r. ⌜ BlockLeaf half (now (raised .entry)) most skip d (now (target .entry)) (now (predictor .entry)) i r ⌝ }
+{
+    let mut t = [0u8; 256];
+    let mut p = [0u8; 256];
+    let mut sums = [0u16; 256];
+    let mut shown = [0u8; 256];
+    cut_leaf(
+        half,
+        raised,
+        most,
+        skip,
+        d,
+        target,
+        predictor,
+        i,
+        &mut t,
+        &mut p,
+        &mut sums,
+        &mut shown,
+    )
+}
+
+// A leaf choice and its bits. That there are six stage indices is known here, where they come as an array.
+fn as_leaf(code: LeafCode, stages: [u8; 6], bits: u32, error: u32) -> PlannedBlock
+    ensures { λ r. ⌜ (r ≡ leafRecord code stages bits error) × (length stages ≡ 6) ⌝ }
+{
+    PlannedBlock {
+        split: false,
+        bits,
+        error,
+        code,
+        stages,
+    }
+}
+
+// Block i as a leaf, by the book and the codebook. Lambda plays no part in it.
+fn plan_leaf(
+    half: Svq1Half,
+    book: &[u8],
+    codebook: &[u8],
+    raised: &[u8],
+    most: usize,
+    skip: bool,
+    d: usize,
+    target: &[u8],
+    predictor: &[u8],
+    i: usize,
+) -> PlannedBlock
+    requires { ⌜ PlanReady half (now book) (now codebook) (now raised) most skip d (now target) (now predictor) × BlockReady d i ⌝ }
+    ensures { λ r. ⌜ LeafAt (planningIn half (now (book .entry)) (now (codebook .entry)) most skip 0 d (now (target .entry)) (now (predictor .entry))) i r ⌝ }
+{
+    let c = leaf_in(half, raised, most, skip, d, target, predictor, i);
+    let code = c.code;
+    let stages = c.stages;
+    let bits = book_leaf_bits(book, level_at(level_of(i)), half, code);
+    as_leaf(code, stages, bits, c.error)
+}
+
+// Block i as the plan has it, where `a` holds the blocks behind it.
+fn plan_block(
+    half: Svq1Half,
+    book: &[u8],
+    codebook: &[u8],
+    raised: &[u8],
+    most: usize,
+    skip: bool,
+    lambda: u64,
+    d: usize,
+    target: &[u8],
+    predictor: &[u8],
+    a: [PlannedBlock; 63],
+    i: usize,
+) -> PlannedBlock
+    requires { ⌜ PlanReady half (now book) (now codebook) (now raised) most skip d (now target) (now predictor) × BlockReady d i ⌝ }
+    requires { ⌜ Done (planningIn half (now book) (now codebook) most skip lambda d (now target) (now predictor)) a (i + 1) ⌝ }
+    ensures { λ r. ⌜ PlannedAt (planningIn half (now (book .entry)) (now (codebook .entry)) most skip lambda d (now (target .entry)) (now (predictor .entry))) i r ⌝ }
+{
+    let l = plan_leaf(
+        half,
+        book,
+        codebook,
+        raised,
+        most,
+        skip,
+        d,
+        target,
+        predictor,
+        i,
+    );
+    if 30 < i {
+        return l;
+    }
+    let x = a[2 * i + 1];
+    let y = a[2 * i + 2];
+    decide(lambda, l, x, y)
+}
+
+// Every block of the plan, the last first.
+fn plan_blocks(
+    half: Svq1Half,
+    book: &[u8],
+    codebook: &[u8],
+    raised: &[u8],
+    most: usize,
+    skip: bool,
+    lambda: u64,
+    d: usize,
+    target: &[u8],
+    predictor: &[u8],
+) -> [PlannedBlock; 63]
+    requires { ⌜ PlanReady half (now book) (now codebook) (now raised) most skip d (now target) (now predictor) ⌝ }
+    ensures { λ r. ⌜ Done (planningIn half (now (book .entry)) (now (codebook .entry)) most skip lambda d (now (target .entry)) (now (predictor .entry))) r 0 ⌝ }
+{
+    let mut a = [PlannedBlock {
+        split: false,
+        bits: 0,
+        error: 0,
+        code: LeafCode::Skip,
+        stages: [0u8; 6],
+    }; 63];
+    let mut i = 63;
+    while 0 < i {
+        i -= 1;
+        if in_tree(d, i) {
+            let b = plan_block(
+                half,
+                book,
+                codebook,
+                raised,
+                most,
+                skip,
+                lambda,
+                d,
+                target,
+                predictor,
+                a,
+                i,
+            );
+            a[i] = b;
+        }
+    }
+    a
+}
+
+// A planned block as a block of the tree.
+fn block_as(b: PlannedBlock) -> Block
+    ensures { λ r. ⌜ nodeOf r ≡ plannedNode b ⌝ }
+{
+    let code = b.code;
+    let stages = b.stages;
+    if b.split {
+        return Block {
+            node: TreeNode::Split,
+            stages: [0u8; 6],
+        };
+    }
+    Block {
+        node: TreeNode::Leaf(code),
+        stages,
+    }
+}
+
+// The tree that the planned blocks make from the root on: what is not reached is off.
+fn grow_tree(a: [PlannedBlock; 63], root: usize) -> [Block; 63]
+    ensures { λ r. ⌜ treeOf r ≡ grow root (λ i. plannedNode (getD a i blank)) blockCount ⌝ }
+{
+    let mut t = [Block {
+        node: TreeNode::Off,
+        stages: [0u8; 6],
+    }; 63];
+    let mut i = 0;
+    while i < 63 {
+        if is_reached(t, root, i) {
+            let b = a[i];
+            t[i] = block_as(b);
+        }
+        i += 1;
+    }
+    t
+}
+
+// The plan of a block of level d: its tree, its bits and its error.
+pub fn plan(
+    half: Svq1Half,
+    book: &[u8],
+    codebook: &[u8],
+    raised: &[u8],
+    most: usize,
+    skip: bool,
+    lambda: u64,
+    d: usize,
+    target: &[u8],
+    predictor: &[u8],
+) -> MbPlan
+    requires { ⌜ PlanReady half (now book) (now codebook) (now raised) most skip d (now target) (now predictor) ⌝ }
+    ensures { λ r. ⌜ PlanFound (planningIn half (now (book .entry)) (now (codebook .entry)) most skip lambda d (now (target .entry)) (now (predictor .entry))) r ⌝ }
+{
+    let a = plan_blocks(
+        half,
+        book,
+        codebook,
+        raised,
+        most,
+        skip,
+        lambda,
+        d,
+        target,
+        predictor,
+    );
+    let root = first_of(d);
+    let top = a[root];
+    let blocks = grow_tree(a, root);
+    MbPlan {
+        bits: top.bits,
+        error: top.error,
+        blocks,
+    }
+}
