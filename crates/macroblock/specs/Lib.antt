@@ -20,3 +20,5 @@ pub mod Candidates
 pub mod CandidatesLaws
 pub mod Written
 pub mod WrittenLaws
+pub mod Chosen
+pub mod ChosenLaws

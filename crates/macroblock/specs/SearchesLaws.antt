@@ -29,6 +29,7 @@ use Rattle.macroblock.specs.declared.svq1_plane.Svq1PlaneCanvas.{Svq1Pla
 use Rattle.macroblock.specs.Macroblock.{Given, Motion, still, single, four}
 use Rattle.macroblock.specs.MacroblockLaws.{Codables}
 use Rattle.macroblock.specs.Choice.{Task, target, ifFound, singleTried, fourTried}
+use Rattle.macroblock.specs.Motions.{motionOf}
 use Rattle.macroblock.specs.Inner.{givenBy}
 use Rattle.macroblock.specs.Searches.{searchBy, wholeBy, quarterBy, Cornered, Searching, vectorFound, PairFound, motionsOf, noneFound, stillFound, oneFound, fourFound, MotionsFound}
 
@@ -213,3 +214,14 @@ module _ (c : Svq1PlaneCanvas) (reference block : List ℕ) (radius k : ℕ) (n 
 
   pub moves-flag-off : (f : Bool) (ms : Given → Task → List Motion) → f ≡ false → MotionsFound c reference block radius k n (λ g t. pick f (ms g t) []) noneFound
   moves-flag-off f ms e = record { are = λ book codebook t eb er. rw e; codes = tt; stored = refl }
+
+-- ---- a motion to try, or none
+module _ (f : FoundMotion) where
+  pub motions-one : f .found ≡ true → motionsOf f ≡ motionOf (f .motion) (f .vectors) ∷ []
+  motions-one e = rw e
+
+  pub motions-none : f .found ≡ false → motionsOf f ≡ []
+  motions-none e = rw e
+
+pub all-found : (n : Near) (f : FoundMotion) → f .found ≡ true → All (Codables n) (motionsOf f) → Codables n (motionOf (f .motion) (f .vectors))
+all-found n f e h = let w : All (Codables n) (motionOf (f .motion) (f .vectors) ∷ []) = rw (motions-one f e) at h in w .0

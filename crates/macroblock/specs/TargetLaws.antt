@@ -108,6 +108,10 @@ module _ (width height : ℕ) (source : List ℕ) (k : ℕ) (s : Sources width h
       let m : j < 256 = omega (arith, f .whole) in
       f .same j (omega arith) ∙ sym (value-at (targetSample width height source k) 256 0 j 0 m ∙ ap (targetSample width height source k) (zero-add j)))
 
+pub target-long : (width height : ℕ) (source : List ℕ) (k : ℕ) → length (targetOf width height source k) ≡ 256
+unfolding targetOf
+target-long width height source k = length-values (targetSample width height source k) 256 0
+
 -- ---- it is the target by the padded source
 module _ (g : Given) (t : Task) (k : ℕ) (across : g .reference .stride ≡ padded16 (g .width)) (down : g .reference .rows ≡ padded16 (g .height))
     (number : k < rows g * cols g) (wide : 0 < cols g) where

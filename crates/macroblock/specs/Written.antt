@@ -12,8 +12,10 @@ use Rattle.book.specs.Book.{tablesOf, bookRefusal, codebookBytes}
 use Rattle.leaf.specs.Raised.{raisedCodebook}
 use Rattle.motion.specs.Cache as cache
 use Rattle.motion.specs.Neighbours.{Near}
+use Rattle.motion.specs.NeighboursLaws.{Ranged}
 use Rattle.motion.specs.Search.{largestSide, blocksAlong}
 use Rattle.motion.specs.VectorsLaws.{Inside}
+use Rattle.tree.specs.Plan.{Weight}
 use Rattle.tree.specs.TreeBits.{Node, treeBits}
 use Rattle.tree.specs.Walk.{SoundTree}
 use Rattle.macroblock.specs.declared.inner.candidates.MbCandidate.{MbCandidate}
@@ -21,10 +23,11 @@ use Rattle.macroblock.specs.declared.inner.writing.WrittenMb.{WrittenMb}
 use Rattle.macroblock.specs.declared.svq1_enc_inter.Svq1MbMode.{Svq1MbMode}
 use Rattle.macroblock.specs.declared.svq1_enc_inter.Svq1MbMode.the-variants as Mode
 use Rattle.macroblock.specs.declared.svq1_plane.Svq1PlaneCanvas.{Svq1PlaneCanvas}
-use Rattle.macroblock.specs.Macroblock.{Motion, Choice, skipped, coded, modeOf, halfOf, vectorsOf, shown, motionBits, choiceBits}
+use Rattle.macroblock.specs.Macroblock.{Given, cols, rows, Motion, Choice, skipped, coded, modeOf, halfOf, vectorsOf, shown, motionBits, choiceBits}
 use Rattle.macroblock.specs.MacroblockLaws.{Codables}
-use Rattle.macroblock.specs.Slices.{Slices, laid}
-use Rattle.macroblock.specs.Inner.{givenBy}
+use Rattle.macroblock.specs.Choice.{Task, weightOf, chosen}
+use Rattle.macroblock.specs.Slices.{Slices, near, laid}
+use Rattle.macroblock.specs.Inner.{givenBy, Accepted, Held}
 use Rattle.macroblock.specs.Samples.{Stands, Room}
 use Rattle.macroblock.specs.Codes.{ofBook}
 use Rattle.macroblock.specs.Candidates.{choiceOf}
@@ -116,3 +119,31 @@ CandidateLaid c reference raised k d bytes at recon vx vy recon' vx' vy' =
     (book codebook : List ℕ) → Bytes codebook → raised ≡ raisedCodebook codebook
     → _≡_ {A = Slices} (record { recon = recon'; vx = vx'; vy = vy' })
     (pick (fitsIn bytes at (d .bits)) (laid (givenBy c reference book codebook) k (choiceOf d) (record { recon = recon; vx = vx; vy = vy })) (record { recon = recon; vx = vx; vy = vy }))
+
+-- ---- a macroblock written
+-- what is lent passes and holds macroblock k, the output is not too long, the bit lies in it, and the vectors of the macroblocks before k are in -32..31
+pub record MbReady (g : Given) (raised source : List ℕ) (k bytes at : ℕ) (s : Slices) : Type 0 where
+  pub ok : Accepted g raised
+  pub held : Held g s
+  pub number : k < rows g * cols g
+  pub samples : length source ≡ g .width * g .height
+  pub start : Fits bytes at 0
+  pub ranged-x : Ranged (cols g) k (s .vx)
+  pub ranged-y : Ranged (cols g) k (s .vy)
+
+-- what is written for macroblock k, and what it weighs
+abbrev pub mbChoice : Given → Task → ℕ → Slices → Choice
+mbChoice g t k s = chosen g t k (near g s k)
+
+abbrev pub mbWeight : Given → Task → ℕ → Slices → Weight
+mbWeight g t k s = weightOf g t k (near g s k) (mbChoice g t k s)
+
+-- its mode, bits and error are stated, whether it fits or not; where it fits, its bits are put and its samples and vectors laid, and else it is 22 with everything as it was
+pub record MbWritten (g : Given) (t : Task) (k : ℕ) (out : List ℕ) (at : ℕ) (s : Slices) (r : WrittenMb) (left : List ℕ) (u : Slices) : Type 0 where
+  pub mode : r .mode ≡ modeOf (mbChoice g t k s)
+  pub bits : r .bits ≡ mbWeight g t k s .bits
+  pub error : r .error ≡ mbWeight g t k s .err
+  pub refused : r .refused ≡ unless (fitsIn (length out) at (mbWeight g t k s .bits)) 22
+  pub next : r .next ≡ pick (fitsIn (length out) at (mbWeight g t k s .bits)) (at + mbWeight g t k s .bits) at
+  pub output : bitsOf left ≡ pick (fitsIn (length out) at (mbWeight g t k s .bits)) (putBits (bitsOf out) at (choiceBits g (near g s k) (mbChoice g t k s))) (bitsOf out)
+  pub slices : u ≡ pick (fitsIn (length out) at (mbWeight g t k s .bits)) (laid g k (mbChoice g t k s) s) s

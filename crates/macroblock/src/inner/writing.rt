@@ -18,11 +18,14 @@ ghost use Rattle.macroblock.specs.Motions.{motionOf};
 ghost use Rattle.macroblock.specs.Samples.{Stands, Room};
 ghost use Rattle.macroblock.specs.Codes.{ofBook};
 ghost use Rattle.macroblock.specs.Candidates.{choiceOf};
-ghost use Rattle.macroblock.specs.Written.{skips, CodedRoom, PutReady, ShowReady, ShowsChoice, LayReady, LaysChoice, WriteReady, CandidateWritten, CandidateLaid};
+ghost use Rattle.macroblock.specs.Written.{skips, CodedRoom, PutReady, ShowReady, ShowsChoice, LayReady, LaysChoice, WriteReady, CandidateWritten, CandidateLaid, MbReady, MbWritten};
+ghost use Rattle.macroblock.specs.Chosen.{taskBy};
+ghost use Rattle.macroblock.specs.Inner.{givenBy};
 use super::super::svq1_enc_inter::MbMotion;
 use super::super::svq1_enc_inter::Svq1MbMode;
 use super::super::svq1_plane::Svq1PlaneCanvas;
 use super::candidates::MbCandidate;
+use super::choice::choose_macroblock;
 use super::codes::put_mode;
 use super::codes::put_motion;
 use super::samples::half_of;
@@ -30,6 +33,7 @@ use super::samples::lay_block;
 use super::samples::show_coded;
 use super::samples::take_block;
 use super::target::blocks_along;
+use motion::inner::mv_cache::near_blocks;
 use motion::svq1_motion_predictor::Svq1Mv;
 use motion::svq1_mv_cache::NearBlocks;
 use tree::svq1_enc_tree::Block;
@@ -218,4 +222,57 @@ fn write_chosen(
         error,
         next: at,
     }
+}
+
+// Macroblock k of a plane, from bit `at` of `out` on: the best of the ways that are tried for it. `raised` is the raised codebook.
+pub fn write_macroblock(
+    canvas: Svq1PlaneCanvas,
+    source: &[u8],
+    reference: &[u8],
+    book: &[u8],
+    codebook: &[u8],
+    raised: &[u8],
+    lambda: u64,
+    radius: u8,
+    four: bool,
+    out: &mut [u8],
+    at: usize,
+    k: usize,
+    recon: &mut [u8],
+    vx: &mut [u8],
+    vy: &mut [u8],
+) -> WrittenMb
+    requires { ⌜ MbReady (givenBy canvas (now reference) (now book) (now codebook)) (now raised) (now source) k (length (now out)) at (record { recon = now recon; vx = now vx; vy = now vy }) ⌝ }
+    ensures { λ r. ⌜ MbWritten (givenBy canvas (now (reference .entry)) (now (book .entry)) (now (codebook .entry))) (taskBy (now (source .entry)) lambda radius four) k (now (out .entry)) at (record { recon = now (recon .entry); vx = now (vx .entry); vy = now (vy .entry) }) r (now (out .exit)) (record { recon = now (recon .exit); vx = now (vx .exit); vy = now (vy .exit) }) ⌝ }
+{
+    let cols = blocks_along(canvas.width);
+    let rows = blocks_along(canvas.height);
+    let near = near_blocks(vx, vy, cols, rows, k);
+    let c = choose_macroblock(
+        canvas,
+        source,
+        reference,
+        book,
+        codebook,
+        raised,
+        lambda,
+        radius,
+        four,
+        k,
+        near,
+    );
+    write_chosen(
+        canvas,
+        reference,
+        book,
+        raised,
+        near,
+        c,
+        out,
+        at,
+        k,
+        recon,
+        vx,
+        vy,
+    )
 }
