@@ -20,7 +20,7 @@ use Rattle.macroblock.specs.declared.svq1_enc_inter.Svq1MbMode.the-varia
 use Rattle.macroblock.specs.Macroblock.{Given, Motion, Choice, skipped, coded, modeOf, motionMode, vectorsOf, shown, motionBits, modeBits, choiceBits}
 use Rattle.macroblock.specs.Choice.{Task, target, planningFor, bestOf}
 use Rattle.macroblock.specs.Motions.{motionOf}
-use Rattle.macroblock.specs.Codes.{ofBook}
+use Rattle.macroblock.specs.Coding.{ofBook}
 
 -- what a candidate is: SKIP has neither motion nor tree
 abbrev pub choiceAs : Svq1MbMode → Motion → List Node → Choice

@@ -24,7 +24,7 @@ use Rattle.macroblock.specs.declared.svq1_enc_inter.Svq1MbMode.the-varia
 use Rattle.macroblock.specs.Macroblock.{Given, Motion, still, single, four, Choice, skipped, coded, modeOf, motionMode, halfOf, vectorsOf, referenceBlock, shown, vectorBits, motionBits, modeBits, choiceBits}
 use Rattle.macroblock.specs.Choice.{Task, target, planningFor, singleTried, fourTried, motionsTried, tried, weightOf, beats, bestOf, chosen}
 use Rattle.macroblock.specs.Motions.{motionOf}
-use Rattle.macroblock.specs.Codes.{ofBook}
+use Rattle.macroblock.specs.Coding.{ofBook}
 use Rattle.macroblock.specs.Candidates.{choiceAs, choiceOf, Stated, Skipping, CandidateOf, preferred, codedFor, Tried}
 
 -- ---- SKIP

@@ -12,8 +12,8 @@ pub mod InnerLaws
 pub mod MacroblockLaws
 pub mod Target
 pub mod TargetLaws
-pub mod Codes
-pub mod CodesLaws
+pub mod Coding
+pub mod CodingLaws
 pub mod Searches
 pub mod SearchesLaws
 pub mod Candidates

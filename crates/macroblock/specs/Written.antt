@@ -29,7 +29,7 @@ use Rattle.macroblock.specs.Choice.{Task, weightOf, chosen}
 use Rattle.macroblock.specs.Slices.{Slices, near, laid}
 use Rattle.macroblock.specs.Inner.{givenBy, Accepted, Held}
 use Rattle.macroblock.specs.Samples.{Stands, Room}
-use Rattle.macroblock.specs.Codes.{ofBook}
+use Rattle.macroblock.specs.Coding.{ofBook}
 use Rattle.macroblock.specs.Candidates.{choiceOf}
 
 abbrev pub skips : Svq1MbMode → Bool

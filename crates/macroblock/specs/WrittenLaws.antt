@@ -29,8 +29,8 @@ use Rattle.macroblock.specs.Motions.{motionOf}
 use Rattle.macroblock.specs.Slices.{Slices, laid}
 use Rattle.macroblock.specs.Inner.{givenBy}
 use Rattle.macroblock.specs.Samples.{Stands, Room, Laid, Showing, Shows}
-use Rattle.macroblock.specs.Codes.{ofBook}
-use Rattle.macroblock.specs.CodesLaws.{first-fits, second-fits}
+use Rattle.macroblock.specs.Coding.{ofBook}
+use Rattle.macroblock.specs.CodingLaws.{first-fits, second-fits}
 use Rattle.macroblock.specs.Candidates.{choiceAs, choiceOf}
 use Rattle.macroblock.specs.Written.{skips, Codes, CodedRoom, PutReady, SoundChoice, ShowReady, ShowsChoice, LayReady, LaysChoice, WriteReady, CandidateWritten, CandidateLaid}
 

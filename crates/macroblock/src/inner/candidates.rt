@@ -18,8 +18,8 @@ ghost use Rattle.macroblock.specs.Candidates.{choiceOf, preferred, State
 use super::super::svq1_enc_inter::MbMotion;
 use super::super::svq1_enc_inter::Svq1MbMode;
 use super::super::svq1_plane::Svq1PlaneCanvas;
-use super::codes::mb_mode_bits;
-use super::codes::motion_bits;
+use super::coding::mb_mode_bits;
+use super::coding::motion_bits;
 use super::samples::take_block;
 use leaf::inner::distance_of;
 use motion::svq1_motion_predictor::Svq1Mv;

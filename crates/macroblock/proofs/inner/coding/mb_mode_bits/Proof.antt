@@ -3,10 +3,10 @@ use mathlib.Core.Path.{refl}
 use Rattle.book.specs.BookLaws.{good-book}
 use Rattle.book.specs.Book.{modeTable}
 use Rattle.macroblock.specs.Mode.{modePosition}
-use Rattle.macroblock.specs.CodesLaws.{entry-there, entry-counted}
+use Rattle.macroblock.specs.CodingLaws.{entry-there, entry-counted}
 use borrow.Author.Needs.{needs}
-use Rattle.macroblock.proofs.inner.codes.mb_mode_bits.Statement.{statement}
-use Rattle.macroblock.proofs.inner.codes.mb_mode_bits.Tie as tie
+use Rattle.macroblock.proofs.inner.coding.mb_mode_bits.Statement.{statement}
+use Rattle.macroblock.proofs.inner.coding.mb_mode_bits.Tie as tie
 
 mode-table-requires : tie.Need-mode-table-requires
 mode-table-requires c κs = good-book _ (c .before .pre) .size

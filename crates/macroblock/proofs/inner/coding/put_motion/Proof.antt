@@ -5,12 +5,12 @@ use Rattle.bits.specs.InnerLaws.{wrote-none}
 use Rattle.tree.specs.WalkLaws.{wrote-as}
 use Rattle.macroblock.specs.declared.svq1_enc_inter.MbMotion.{MbMotion}
 use Rattle.macroblock.specs.Motions.{motionOf}
-use Rattle.macroblock.specs.Codes.{ofBook}
-use Rattle.macroblock.specs.CodesLaws.{still-bits, single-bits, single-codable, four-codable, fits-as}
+use Rattle.macroblock.specs.Coding.{ofBook}
+use Rattle.macroblock.specs.CodingLaws.{still-bits, single-bits, single-codable, four-codable, fits-as}
 use Rattle.macroblock.specs.Macroblock.{motionBits}
 use borrow.Author.Needs.{needs}
-use Rattle.macroblock.proofs.inner.codes.put_motion.Statement.{statement}
-use Rattle.macroblock.proofs.inner.codes.put_motion.Tie as tie
+use Rattle.macroblock.proofs.inner.coding.put_motion.Statement.{statement}
+use Rattle.macroblock.proofs.inner.coding.put_motion.Tie as tie
 
 enum-told : tie.Need-enum-told
 enum-told c = search needs

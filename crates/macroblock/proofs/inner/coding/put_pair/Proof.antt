@@ -2,11 +2,11 @@
 use native.Mathlib.Omega.{arith}
 use Rattle.bits.specs.InnerLaws.{wrote-more}
 use Rattle.macroblock.specs.Macroblock.{vectorBits}
-use Rattle.macroblock.specs.Codes.{ofBook}
-use Rattle.macroblock.specs.CodesLaws.{first-fits, second-fits}
+use Rattle.macroblock.specs.Coding.{ofBook}
+use Rattle.macroblock.specs.CodingLaws.{first-fits, second-fits}
 use borrow.Author.Needs.{needs}
-use Rattle.macroblock.proofs.inner.codes.put_pair.Statement.{statement}
-use Rattle.macroblock.proofs.inner.codes.put_pair.Tie as tie
+use Rattle.macroblock.proofs.inner.coding.put_pair.Statement.{statement}
+use Rattle.macroblock.proofs.inner.coding.put_pair.Tie as tie
 
 push-mv-differential-requires : tie.Need-push-mv-differential-requires
 push-mv-differential-requires c κs =

@@ -12,7 +12,7 @@ ghost use Rattle.motion.specs.Cache.{nearFrom};
 ghost use Rattle.macroblock.specs.Macroblock.{four, vectorBits, motionBits, modeBits};
 ghost use Rattle.macroblock.specs.MacroblockLaws.{Codables};
 ghost use Rattle.macroblock.specs.Motions.{motionOf};
-ghost use Rattle.macroblock.specs.Codes.{ofBook, componentBits, Counted};
+ghost use Rattle.macroblock.specs.Coding.{ofBook, componentBits, Counted};
 use super::super::svq1_enc_inter::MbMotion;
 use super::super::svq1_enc_inter::Svq1MbMode;
 use bits::inner::entry_len;

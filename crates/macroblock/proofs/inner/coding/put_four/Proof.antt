@@ -1,13 +1,13 @@
 -- Two pairs, one behind the other, by the predictors as they are computed. Assumes nothing.
 use native.Mathlib.Omega.{arith}
-use Rattle.macroblock.specs.Codes.{ofBook}
-use Rattle.macroblock.specs.CodesLaws.{Predicted, codable-as, four-first, four-second, four-wrote}
+use Rattle.macroblock.specs.Coding.{ofBook}
+use Rattle.macroblock.specs.CodingLaws.{Predicted, codable-as, four-first, four-second, four-wrote}
 use Rattle.motion.specs.Cache.{nearFrom}
 use Rattle.motion.specs.Neighbours.{forThird, forFourth}
 use mathlib.Core.Path.{refl}
 use borrow.Author.Needs.{needs}
-use Rattle.macroblock.proofs.inner.codes.put_four.Statement.{statement}
-use Rattle.macroblock.proofs.inner.codes.put_four.Tie as tie
+use Rattle.macroblock.proofs.inner.coding.put_four.Statement.{statement}
+use Rattle.macroblock.proofs.inner.coding.put_four.Tie as tie
 
 predict-first-requires : tie.Need-predict-first-requires
 predict-first-requires c κs = search needs

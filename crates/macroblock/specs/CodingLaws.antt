@@ -20,7 +20,7 @@ use Rattle.motion.specs.VectorsLaws.{InRange, range-pos, range-neg, Codable}
 use Rattle.motion.specs.Neighbours.{Near, forOne, forFirst, forSecond, forThird, forFourth}
 use Rattle.macroblock.specs.Macroblock.{Given, Motion, still, single, four, vectorBits, motionBits}
 use Rattle.macroblock.specs.MacroblockLaws.{Codables}
-use Rattle.macroblock.specs.Codes.{ofBook, componentBits, Counted}
+use Rattle.macroblock.specs.Coding.{ofBook, componentBits, Counted}
 
 -- ---- one code: entry j of the lent table u is entry k of the table t
 module _ (n : ℕ) (t u : List ℕ) (g : GoodCodes n t) (e : u ≡ t) (k j : ℕ) (q : j ≡ k) (h : k < n) where

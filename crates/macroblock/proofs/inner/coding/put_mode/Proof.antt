@@ -2,10 +2,10 @@
 use Rattle.book.specs.BookLaws.{good-book}
 use Rattle.book.specs.Book.{modeTable}
 use Rattle.macroblock.specs.Mode.{modePosition}
-use Rattle.macroblock.specs.CodesLaws.{entry-fits, entry-wrote}
+use Rattle.macroblock.specs.CodingLaws.{entry-fits, entry-wrote}
 use borrow.Author.Needs.{needs}
-use Rattle.macroblock.proofs.inner.codes.put_mode.Statement.{statement}
-use Rattle.macroblock.proofs.inner.codes.put_mode.Tie as tie
+use Rattle.macroblock.proofs.inner.coding.put_mode.Statement.{statement}
+use Rattle.macroblock.proofs.inner.coding.put_mode.Tie as tie
 
 mode-table-requires : tie.Need-mode-table-requires
 mode-table-requires c κs = good-book _ (c .before .before .pre .0) .size

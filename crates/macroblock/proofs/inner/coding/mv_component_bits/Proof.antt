@@ -6,10 +6,10 @@ use lib.IntN.{_-ℤ_}
 use mir.ValLaws.{toZ-ofZ}
 use mir.Syntax.{w32}
 use mathlib.Core.Path.{_≡_, refl}
-use Rattle.macroblock.specs.CodesLaws.{entry-there, entry-counted, component-is, counted-as}
+use Rattle.macroblock.specs.CodingLaws.{entry-there, entry-counted, component-is, counted-as}
 use borrow.Author.Needs.{needs}
-use Rattle.macroblock.proofs.inner.codes.mv_component_bits.Statement.{statement}
-use Rattle.macroblock.proofs.inner.codes.mv_component_bits.Tie as tie
+use Rattle.macroblock.proofs.inner.coding.mv_component_bits.Statement.{statement}
+use Rattle.macroblock.proofs.inner.coding.mv_component_bits.Tie as tie
 
 vector-table-requires : tie.Need-vector-table-requires
 vector-table-requires c κs = good-book _ (c .before .pre .0) .size

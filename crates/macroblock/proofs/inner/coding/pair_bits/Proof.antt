@@ -1,8 +1,8 @@
 -- One behind the other. Assumes nothing.
-use Rattle.macroblock.specs.CodesLaws.{counted-both}
+use Rattle.macroblock.specs.CodingLaws.{counted-both}
 use borrow.Author.Needs.{needs}
-use Rattle.macroblock.proofs.inner.codes.pair_bits.Statement.{statement}
-use Rattle.macroblock.proofs.inner.codes.pair_bits.Tie as tie
+use Rattle.macroblock.proofs.inner.coding.pair_bits.Statement.{statement}
+use Rattle.macroblock.proofs.inner.coding.pair_bits.Tie as tie
 
 vector-bits-requires : tie.Need-vector-bits-requires
 vector-bits-requires c κs = search needs

@@ -9,11 +9,11 @@ use mir.Syntax.{w32}
 use Rattle.bits.specs.Inner.{Fits, Wrote}
 use Rattle.bits.specs.InnerLaws.{wrote-more}
 use Rattle.tree.specs.WalkLaws.{wrote-as}
-use Rattle.macroblock.specs.Codes.{componentBits}
-use Rattle.macroblock.specs.CodesLaws.{vector-parts, first-fits, second-fits}
+use Rattle.macroblock.specs.Coding.{componentBits}
+use Rattle.macroblock.specs.CodingLaws.{vector-parts, first-fits, second-fits}
 use borrow.Author.Needs.{needs}
-use Rattle.macroblock.proofs.inner.codes.push_mv_differential.Statement.{statement}
-use Rattle.macroblock.proofs.inner.codes.push_mv_differential.Tie as tie
+use Rattle.macroblock.proofs.inner.coding.push_mv_differential.Statement.{statement}
+use Rattle.macroblock.proofs.inner.coding.push_mv_differential.Tie as tie
 
 put-component-requires : tie.Need-put-component-requires
 put-component-requires c κs =

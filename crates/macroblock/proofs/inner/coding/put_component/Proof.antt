@@ -7,10 +7,10 @@ use mir.ValLaws.{toZ-ofZ}
 use mir.Syntax.{w32}
 use mathlib.Core.Path.{_≡_}
 use Rattle.tree.specs.WalkLaws.{wrote-as}
-use Rattle.macroblock.specs.CodesLaws.{entry-fits, entry-wrote, component-is}
+use Rattle.macroblock.specs.CodingLaws.{entry-fits, entry-wrote, component-is}
 use borrow.Author.Needs.{needs}
-use Rattle.macroblock.proofs.inner.codes.put_component.Statement.{statement}
-use Rattle.macroblock.proofs.inner.codes.put_component.Tie as tie
+use Rattle.macroblock.proofs.inner.coding.put_component.Statement.{statement}
+use Rattle.macroblock.proofs.inner.coding.put_component.Tie as tie
 
 vector-table-requires : tie.Need-vector-table-requires
 vector-table-requires c κs = good-book _ (c .before .before .pre .0) .size

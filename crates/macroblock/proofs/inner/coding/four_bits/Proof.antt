@@ -1,10 +1,10 @@
 -- Two pairs, by the predictors as they are computed. Assumes nothing.
-use Rattle.macroblock.specs.Codes.{ofBook}
-use Rattle.macroblock.specs.CodesLaws.{Predicted, codable-as, four-counted}
+use Rattle.macroblock.specs.Coding.{ofBook}
+use Rattle.macroblock.specs.CodingLaws.{Predicted, codable-as, four-counted}
 use Rattle.motion.specs.Cache.{nearFrom}
 use borrow.Author.Needs.{needs}
-use Rattle.macroblock.proofs.inner.codes.four_bits.Statement.{statement}
-use Rattle.macroblock.proofs.inner.codes.four_bits.Tie as tie
+use Rattle.macroblock.proofs.inner.coding.four_bits.Statement.{statement}
+use Rattle.macroblock.proofs.inner.coding.four_bits.Tie as tie
 
 predict-first-requires : tie.Need-predict-first-requires
 predict-first-requires c κs = search needs

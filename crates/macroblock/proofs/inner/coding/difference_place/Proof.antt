@@ -4,9 +4,9 @@ use native.Mathlib.Omega.{arith}
 use lib.IntN.{ℤ, pos, _-ℤ_}
 use mir.ValLaws.{toZ-ofZ}
 use mir.Syntax.{w32}
-use Rattle.macroblock.specs.CodesLaws.{placedAt, placed, difference-small}
-use Rattle.macroblock.proofs.inner.codes.difference_place.Statement.{statement}
-use Rattle.macroblock.proofs.inner.codes.difference_place.Tie as tie
+use Rattle.macroblock.specs.CodingLaws.{placedAt, placed, difference-small}
+use Rattle.macroblock.proofs.inner.coding.difference_place.Statement.{statement}
+use Rattle.macroblock.proofs.inner.coding.difference_place.Tie as tie
 
 sub-result : tie.Need-sub-result
 sub-result c =

@@ -2,11 +2,11 @@
 use native.Mathlib.Omega.{arith}
 use mir.ValLaws.{toZ-ofZ}
 use mir.Syntax.{w32}
-use Rattle.macroblock.specs.Codes.{componentBits, Counted}
-use Rattle.macroblock.specs.CodesLaws.{vector-parts, counted-both, counted-as}
+use Rattle.macroblock.specs.Coding.{componentBits, Counted}
+use Rattle.macroblock.specs.CodingLaws.{vector-parts, counted-both, counted-as}
 use borrow.Author.Needs.{needs}
-use Rattle.macroblock.proofs.inner.codes.vector_bits.Statement.{statement}
-use Rattle.macroblock.proofs.inner.codes.vector_bits.Tie as tie
+use Rattle.macroblock.proofs.inner.coding.vector_bits.Statement.{statement}
+use Rattle.macroblock.proofs.inner.coding.vector_bits.Tie as tie
 
 mv-component-bits-requires : tie.Need-mv-component-bits-requires
 mv-component-bits-requires c κs = search needs

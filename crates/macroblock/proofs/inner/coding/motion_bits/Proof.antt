@@ -4,12 +4,12 @@ use native.Mathlib.Omega.{arith}
 use Rattle.motion.specs.Cache.{nearFrom}
 use Rattle.macroblock.specs.declared.svq1_enc_inter.MbMotion.{MbMotion}
 use Rattle.macroblock.specs.Motions.{motionOf}
-use Rattle.macroblock.specs.Codes.{ofBook}
-use Rattle.macroblock.specs.CodesLaws.{still-bits, single-bits, single-codable, four-codable, counted-none, counted-less, counted-as}
+use Rattle.macroblock.specs.Coding.{ofBook}
+use Rattle.macroblock.specs.CodingLaws.{still-bits, single-bits, single-codable, four-codable, counted-none, counted-less, counted-as}
 use Rattle.macroblock.specs.Macroblock.{motionBits}
 use borrow.Author.Needs.{needs}
-use Rattle.macroblock.proofs.inner.codes.motion_bits.Statement.{statement}
-use Rattle.macroblock.proofs.inner.codes.motion_bits.Tie as tie
+use Rattle.macroblock.proofs.inner.coding.motion_bits.Statement.{statement}
+use Rattle.macroblock.proofs.inner.coding.motion_bits.Tie as tie
 
 enum-told : tie.Need-enum-told
 enum-told c = search needs
