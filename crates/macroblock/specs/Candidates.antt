@@ -1,6 +1,6 @@
 -- The candidates of the code as the definitions' choices, and what they state.
 use mathlib.Core.Path.{_≡_}
-use mathlib.Core.Bool.{Bool, _&&_, _||_}
+use mathlib.Core.Bool.{Bool, true, false, _&&_, _||_}
 use mathlib.Core.List.{List, [], _∷_, map}
 use Prim.Native.Nat.{ℕ, _+_}
 use lib.Dec.{eqb, ltb}
@@ -20,17 +20,18 @@ use Rattle.macroblock.specs.declared.svq1_enc_inter.Svq1MbMode.the-varia
 use Rattle.macroblock.specs.Macroblock.{Given, Motion, Choice, skipped, coded, modeOf, motionMode, vectorsOf, shown, motionBits, modeBits, choiceBits}
 use Rattle.macroblock.specs.Choice.{Task, target, planningFor, bestOf}
 use Rattle.macroblock.specs.Motions.{motionOf}
-use Rattle.macroblock.specs.Coding.{ofBook}
+use Rattle.macroblock.specs.Finding.{byBook, choiceBy}
+
+-- SKIP, or not
+abbrev pub skips : Svq1MbMode → Bool
+skips Mode.Inter = false
+skips Mode.Inter4Mv = false
+skips Mode.Intra = false
+skips Mode.Skip = true
 
 -- what a candidate is: SKIP has neither motion nor tree
-abbrev pub choiceAs : Svq1MbMode → Motion → List Node → Choice
-choiceAs Mode.Inter m t = coded m t
-choiceAs Mode.Inter4Mv m t = coded m t
-choiceAs Mode.Intra m t = coded m t
-choiceAs Mode.Skip m t = skipped
-
 abbrev pub choiceOf : MbCandidate → Choice
-choiceOf c = choiceAs (c .mode) (motionOf (c .motion) (c .vectors)) (treeOf (c .blocks))
+choiceOf c = choiceBy (skips (c .mode)) (motionOf (c .motion) (c .vectors)) (treeOf (c .blocks))
 
 -- it states its mode, the vectors to store, all its bits, and the squared distance of what it shows from the block that macroblock k is to show
 pub record Stated (g : Given) (block : List ℕ) (k : ℕ) (n : Near) (c : MbCandidate) : Type 0 where
@@ -52,7 +53,7 @@ pub record CandidateOf (book : List ℕ) (n : Near) (motion : MbMotion) (vectors
   pub motion-is : r .motion ≡ motion
   pub vectors-are : r .vectors ≡ vectors
   pub blocks-are : r .blocks ≡ blocks
-  pub bits-are : r .bits ≡ length (modeBits (ofBook book) (motionMode (motionOf motion vectors))) + (length (motionBits (ofBook book) n (motionOf motion vectors)) + bits)
+  pub bits-are : r .bits ≡ length (modeBits (byBook book) (motionMode (motionOf motion vectors))) + (length (motionBits (byBook book) n (motionOf motion vectors)) + bits)
   pub error-is : r .error ≡ error
 
 -- d is kept and not c, by what they state: less cost, or the same with fewer bits

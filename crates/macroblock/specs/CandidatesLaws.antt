@@ -24,8 +24,8 @@ use Rattle.macroblock.specs.declared.svq1_enc_inter.Svq1MbMode.the-varia
 use Rattle.macroblock.specs.Macroblock.{Given, Motion, still, single, four, Choice, skipped, coded, modeOf, motionMode, halfOf, vectorsOf, referenceBlock, shown, vectorBits, motionBits, modeBits, choiceBits}
 use Rattle.macroblock.specs.Choice.{Task, target, planningFor, singleTried, fourTried, motionsTried, tried, weightOf, beats, bestOf, chosen}
 use Rattle.macroblock.specs.Motions.{motionOf}
-use Rattle.macroblock.specs.Coding.{ofBook}
-use Rattle.macroblock.specs.Candidates.{choiceAs, choiceOf, Stated, Skipping, CandidateOf, preferred, codedFor, Tried}
+use Rattle.macroblock.specs.Finding.{byBook, choiceBy}
+use Rattle.macroblock.specs.Candidates.{skips, choiceOf, Stated, Skipping, CandidateOf, preferred, codedFor, Tried}
 
 -- ---- SKIP
 module _ (b e : ℕ) (r : MbCandidate) (s : Skipping b e r) where
@@ -42,7 +42,7 @@ module _ (b e : ℕ) (r : MbCandidate) (s : Skipping b e r) where
   }
 
 -- ---- a motion and its tree
-coded-as : (m : Motion) (t : List Node) → choiceAs (motionMode m) m t ≡ coded m t
+coded-as : (m : Motion) (t : List Node) → choiceBy (skips (motionMode m)) m t ≡ coded m t
 coded-as still t = refl
 coded-as (single v) t = refl
 coded-as (four a b c d) t = refl
@@ -53,13 +53,13 @@ vectors-any (single v) t u = refl
 vectors-any (four a b c d) t u = refl
 
 -- vectors have their bits from the book alone
-pub motion-of-book : (g : Given) (n : Near) (m : Motion) → motionBits (ofBook (g .book)) n m ≡ motionBits g n m
+pub motion-of-book : (g : Given) (n : Near) (m : Motion) → motionBits (byBook (g .book)) n m ≡ motionBits g n m
 unfolding motionBits vectorBits
 motion-of-book g n still = refl
 motion-of-book g n (single v) = refl
 motion-of-book g n (four a b c d) = refl
 
-pub choice-of-book : (g : Given) (n : Near) (c : Choice) → choiceBits (ofBook (g .book)) n c ≡ choiceBits g n c
+pub choice-of-book : (g : Given) (n : Near) (c : Choice) → choiceBits (byBook (g .book)) n c ≡ choiceBits g n c
 unfolding choiceBits
 choice-of-book g n skipped = refl
 choice-of-book g n (coded m t) = rw (motion-of-book g n m)

@@ -40,10 +40,11 @@ use Rattle.macroblock.specs.declared.inner.motions.FoundMotion.{FoundMot
 use Rattle.macroblock.specs.Searches.{Searching, motionsOf, stillFound, MotionsFound}
 use Rattle.macroblock.specs.Target.{targetOf, Sources}
 use Rattle.macroblock.specs.TargetLaws.{target-is, target-long}
-use Rattle.macroblock.specs.Candidates.{choiceOf, Stated, CandidateOf, preferred, codedFor, Tried}
+use Rattle.macroblock.specs.Candidates.{skips, choiceOf, Stated, CandidateOf, preferred, codedFor, Tried}
 use Rattle.macroblock.specs.CandidatesLaws.{choice-of-book, coded-is, coded-stated, tried-one, chosen-is}
+use Rattle.macroblock.specs.WrittenLaws.{is-coded}
 use Rattle.macroblock.specs.declared.inner.writing.WrittenMb.{WrittenMb}
-use Rattle.macroblock.specs.Written.{Codes, SoundChoice, LayReady, WriteReady, CandidateWritten, CandidateLaid, MbReady, mbChoice, mbWeight, MbWritten}
+use Rattle.macroblock.specs.Written.{Codes, LayReady, WriteReady, CandidateWritten, CandidateLaid, MbReady, mbChoice, mbWeight, MbWritten}
 use Rattle.tree.specs.Planning.{PlanReady, PlanFound, planningIn}
 use Rattle.tree.specs.declared.svq1_enc_tree.MbPlan.{MbPlan}
 use Rattle.macroblock.specs.Chosen.{taskBy, planningBy, Placing, Sourced, Carries, Made, ChosenFor, ChosenBy}
@@ -250,21 +251,24 @@ module _ (v : Svq1PlaneCanvas) (reference book codebook raised source : List ℕ
       start = ready .start;
     }
 
-    sound-it : (d : Choice) → Codes n d → SoundChoice d
-    sound-it skipped e = tt
-    sound-it (coded m u) e = e .1
+    sound-it : skips (c .mode) ≡ false → SoundTree (halfOf (motionOf (c .motion) (c .vectors))) (treeOf (c .blocks))
+    sound-it e = let z : Codes n (coded (motionOf (c .motion) (c .vectors)) (treeOf (c .blocks))) = rw (is-coded c e) at codes-it in z .1
 
     pub lay-ready : LayReady v reference (length raised) k c (s .recon) (s .vx) (s .vy)
-    lay-ready = record {
-      shows = record { place = stands g raised (ready .ok) k (ready .number); copy = ap length (ready .ok .copy) ∙ raised-length (g .codebook); sound = sound-it (choiceOf c) codes-it };
-      width-most = fits g raised (ready .ok) .width .most;
-      height-most = fits g raised (ready .ok) .height .most;
-      number = ready .number;
-      recon-held = recon-held g raised (ready .ok) s (ready .held) k (ready .number);
-      vectors-held = vectors-held g raised (ready .ok) s (ready .held);
-      vectors = h .stated .vectors;
-      inside = good-it .inside;
-    }
+    lay-ready =
+        let f = fits g raised (ready .ok) in
+        record {
+          shows = record { place = stands g raised (ready .ok) k (ready .number); copy = ap length (ready .ok .copy) ∙ raised-length (g .codebook); sound = sound-it };
+          lays = record {
+            stride-is = f .stride;
+            rows-are = f .rows;
+            recon-room = recon-held g raised (ready .ok) s (ready .held) k (ready .number);
+            vectors-room = vectors-held g raised (ready .ok) s (ready .held);
+            number = ready .number;
+            inside = rw (h .stated .vectors) (good-it .inside);
+          };
+          vectors = h .stated .vectors;
+        }
 
     pub mb-written : (r : WrittenMb) (left recon' vx' vy' : List ℕ) → Bytes codebook → CandidateWritten book n c out at r left
         → CandidateLaid v reference raised k c (length out) at (s .recon) (s .vx) (s .vy) recon' vx' vy'

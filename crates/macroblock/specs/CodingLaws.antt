@@ -20,7 +20,8 @@ use Rattle.motion.specs.VectorsLaws.{InRange, range-pos, range-neg, Codable}
 use Rattle.motion.specs.Neighbours.{Near, forOne, forFirst, forSecond, forThird, forFourth}
 use Rattle.macroblock.specs.Macroblock.{Given, Motion, still, single, four, vectorBits, motionBits}
 use Rattle.macroblock.specs.MacroblockLaws.{Codables}
-use Rattle.macroblock.specs.Coding.{ofBook, componentBits, Counted}
+use Rattle.macroblock.specs.Coding.{componentBits, Counted}
+use Rattle.macroblock.specs.Finding.{byBook}
 
 -- ---- one code: entry j of the lent table u is entry k of the table t
 module _ (n : ℕ) (t u : List ℕ) (g : GoodCodes n t) (e : u ≡ t) (k j : ℕ) (q : j ≡ k) (h : k < n) where
@@ -64,7 +65,7 @@ difference-small (pos n) h = omega (arith, range-pos n h)
 difference-small (negsuc n) h = omega (arith, range-neg n h)
 
 -- ---- vectors
-pub vector-parts : (book : List ℕ) (p v : Svq1Mv) → vectorBits (ofBook book) p v ≡ componentBits book (p .x) (v .x) ++ componentBits book (p .y) (v .y)
+pub vector-parts : (book : List ℕ) (p v : Svq1Mv) → vectorBits (byBook book) p v ≡ componentBits book (p .x) (v .x) ++ componentBits book (p .y) (v .y)
 unfolding vectorBits componentBits
 vector-parts book p v = refl
 

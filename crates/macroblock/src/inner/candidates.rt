@@ -20,13 +20,13 @@ use super::super::svq1_enc_inter::Svq1MbMode;
 use super::super::svq1_plane::Svq1PlaneCanvas;
 use super::coding::mb_mode_bits;
 use super::coding::motion_bits;
+use super::reading::no_blocks;
 use super::samples::take_block;
 use leaf::inner::distance_of;
 use motion::svq1_motion_predictor::Svq1Mv;
 use motion::svq1_motion_predictor::zero_vector;
 use motion::svq1_mv_cache::NearBlocks;
 use tree::svq1_enc_tree::Block;
-use tree::svq1_enc_tree::TreeNode;
 use tree::svq1_enc_tree::cost;
 
 // A way to code a macroblock: its mode, its motion with the vectors that its four blocks store, its tree, all its bits, and its error.
@@ -37,14 +37,6 @@ pub struct MbCandidate {
     pub blocks: [Block; 63],
     pub bits: u32,
     pub error: u32,
-}
-
-// A tree that nothing is coded by.
-fn no_blocks() -> [Block; 63] {
-    [Block {
-        node: TreeNode::Off,
-        stages: [0u8; 6],
-    }; 63]
 }
 
 // SKIP, by its bits and its error.

@@ -12,7 +12,8 @@ ghost use Rattle.motion.specs.Cache.{nearFrom};
 ghost use Rattle.macroblock.specs.Macroblock.{four, vectorBits, motionBits, modeBits};
 ghost use Rattle.macroblock.specs.MacroblockLaws.{Codables};
 ghost use Rattle.macroblock.specs.Motions.{motionOf};
-ghost use Rattle.macroblock.specs.Coding.{ofBook, componentBits, Counted};
+ghost use Rattle.macroblock.specs.Coding.{componentBits, Counted};
+ghost use Rattle.macroblock.specs.Finding.{byBook};
 use super::super::svq1_enc_inter::MbMotion;
 use super::super::svq1_enc_inter::Svq1MbMode;
 use bits::inner::entry_len;
@@ -43,7 +44,7 @@ pub fn vector_table(book: &[u8]) -> &[u8]
 // How many bits a mode's code has.
 pub fn mb_mode_bits(book: &[u8], mode: Svq1MbMode) -> u32
     requires { ⌜ bookRefusal (now book) ≡ 0 ⌝ }
-    ensures { λ r. ⌜ Counted (modeBits (ofBook (now (book .entry))) mode) 32 r ⌝ }
+    ensures { λ r. ⌜ Counted (modeBits (byBook (now (book .entry))) mode) 32 r ⌝ }
 {
     let table = mode_table(book);
     entry_len(table, mode.position())
@@ -51,8 +52,8 @@ pub fn mb_mode_bits(book: &[u8], mode: Svq1MbMode) -> u32
 
 // A mode's code, from bit `at` on.
 pub fn put_mode(out: &mut [u8], at: usize, book: &[u8], mode: Svq1MbMode) -> usize
-    requires { ⌜ (bookRefusal (now book) ≡ 0) × Fits (length (now out)) at (length (modeBits (ofBook (now book)) mode)) ⌝ }
-    ensures { λ r. ⌜ Wrote (now (out .entry)) at (modeBits (ofBook (now (book .entry))) mode) r (now (out .exit)) ⌝ }
+    requires { ⌜ (bookRefusal (now book) ≡ 0) × Fits (length (now out)) at (length (modeBits (byBook (now book)) mode)) ⌝ }
+    ensures { λ r. ⌜ Wrote (now (out .entry)) at (modeBits (byBook (now (book .entry))) mode) r (now (out .exit)) ⌝ }
 {
     let table = mode_table(book);
     put_code(out, at, table, mode.position())
@@ -89,7 +90,7 @@ fn put_component(out: &mut [u8], at: usize, book: &[u8], p: i32, v: i32) -> usiz
 // How many bits a vector has against its predictor.
 fn vector_bits(book: &[u8], p: Svq1Mv, v: Svq1Mv) -> u32
     requires { ⌜ (bookRefusal (now book) ≡ 0) × Codable p v ⌝ }
-    ensures { λ r. ⌜ Counted (vectorBits (ofBook (now (book .entry))) p v) 64 r ⌝ }
+    ensures { λ r. ⌜ Counted (vectorBits (byBook (now (book .entry))) p v) 64 r ⌝ }
 {
     let x = mv_component_bits(book, p.x, v.x);
     let y = mv_component_bits(book, p.y, v.y);
@@ -98,8 +99,8 @@ fn vector_bits(book: &[u8], p: Svq1Mv, v: Svq1Mv) -> u32
 
 // A vector's differences from its predictor, x before y.
 fn push_mv_differential(out: &mut [u8], at: usize, book: &[u8], p: Svq1Mv, v: Svq1Mv) -> usize
-    requires { ⌜ (bookRefusal (now book) ≡ 0) × Codable p v × Fits (length (now out)) at (length (vectorBits (ofBook (now book)) p v)) ⌝ }
-    ensures { λ r. ⌜ Wrote (now (out .entry)) at (vectorBits (ofBook (now (book .entry))) p v) r (now (out .exit)) ⌝ }
+    requires { ⌜ (bookRefusal (now book) ≡ 0) × Codable p v × Fits (length (now out)) at (length (vectorBits (byBook (now book)) p v)) ⌝ }
+    ensures { λ r. ⌜ Wrote (now (out .entry)) at (vectorBits (byBook (now (book .entry))) p v) r (now (out .exit)) ⌝ }
 {
     let q = put_component(out, at, book, p.x, v.x);
     put_component(out, q, book, p.y, v.y)
@@ -108,7 +109,7 @@ fn push_mv_differential(out: &mut [u8], at: usize, book: &[u8], p: Svq1Mv, v: Sv
 // Two vectors against their predictors, one behind the other.
 fn pair_bits(book: &[u8], p: Svq1Mv, v: Svq1Mv, q: Svq1Mv, w: Svq1Mv) -> u32
     requires { ⌜ (bookRefusal (now book) ≡ 0) × Codable p v × Codable q w ⌝ }
-    ensures { λ r. ⌜ Counted (vectorBits (ofBook (now (book .entry))) p v ++ vectorBits (ofBook (now (book .entry))) q w) 128 r ⌝ }
+    ensures { λ r. ⌜ Counted (vectorBits (byBook (now (book .entry))) p v ++ vectorBits (byBook (now (book .entry))) q w) 128 r ⌝ }
 {
     let a = vector_bits(book, p, v);
     let b = vector_bits(book, q, w);
@@ -124,8 +125,8 @@ fn put_pair(
     q: Svq1Mv,
     w: Svq1Mv,
 ) -> usize
-    requires { ⌜ (bookRefusal (now book) ≡ 0) × Codable p v × Codable q w × Fits (length (now out)) at (length (vectorBits (ofBook (now book)) p v ++ vectorBits (ofBook (now book)) q w)) ⌝ }
-    ensures { λ r. ⌜ Wrote (now (out .entry)) at (vectorBits (ofBook (now (book .entry))) p v ++ vectorBits (ofBook (now (book .entry))) q w) r (now (out .exit)) ⌝ }
+    requires { ⌜ (bookRefusal (now book) ≡ 0) × Codable p v × Codable q w × Fits (length (now out)) at (length (vectorBits (byBook (now book)) p v ++ vectorBits (byBook (now book)) q w)) ⌝ }
+    ensures { λ r. ⌜ Wrote (now (out .entry)) at (vectorBits (byBook (now (book .entry))) p v ++ vectorBits (byBook (now (book .entry))) q w) r (now (out .exit)) ⌝ }
 {
     let k = push_mv_differential(out, at, book, p, v);
     push_mv_differential(out, k, book, q, w)
@@ -134,7 +135,7 @@ fn put_pair(
 // Four vectors, each predicted from those before it.
 fn four_bits(book: &[u8], near: NearBlocks, a: Svq1Mv, b: Svq1Mv, c: Svq1Mv, d: Svq1Mv) -> u32
     requires { ⌜ (bookRefusal (now book) ≡ 0) × Codables (nearFrom near) (four a b c d) ⌝ }
-    ensures { λ r. ⌜ Counted (motionBits (ofBook (now (book .entry))) (nearFrom near) (four a b c d)) 256 r ⌝ }
+    ensures { λ r. ⌜ Counted (motionBits (byBook (now (book .entry))) (nearFrom near) (four a b c d)) 256 r ⌝ }
 {
     let x = pair_bits(book, predict_first(near), a, predict_second(near, a), b);
     let y = pair_bits(
@@ -157,8 +158,8 @@ fn put_four(
     c: Svq1Mv,
     d: Svq1Mv,
 ) -> usize
-    requires { ⌜ (bookRefusal (now book) ≡ 0) × Codables (nearFrom near) (four a b c d) × Fits (length (now out)) at (length (motionBits (ofBook (now book)) (nearFrom near) (four a b c d))) ⌝ }
-    ensures { λ r. ⌜ Wrote (now (out .entry)) at (motionBits (ofBook (now (book .entry))) (nearFrom near) (four a b c d)) r (now (out .exit)) ⌝ }
+    requires { ⌜ (bookRefusal (now book) ≡ 0) × Codables (nearFrom near) (four a b c d) × Fits (length (now out)) at (length (motionBits (byBook (now book)) (nearFrom near) (four a b c d))) ⌝ }
+    ensures { λ r. ⌜ Wrote (now (out .entry)) at (motionBits (byBook (now (book .entry))) (nearFrom near) (four a b c d)) r (now (out .exit)) ⌝ }
 {
     let k = put_pair(
         out,
@@ -183,7 +184,7 @@ fn put_four(
 // How many bits a motion's vectors have.
 pub fn motion_bits(book: &[u8], near: NearBlocks, motion: MbMotion, vectors: [Svq1Mv; 4]) -> u32
     requires { ⌜ (bookRefusal (now book) ≡ 0) × Codables (nearFrom near) (motionOf motion vectors) ⌝ }
-    ensures { λ r. ⌜ Counted (motionBits (ofBook (now (book .entry))) (nearFrom near) (motionOf motion vectors)) 256 r ⌝ }
+    ensures { λ r. ⌜ Counted (motionBits (byBook (now (book .entry))) (nearFrom near) (motionOf motion vectors)) 256 r ⌝ }
 {
     match motion {
         MbMotion::None => 0,
@@ -201,8 +202,8 @@ pub fn put_motion(
     motion: MbMotion,
     vectors: [Svq1Mv; 4],
 ) -> usize
-    requires { ⌜ (bookRefusal (now book) ≡ 0) × Codables (nearFrom near) (motionOf motion vectors) × Fits (length (now out)) at (length (motionBits (ofBook (now book)) (nearFrom near) (motionOf motion vectors))) ⌝ }
-    ensures { λ r. ⌜ Wrote (now (out .entry)) at (motionBits (ofBook (now (book .entry))) (nearFrom near) (motionOf motion vectors)) r (now (out .exit)) ⌝ }
+    requires { ⌜ (bookRefusal (now book) ≡ 0) × Codables (nearFrom near) (motionOf motion vectors) × Fits (length (now out)) at (length (motionBits (byBook (now book)) (nearFrom near) (motionOf motion vectors))) ⌝ }
+    ensures { λ r. ⌜ Wrote (now (out .entry)) at (motionBits (byBook (now (book .entry))) (nearFrom near) (motionOf motion vectors)) r (now (out .exit)) ⌝ }
 {
     match motion {
         MbMotion::None => at,

@@ -1,24 +1,17 @@
 // One macroblock, written: its bits put, and its samples and vectors laid into the result slices.
 ghost use mathlib.Core.Path.{_≡_};
 ghost use mathlib.Core.List.{_++_};
-ghost use Prim.Native.Nat.{_*_, _<_, _≤_};
 ghost use lib.ListN.{length};
-ghost use Rattle.bits.specs.Basics.{All};
-ghost use Rattle.bits.specs.Inner.{Fits, Wrote};
-ghost use Rattle.book.specs.Book.{tablesOf, bookRefusal, codebookBytes};
-ghost use Rattle.motion.specs.Cache.{nearFrom, Slices};
-ghost use Rattle.motion.specs.Search.{blocksAlong};
-ghost use Rattle.motion.specs.VectorsLaws.{Inside};
+ghost use Rattle.bits.specs.Inner.{Wrote};
+ghost use Rattle.book.specs.Book.{tablesOf};
+ghost use Rattle.motion.specs.Cache.{nearFrom};
 ghost use Rattle.tree.specs.Nodes.{treeOf};
 ghost use Rattle.tree.specs.TreeBits.{treeBits};
-ghost use Rattle.tree.specs.Walk.{SoundTree};
-ghost use Rattle.macroblock.specs.Macroblock.{halfOf, modeOf, vectorsOf, motionBits, choiceBits};
-ghost use Rattle.macroblock.specs.MacroblockLaws.{Codables};
+ghost use Rattle.macroblock.specs.Macroblock.{halfOf, motionBits, choiceBits};
 ghost use Rattle.macroblock.specs.Motions.{motionOf};
-ghost use Rattle.macroblock.specs.Samples.{Stands, Room};
-ghost use Rattle.macroblock.specs.Coding.{ofBook};
-ghost use Rattle.macroblock.specs.Candidates.{choiceOf};
-ghost use Rattle.macroblock.specs.Written.{skips, CodedRoom, PutReady, ShowReady, ShowsChoice, LayReady, LaysChoice, WriteReady, CandidateWritten, CandidateLaid, MbReady, MbWritten};
+ghost use Rattle.macroblock.specs.Finding.{byBook};
+ghost use Rattle.macroblock.specs.Candidates.{skips, choiceOf};
+ghost use Rattle.macroblock.specs.Written.{CodedRoom, PutReady, LayReady, LaysCandidate, WriteReady, CandidateWritten, CandidateLaid, MbReady, MbWritten};
 ghost use Rattle.macroblock.specs.Chosen.{taskBy};
 ghost use Rattle.macroblock.specs.Inner.{givenBy};
 use super::super::svq1_enc_inter::MbMotion;
@@ -28,10 +21,8 @@ use super::candidates::MbCandidate;
 use super::choice::choose_macroblock;
 use super::coding::put_mode;
 use super::coding::put_motion;
+use super::laying::lay_choice;
 use super::samples::half_of;
-use super::samples::lay_block;
-use super::samples::show_coded;
-use super::samples::take_block;
 use super::target::blocks_along;
 use motion::inner::mv_cache::near_blocks;
 use motion::svq1_motion_predictor::Svq1Mv;
@@ -61,7 +52,7 @@ fn put_coded(
     blocks: [Block; 63],
 ) -> usize
     requires { ⌜ CodedRoom (now book) (nearFrom near) (motionOf motion vectors) (treeOf blocks) (length (now out)) at ⌝ }
-    ensures { λ r. ⌜ Wrote (now (out .entry)) at (motionBits (ofBook (now (book .entry))) (nearFrom near) (motionOf motion vectors) ++ treeBits (tablesOf (now (book .entry)) (halfOf (motionOf motion vectors))) (treeOf blocks)) r (now (out .exit)) ⌝ }
+    ensures { λ r. ⌜ Wrote (now (out .entry)) at (motionBits (byBook (now (book .entry))) (nearFrom near) (motionOf motion vectors) ++ treeBits (tablesOf (now (book .entry)) (halfOf (motionOf motion vectors))) (treeOf blocks)) r (now (out .exit)) ⌝ }
 {
     let half = half_of(motion);
     let p = put_motion(out, at, book, near, motion, vectors);
@@ -71,7 +62,7 @@ fn put_coded(
 // All bits of a candidate, from bit `at` on.
 fn put_candidate(out: &mut [u8], at: usize, book: &[u8], near: NearBlocks, c: MbCandidate) -> usize
     requires { ⌜ PutReady (now book) (nearFrom near) c (length (now out)) at ⌝ }
-    ensures { λ r. ⌜ Wrote (now (out .entry)) at (choiceBits (ofBook (now (book .entry))) (nearFrom near) (choiceOf c)) r (now (out .exit)) ⌝ }
+    ensures { λ r. ⌜ Wrote (now (out .entry)) at (choiceBits (byBook (now (book .entry))) (nearFrom near) (choiceOf c)) r (now (out .exit)) ⌝ }
 {
     let mode = c.mode;
     let p = put_mode(out, at, book, mode);
@@ -84,66 +75,8 @@ fn put_candidate(out: &mut [u8], at: usize, book: &[u8], near: NearBlocks, c: Mb
     put_coded(out, p, book, near, motion, vectors, blocks)
 }
 
-// The samples that a candidate shows; `base` holds its baseline then.
-fn show_candidate(
-    canvas: Svq1PlaneCanvas,
-    reference: &[u8],
-    raised: &[u8],
-    k: usize,
-    c: MbCandidate,
-    base: &mut [u8; 256],
-    out: &mut [u8; 256],
-)
-    requires { ⌜ ShowReady canvas (now reference) (length (now raised)) k c × (length (now base) ≡ 256) × (length (now out) ≡ 256) ⌝ }
-    ensures { λ _. ⌜ ShowsChoice canvas (now (reference .entry)) (now (raised .entry)) k c (now (out .exit)) ⌝ }
-{
-    let mode = c.mode;
-    if is_skip(mode) {
-        let stride = canvas.stride;
-        let rows = canvas.rows;
-        take_block(reference, stride, rows, stride / 16, k, out);
-        return;
-    }
-    let motion = c.motion;
-    let vectors = c.vectors;
-    let blocks = c.blocks;
-    show_coded(
-        canvas,
-        reference,
-        raised,
-        k,
-        motion,
-        vectors,
-        blocks,
-        base,
-        out,
-    );
-}
-
-// They and the candidate's vectors into the result slices, by way of two blocks of scratch.
+// A candidate's samples and vectors into the result slices.
 fn lay_candidate(
-    canvas: Svq1PlaneCanvas,
-    reference: &[u8],
-    raised: &[u8],
-    k: usize,
-    c: MbCandidate,
-    base: &mut [u8; 256],
-    block: &mut [u8; 256],
-    recon: &mut [u8],
-    vx: &mut [u8],
-    vy: &mut [u8],
-)
-    requires { ⌜ LayReady canvas (now reference) (length (now raised)) k c (now recon) (now vx) (now vy) × (length (now base) ≡ 256) × (length (now block) ≡ 256) ⌝ }
-    ensures { λ _. ⌜ LaysChoice canvas (now (reference .entry)) (now (raised .entry)) k c (now (recon .entry)) (now (vx .entry)) (now (vy .entry)) (now (recon .exit)) (now (vx .exit)) (now (vy .exit)) ⌝ }
-{
-    let cols = blocks_along(canvas.width);
-    let rows = blocks_along(canvas.height);
-    let vectors = c.vectors;
-    show_candidate(canvas, reference, raised, k, c, base, block);
-    lay_block(cols, rows, k, block, vectors, recon, vx, vy);
-}
-
-fn lay_chosen(
     canvas: Svq1PlaneCanvas,
     reference: &[u8],
     raised: &[u8],
@@ -154,18 +87,22 @@ fn lay_chosen(
     vy: &mut [u8],
 )
     requires { ⌜ LayReady canvas (now reference) (length (now raised)) k c (now recon) (now vx) (now vy) ⌝ }
-    ensures { λ _. ⌜ LaysChoice canvas (now (reference .entry)) (now (raised .entry)) k c (now (recon .entry)) (now (vx .entry)) (now (vy .entry)) (now (recon .exit)) (now (vx .exit)) (now (vy .exit)) ⌝ }
+    ensures { λ _. ⌜ LaysCandidate canvas (now (reference .entry)) (now (raised .entry)) k c (now (recon .entry)) (now (vx .entry)) (now (vy .entry)) (now (recon .exit)) (now (vx .exit)) (now (vy .exit)) ⌝ }
 {
-    let mut base = [0u8; 256];
-    let mut block = [0u8; 256];
-    lay_candidate(
+    let mode = c.mode;
+    let skip = is_skip(mode);
+    let motion = c.motion;
+    let vectors = c.vectors;
+    let blocks = c.blocks;
+    lay_choice(
         canvas,
         reference,
         raised,
         k,
-        c,
-        &mut base,
-        &mut block,
+        skip,
+        motion,
+        vectors,
+        blocks,
         recon,
         vx,
         vy,
@@ -206,7 +143,7 @@ fn write_chosen(
     let error = c.error;
     if at + bits as usize <= 8 * out.len() {
         let next = put_candidate(out, at, book, near, c);
-        lay_chosen(canvas, reference, raised, k, c, recon, vx, vy);
+        lay_candidate(canvas, reference, raised, k, c, recon, vx, vy);
         return WrittenMb {
             refused: 0,
             mode,

@@ -1,5 +1,5 @@
 -- Two pairs, by the predictors as they are computed. Assumes nothing.
-use Rattle.macroblock.specs.Coding.{ofBook}
+use Rattle.macroblock.specs.Finding.{byBook}
 use Rattle.macroblock.specs.CodingLaws.{Predicted, codable-as, four-counted}
 use Rattle.motion.specs.Cache.{nearFrom}
 use borrow.Author.Needs.{needs}
@@ -35,9 +35,9 @@ returns : tie.Need-returns
 returns c =
     let s = c .before .before .before .before .before .before .before in
     let a = s .args in
-    let e : Predicted (ofBook (a .book .now)) (nearFrom (a .near)) (a .a) (a .b) (a .c) (a .d) _ _ _ _ =
+    let e : Predicted (byBook (a .book .now)) (nearFrom (a .near)) (a .a) (a .b) (a .c) (a .d) _ _ _ _ =
     record { first = c .before .before .before .before .before .predict-first .ensures; second = c .before .before .before .before .predict-second .ensures; third = c .before .before .predict-third .ensures; fourth = c .before .predict-fourth .ensures } in
-    four-counted (ofBook (a .book .now)) (nearFrom (a .near)) (a .a) (a .b) (a .c) (a .d) _ _ _ _ e _ _ (c .before .before .before .pair-bits .ensures) (c .pair-bits2 .ensures)
+    four-counted (byBook (a .book .now)) (nearFrom (a .near)) (a .a) (a .b) (a .c) (a .d) _ _ _ _ e _ _ (c .before .before .before .pair-bits .ensures) (c .pair-bits2 .ensures)
 
 pub four-bits-spec : {M : Type 1} → statement M
 four-bits-spec =

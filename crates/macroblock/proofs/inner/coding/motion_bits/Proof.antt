@@ -4,7 +4,7 @@ use native.Mathlib.Omega.{arith}
 use Rattle.motion.specs.Cache.{nearFrom}
 use Rattle.macroblock.specs.declared.svq1_enc_inter.MbMotion.{MbMotion}
 use Rattle.macroblock.specs.Motions.{motionOf}
-use Rattle.macroblock.specs.Coding.{ofBook}
+use Rattle.macroblock.specs.Finding.{byBook}
 use Rattle.macroblock.specs.CodingLaws.{still-bits, single-bits, single-codable, four-codable, counted-none, counted-less, counted-as}
 use Rattle.macroblock.specs.Macroblock.{motionBits}
 use borrow.Author.Needs.{needs}
@@ -26,7 +26,7 @@ vector-bits-requires c κs =
     let a = s .args in
     let m = c .before .before .motion in
     let e = ap (λ (x : MbMotion). motionOf x (a .t4)) (m .given .1) in
-    (s .pre .0, single-codable (ofBook (a .book .now)) (nearFrom (a .near)) (motionOf (a .motion) (a .t4)) _ _ e (c .predict-one .ensures) (s .pre .1))
+    (s .pre .0, single-codable (byBook (a .book .now)) (nearFrom (a .near)) (motionOf (a .motion) (a .t4)) _ _ e (c .predict-one .ensures) (s .pre .1))
 
 enum-told-2 : tie.Need-enum-told-2
 enum-told-2 c = search needs
@@ -48,26 +48,26 @@ four-bits-requires c κs =
     let s = c .before .before .before .before .before .before .before in
     let a = s .args in
     let e = ap (λ (x : MbMotion). motionOf x (a .t4)) (c .before .before .before .before .enum-told2 .given .1) in
-    (s .pre .0, four-codable (ofBook (a .book .now)) (nearFrom (a .near)) (motionOf (a .motion) (a .t4)) _ _ _ _ e (s .pre .1))
+    (s .pre .0, four-codable (byBook (a .book .now)) (nearFrom (a .near)) (motionOf (a .motion) (a .t4)) _ _ _ _ e (s .pre .1))
 
 returns : tie.Need-returns
 returns c =
     let a = c .before .before .before .args in
     let e = ap (λ (x : MbMotion). motionOf x (a .t4)) (c .enum-told .given .1) in
-    counted-none _ (still-bits (ofBook (a .book .now)) (nearFrom (a .near)) (motionOf (a .motion) (a .t4)) e)
+    counted-none _ (still-bits (byBook (a .book .now)) (nearFrom (a .near)) (motionOf (a .motion) (a .t4)) e)
 
 returns-2 : tie.Need-returns-2
 returns-2 c =
     let s = c .before .before .before .before .before .before in
     let a = s .args in
     let e = ap (λ (x : MbMotion). motionOf x (a .t4)) (c .before .before .before .motion .given .1) in
-    counted-less _ _ 64 256 _ (single-bits (ofBook (a .book .now)) (nearFrom (a .near)) (motionOf (a .motion) (a .t4)) _ _ e (c .before .predict-one .ensures)) (omega arith) (c .vector-bits .ensures)
+    counted-less _ _ 64 256 _ (single-bits (byBook (a .book .now)) (nearFrom (a .near)) (motionOf (a .motion) (a .t4)) _ _ e (c .before .predict-one .ensures)) (omega arith) (c .vector-bits .ensures)
 
 returns-3 : tie.Need-returns-3
 returns-3 c =
     let a = c .before .before .before .before .before .before .before .before .args in
     let e = ap (λ (x : MbMotion). motionOf x (a .t4)) (c .before .before .before .before .before .enum-told2 .given .1) in
-    counted-as _ _ _ _ (ap (motionBits (ofBook (a .book .now)) (nearFrom (a .near))) e) (c .four-bits .ensures)
+    counted-as _ _ _ _ (ap (motionBits (byBook (a .book .now)) (nearFrom (a .near))) e) (c .four-bits .ensures)
 
 pub motion-bits-spec : {M : Type 1} → statement M
 motion-bits-spec =

@@ -5,7 +5,7 @@ use Rattle.bits.specs.InnerLaws.{wrote-none}
 use Rattle.tree.specs.WalkLaws.{wrote-as}
 use Rattle.macroblock.specs.declared.svq1_enc_inter.MbMotion.{MbMotion}
 use Rattle.macroblock.specs.Motions.{motionOf}
-use Rattle.macroblock.specs.Coding.{ofBook}
+use Rattle.macroblock.specs.Finding.{byBook}
 use Rattle.macroblock.specs.CodingLaws.{still-bits, single-bits, single-codable, four-codable, fits-as}
 use Rattle.macroblock.specs.Macroblock.{motionBits}
 use borrow.Author.Needs.{needs}
@@ -25,7 +25,7 @@ push-mv-differential-requires : tie.Need-push-mv-differential-requires
 push-mv-differential-requires c κs =
     let s = c .before .before .before .before .before .before .before in
     let a = s .args in
-    let g = ofBook (a .book .now) in
+    let g = byBook (a .book .now) in
     let n = nearFrom (a .near) in
     let m = motionOf (a .motion) (a .t6) in
     let e = ap (λ (x : MbMotion). motionOf x (a .t6)) (c .before .before .before .motion .given .1) in (
@@ -53,7 +53,7 @@ put-four-requires : tie.Need-put-four-requires
 put-four-requires c κs =
     let s = c .before .before .before .before .before .before .before .before .before in
     let a = s .args in
-    let g = ofBook (a .book .now) in
+    let g = byBook (a .book .now) in
     let n = nearFrom (a .near) in
     let m = motionOf (a .motion) (a .t6) in
     let e = ap (λ (x : MbMotion). motionOf x (a .t6)) (c .before .before .before .before .before .enum-told2 .given .1) in
@@ -63,7 +63,7 @@ returns : tie.Need-returns
 returns c =
     let a = c .before .before .before .before .args in
     let e = ap (λ (x : MbMotion). motionOf x (a .t6)) (c .enum-told .given .1) in
-    wrote-as _ _ (still-bits (ofBook (a .book .now)) (nearFrom (a .near)) (motionOf (a .motion) (a .t6)) e) (wrote-none _ _)
+    wrote-as _ _ (still-bits (byBook (a .book .now)) (nearFrom (a .near)) (motionOf (a .motion) (a .t6)) e) (wrote-none _ _)
 
 same-length : tie.Need-same-length
 same-length c = search needs
@@ -73,7 +73,7 @@ returns-2 c =
     let s = c .before .before .before .before .before .before .before .before .before .before in
     let a = s .args in
     let e = ap (λ (x : MbMotion). motionOf x (a .t6)) (c .before .before .before .before .before .before .motion .given .1) in
-    wrote-as _ _ (single-bits (ofBook (a .book .now)) (nearFrom (a .near)) (motionOf (a .motion) (a .t6)) _ _ e (c .before .before .before .predict-one .ensures)) (c .before .before .push-mv-differential .ensures)
+    wrote-as _ _ (single-bits (byBook (a .book .now)) (nearFrom (a .near)) (motionOf (a .motion) (a .t6)) _ _ e (c .before .before .before .predict-one .ensures)) (c .before .before .push-mv-differential .ensures)
 
 same-length-2 : tie.Need-same-length-2
 same-length-2 c = search needs
@@ -82,7 +82,7 @@ returns-3 : tie.Need-returns-3
 returns-3 c =
     let a = c .before .before .before .before .before .before .before .before .before .before .before .before .args in
     let e = ap (λ (x : MbMotion). motionOf x (a .t6)) (c .before .before .before .before .before .before .before .before .enum-told2 .given .1) in
-    wrote-as _ _ (ap (motionBits (ofBook (a .book .now)) (nearFrom (a .near))) e) (c .before .before .put-four .ensures)
+    wrote-as _ _ (ap (motionBits (byBook (a .book .now)) (nearFrom (a .near))) e) (c .before .before .put-four .ensures)
 
 pub put-motion-spec : {M : Type 1} → statement M
 put-motion-spec =

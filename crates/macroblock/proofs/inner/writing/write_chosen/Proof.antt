@@ -18,8 +18,8 @@ mul-if1 c = search needs
 put-candidate-requires : tie.Need-put-candidate-requires
 put-candidate-requires c κs = search needs
 
-lay-chosen-requires : tie.Need-lay-chosen-requires
-lay-chosen-requires c κs = search needs
+lay-candidate-requires : tie.Need-lay-candidate-requires
+lay-candidate-requires c κs = search needs
 
 same-length : tie.Need-same-length
 same-length c = search needs
@@ -38,7 +38,7 @@ returns c =
     let s = c .before .before .before .before .before .before .before .before .before .before .before .before .before .before .before .before .before .before .before .before .before .before in
     let a = s .args in
     let f = c .before .before .before .before .before .before .before .before .before .before .before .before .before .before .if1 .taken in
-    (wrote-candidate (a .book .now) (nearFrom (a .near)) (a .c) (a .out .now) (a .at) (s .pre .0) _ _ f (c .before .before .before .before .before .before .before .before .before .before .before .before .put-candidate .ensures), laid-candidate (a .canvas) (a .reference .now) (a .raised .now) (a .k) (a .c) (length (a .out .now)) (a .at) (a .recon .now) (a .vx .now) (a .vy .now) _ _ _ f (c .before .before .before .before .before .before .lay-chosen .ensures))
+    (wrote-candidate (a .book .now) (nearFrom (a .near)) (a .c) (a .out .now) (a .at) (s .pre .0) _ _ f (c .before .before .before .before .before .before .before .before .before .before .before .before .put-candidate .ensures), laid-candidate (a .canvas) (a .reference .now) (a .raised .now) (a .k) (a .c) (length (a .out .now)) (a .at) (a .recon .now) (a .vx .now) (a .vy .now) _ _ _ f (c .before .before .before .before .before .before .lay-candidate .ensures))
 
 returns-2 : tie.Need-returns-2
 returns-2 c =
@@ -54,7 +54,7 @@ write-chosen-spec =
     add-if1
     mul-if1
     put-candidate-requires
-    lay-chosen-requires
+    lay-candidate-requires
     same-length
     same-length-2
     same-length-3
