@@ -1,7 +1,7 @@
 -- The candidates of the code as the definitions' choices, and what they state.
 use mathlib.Core.Path.{_≡_}
 use mathlib.Core.Bool.{Bool, true, false, _&&_, _||_}
-use mathlib.Core.List.{List, [], _∷_, map}
+use mathlib.Core.List.{List, map}
 use Prim.Native.Nat.{ℕ, _+_}
 use lib.Dec.{eqb, ltb}
 use lib.ListN.{length, replicate}
@@ -12,12 +12,12 @@ use Rattle.motion.specs.Neighbours.{Near}
 use Rattle.tree.specs.declared.svq1_enc_tree.Block.{Block}
 use Rattle.tree.specs.Nodes.{treeOf}
 use Rattle.tree.specs.Planned.{costOf}
-use Rattle.tree.specs.TreeBits.{Node, planTree}
+use Rattle.tree.specs.TreeBits.{planTree}
 use Rattle.macroblock.specs.declared.inner.candidates.MbCandidate.{MbCandidate}
 use Rattle.macroblock.specs.declared.svq1_enc_inter.MbMotion.{MbMotion}
 use Rattle.macroblock.specs.declared.svq1_enc_inter.Svq1MbMode.{Svq1MbMode}
 use Rattle.macroblock.specs.declared.svq1_enc_inter.Svq1MbMode.the-variants as Mode
-use Rattle.macroblock.specs.Macroblock.{Given, Motion, Choice, skipped, coded, modeOf, motionMode, vectorsOf, shown, motionBits, modeBits, choiceBits}
+use Rattle.macroblock.specs.Macroblock.{Given, Motion, Choice, coded, modeOf, motionMode, vectorsOf, shown, motionBits, modeBits, choiceBits}
 use Rattle.macroblock.specs.Choice.{Task, target, planningFor, bestOf}
 use Rattle.macroblock.specs.Motions.{motionOf}
 use Rattle.macroblock.specs.Finding.{byBook, choiceBy}

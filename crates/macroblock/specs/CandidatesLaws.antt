@@ -1,10 +1,9 @@
 -- Laws of the candidates: what they state is what the definitions weigh, and the one kept is the definitions' best.
 -- Assumes nothing.
 use mathlib.Core.Path.{_≡_, refl, sym, ap, _∙_}
-use mathlib.Core.Bool.{Bool, true, false, _&&_, _||_}
+use mathlib.Core.Bool.{Bool, true, false}
 use mathlib.Core.List.{List, [], _∷_, _++_, map}
 use Prim.Native.Nat.{ℕ, _+_, _≤_, _<_}
-use native.Mathlib.Omega.{arith}
 use borrow.Author.Tests.{lt-ltb, le-ltb, eq-eqb, ne-eqb}
 use lib.ListN.{length, length-append}
 use Rattle.bits.specs.Basics.{pick}
@@ -17,12 +16,12 @@ use Rattle.motion.specs.Search.{blocksAlong}
 use Rattle.tree.specs.declared.svq1_enc_tree.Block.{Block}
 use Rattle.tree.specs.Nodes.{treeOf}
 use Rattle.tree.specs.Planned.{costOf}
-use Rattle.tree.specs.TreeBits.{Node, planTree, treeBits}
+use Rattle.tree.specs.TreeBits.{Node, treeBits}
 use Rattle.macroblock.specs.declared.inner.candidates.MbCandidate.{MbCandidate}
 use Rattle.macroblock.specs.declared.svq1_enc_inter.MbMotion.{MbMotion}
 use Rattle.macroblock.specs.declared.svq1_enc_inter.Svq1MbMode.the-variants as Mode
 use Rattle.macroblock.specs.Macroblock.{Given, Motion, still, single, four, Choice, skipped, coded, modeOf, motionMode, halfOf, vectorsOf, referenceBlock, shown, vectorBits, motionBits, modeBits, choiceBits}
-use Rattle.macroblock.specs.Choice.{Task, target, planningFor, singleTried, fourTried, motionsTried, tried, weightOf, beats, bestOf, chosen}
+use Rattle.macroblock.specs.Choice.{Task, target, singleTried, fourTried, motionsTried, tried, weightOf, beats, bestOf, chosen}
 use Rattle.macroblock.specs.Motions.{motionOf}
 use Rattle.macroblock.specs.Finding.{byBook, choiceBy}
 use Rattle.macroblock.specs.Candidates.{skips, choiceOf, Stated, Skipping, CandidateOf, preferred, codedFor, Tried}

@@ -2,17 +2,16 @@
 -- Assumes nothing.
 use mathlib.Core.Path.{_≡_, refl, sym, ap, _∙_}
 use mathlib.Core.Bool.{Bool, true, false, true≢false}
-use mathlib.Core.List.{List, [], _∷_, map}
-use Prim.Native.Nat.{ℕ, _+_, _*_, _^_, _≤_, _<_}
+use mathlib.Core.List.{List, [], _∷_}
+use Prim.Native.Nat.{ℕ, _≤_, _<_}
 use native.Mathlib.Omega.{arith}
 use native.Mathlib.Decide.{decLt}
 use lib.ListN.{length, getD, List·getD-eq-default}
 use Rattle.bits.specs.Basics.{pick, All, Bytes}
-use Rattle.book.specs.Book.{tablesOf, bookRefusal, codebookBytes}
+use Rattle.book.specs.Book.{tablesOf}
 use Rattle.book.specs.BookLaws.{good-tables, data-passes}
 use Rattle.book.specs.declared.svq1_vlc.Svq1Half.{Svq1Half}
 use Rattle.book.specs.declared.svq1_vlc.Svq1Half.the-variants.{Intra, Inter}
-use Rattle.leaf.specs.Leaf.{sse}
 use Rattle.leaf.specs.LeafLaws.{vectors-sized}
 use Rattle.leaf.specs.RasterLaws.{raised-length}
 use Rattle.motion.specs.declared.svq1_motion_predictor.Svq1Mv.{Svq1Mv}
@@ -20,21 +19,21 @@ use Rattle.motion.specs.Neighbours.{Near}
 use Rattle.motion.specs.NeighboursLaws.{Around, around}
 use Rattle.tree.specs.Blocks.{blockCount, level}
 use Rattle.tree.specs.Nodes.{treeOf}
-use Rattle.tree.specs.Plan.{Planning, Weight, root, leafAt, planSplits, planWeight}
+use Rattle.tree.specs.Plan.{Planning, Weight, root, leafAt, planSplits}
 use Rattle.tree.specs.PlanClaimLaws.{Planned, allowed, plan-bits, plan-error, plan-short}
 use Rattle.tree.specs.ShownLaws.{allowed-sound}
-use Rattle.tree.specs.TreeBits.{Node, Off, Split, Ends, reached, grow, planTree, treeBits, treeShown}
+use Rattle.tree.specs.TreeBits.{Node, Off, Split, Ends, reached, grow, planTree, treeBits}
 use Rattle.tree.specs.TreeLaws.{length-grow, grown}
 use Rattle.tree.specs.Walk.{SoundNode, SoundTree}
 use Rattle.macroblock.specs.declared.inner.candidates.MbCandidate.{MbCandidate}
 use Rattle.macroblock.specs.declared.svq1_enc_inter.MbMotion.{MbMotion}
 use Rattle.macroblock.specs.declared.svq1_plane.Svq1PlaneCanvas.{Svq1PlaneCanvas}
-use Rattle.macroblock.specs.Macroblock.{Given, cols, rows, Motion, Choice, skipped, coded, modeOf, halfOf, vectorsOf, baseline, shown}
+use Rattle.macroblock.specs.Macroblock.{Given, cols, rows, Motion, skipped, coded, modeOf, halfOf, baseline, shown}
 use Rattle.macroblock.specs.MacroblockLaws.{Fine, Good, chosen-good, Codables, baseline-block, planned-for, motions-codable, all-map, chosen-one}
 use Rattle.macroblock.specs.Choice.{Task, target, skipsLeaves, planningFor, singleTried, fourTried, motionsTried, tried, weightOf, chosen}
 use Rattle.macroblock.specs.Motions.{motionOf}
 use Rattle.macroblock.specs.Slices.{Slices, near}
-use Rattle.macroblock.specs.Inner.{givenBy, Accepted}
+use Rattle.macroblock.specs.Inner.{givenBy}
 use Rattle.macroblock.specs.InnerLaws.{fits, book-passes, wide, stands, vectors-held, recon-held}
 use Rattle.macroblock.specs.declared.inner.motions.FoundMotion.{FoundMotion}
 use Rattle.macroblock.specs.Searches.{Searching, motionsOf, stillFound, MotionsFound}

@@ -31,6 +31,7 @@ use Rattle.tree.specs.Walk.{Reads, TreeHere}
 use Rattle.macroblock.specs.declared.svq1_enc_inter.Svq1MbMode.{Svq1MbMode}
 use Rattle.macroblock.specs.declared.svq1_enc_inter.Svq1MbMode.the-variants as Mode
 use Rattle.macroblock.specs.declared.svq1_enc_inter.MbMotion.the-variants.{None, One, Four}
+use Rattle.macroblock.specs.declared.inner.reading.ReadMotion.{ReadMotion}
 use Rattle.macroblock.specs.Mode.{modePosition}
 use Rattle.macroblock.specs.Macroblock.{Motion, still, single}
 use Rattle.macroblock.specs.Reading.{readVector}
@@ -179,16 +180,11 @@ module _ (s book : List ℕ) (n : Near) (at : ℕ) (m : Svq1MbMode) where
     inside = i;
   })
 
-  pub none-found : at ≤ 8 * length s → (m ≡ Mode.Intra) ⊎ (m ≡ Mode.Skip) → (v : Svq1Mv) → v ≡ zeroMv
-      → MotionFound s motionAt (record { refused = 0; next = at; motion = None; vectors = replicate 4 v })
+  pub none-found : at ≤ 8 * length s → (m ≡ Mode.Intra) ⊎ (m ≡ Mode.Skip) → (r : ReadMotion) → r ≡ record { refused = 0; next = at; motion = None; vectors = replicate 4 zeroMv } → MotionFound s motionAt r
   unfolding readMotion
-  none-found l e v z =
+  none-found l e r z =
       let is : got still (drop at (bitsOf s)) ≡ motionAt = ⊎-elim (λ a. rw a) (λ a. rw a) e in
-      record {
-        found = record { is = is; within = l };
-        vectors-are = rw z;
-        inside = zeros-inside v z;
-      }
+      rw z (record { found = record { is = is; within = l }; vectors-are = refl; inside = zeros-inside zeroMv refl })
 
 -- ---- a tree
 pub tree-found : (book : List ℕ) → bookRefusal book ≡ 0 → (h : Svq1Half) (s : List ℕ) (at : ℕ) (r : ReadTree) → TreeHere (tablesOf book h) 5 s at r

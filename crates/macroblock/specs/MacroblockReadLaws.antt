@@ -52,6 +52,10 @@ of-motion still t u = refl
 of-motion (single v) t u = refl
 of-motion (four a b c d) t u = refl
 
+-- SKIP as the code answers it, or a refusal
+abbrev skippedAt : ℕ → ℕ → List Block → ReadChoice
+skippedAt refused at bs = record { refused = refused; next = at; skip = true; motion = None; vectors = replicate 4 zeroMv; blocks = bs }
+
 -- ---- behind a mode
 module _ (s book : List ℕ) (n : Near) (at k : ℕ) where
   abbrev behindAt : Got Choice
@@ -97,29 +101,27 @@ module _ (s book : List ℕ) (n : Near) (at k : ℕ) where
   behind-skip (suc (suc zero)) bits l = absurd (omega arith)
   behind-skip (suc (suc (suc k))) bits l = refl
 
-  pub skip-found : (bs : List Block) (v : Svq1Mv) → 3 ≤ k → at ≤ 8 * length s → v ≡ zeroMv
-      → ChoiceFound s behindAt (record { refused = 0; next = at; skip = true; motion = None; vectors = replicate 4 v; blocks = bs })
-  skip-found bs v l h z = record {
+  pub skip-found : (r : ReadChoice) → 3 ≤ k → at ≤ 8 * length s → r ≡ skippedAt 0 at (r .blocks) → ChoiceFound s behindAt r
+  skip-found r l h z = rw z (record {
     found = record { is = behind-skip k (drop at (bitsOf s)) l; within = h };
-    vectors-are = rw z;
-    inside = zeros-inside v z;
+    vectors-are = refl;
+    inside = zeros-inside zeroMv refl;
     sound = λ _ e. absurd (true≢false e);
-  }
+  })
 
 -- ---- a macroblock, by its mode
 module _ (s book : List ℕ) (n : Near) (at m k next : ℕ) (f : Found s (takeCode (codesOf (modeTable book)) (drop at (bitsOf s))) m k next) where
   abbrev macroblockAt : Got Choice
   macroblockAt = readMacroblock (byBook book) n (drop at (bitsOf s))
 
-  pub mode-refused : (bs : List Block) (v : Svq1Mv) → (m ≡ 0 → ⊥) → at ≤ 8 * length s → v ≡ zeroMv
-      → ChoiceFound s macroblockAt (record { refused = m; next = at; skip = true; motion = None; vectors = replicate 4 v; blocks = bs })
+  pub mode-refused : (r : ReadChoice) → (m ≡ 0 → ⊥) → at ≤ 8 * length s → r ≡ skippedAt m at (r .blocks) → ChoiceFound s macroblockAt r
   unfolding readMacroblock
-  mode-refused bs v e h z = record {
+  mode-refused r e h z = rw z (record {
     found = found-refused s _ _ m k next f skipped at e h;
-    vectors-are = rw z;
-    inside = zeros-inside v z;
+    vectors-are = refl;
+    inside = zeros-inside zeroMv refl;
     sound = λ y. absurd (e y);
-  }
+  })
 
   pub mode-found : (c : ReadChoice) → m ≡ 0 → ChoiceFound s (readBehind (byBook book) n k (drop next (bitsOf s))) c → ChoiceFound s macroblockAt c
   unfolding readMacroblock

@@ -9,28 +9,26 @@ use native.Mathlib.Omega.{arith}
 use native.Mathlib.Nat.{mod-lt, div-lt-iff-lt-mul}
 use lib.ListN.{length}
 use Rattle.bits.specs.Basics.{pick, All}
-use Rattle.bits.specs.Calls.{Answer, done, refused}
+use Rattle.bits.specs.Calls.{done, refused}
 use Rattle.motion.specs.declared.svq1_motion_predictor.Svq1Mv.{Svq1Mv}
 use Rattle.motion.specs.declared.svq1_enc_inter.Searched.{Searched}
 use Rattle.motion.specs.declared.svq1_enc_inter.Searched.the-variants.{Vector, Refused}
-use Rattle.motion.specs.VectorsLaws.{Codable, Inside, codable-inside}
+use Rattle.motion.specs.VectorsLaws.{Codable, Inside}
 use Rattle.motion.specs.Neighbours.{Near, forOne, forFirst, forSecond, forThird, forFourth}
 use Rattle.motion.specs.Search.{Search, searched, blocksAlong, foundAnswer}
 use Rattle.motion.specs.SearchCall.{searchedAnswer}
 use Rattle.motion.specs.SearchCallLaws.{Passes, answer-searched}
 use Rattle.motion.specs.SearchLaws.{found}
 use Rattle.motion.specs.Search as motion-search
-use Rattle.tree.specs.Blocks.{gather}
 use Rattle.tree.specs.Turns.{Rows}
 use Rattle.macroblock.specs.declared.inner.motions.FoundMotion.{FoundMotion}
 use Rattle.macroblock.specs.declared.inner.motions.FoundMv.{FoundMv}
 use Rattle.macroblock.specs.declared.inner.motions.FoundPair.{FoundPair}
 use Rattle.macroblock.specs.declared.svq1_plane.Svq1PlaneCanvas.{Svq1PlaneCanvas}
-use Rattle.macroblock.specs.Macroblock.{Given, Motion, still, single, four}
+use Rattle.macroblock.specs.Macroblock.{Given, Motion, still, four}
 use Rattle.macroblock.specs.MacroblockLaws.{Codables}
 use Rattle.macroblock.specs.Choice.{Task, target, ifFound, singleTried, fourTried}
 use Rattle.macroblock.specs.Motions.{motionOf}
-use Rattle.macroblock.specs.Inner.{givenBy}
 use Rattle.macroblock.specs.Searches.{searchBy, wholeBy, quarterBy, Cornered, Searching, vectorFound, PairFound, motionsOf, noneFound, stillFound, oneFound, fourFound, MotionsFound}
 
 -- ---- a test that is turned round

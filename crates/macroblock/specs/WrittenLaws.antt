@@ -8,7 +8,6 @@ use native.Mathlib.Omega.{arith}
 use borrow.Author.Tests.{le-leb, lt-leb}
 use lib.ListN.{length, length-append}
 use Rattle.bits.specs.Inner.{Fits, Wrote}
-use Rattle.bits.specs.InnerLaws.{wrote-more}
 use Rattle.book.specs.Book.{tablesOf}
 use Rattle.book.specs.declared.svq1_vlc.Svq1Half.{Svq1Half}
 use Rattle.motion.specs.Neighbours.{Near}

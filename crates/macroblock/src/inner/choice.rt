@@ -1,11 +1,10 @@
 // Which way a macroblock is coded: SKIP, and each motion with its plan.
 ghost use mathlib.Core.Path.{_≡_};
-ghost use Prim.Native.Nat.{_*_, _<_};
 ghost use lib.ListN.{length};
 ghost use Rattle.bits.specs.Basics.{All};
 ghost use Rattle.motion.specs.Cache.{nearFrom};
 ghost use Rattle.motion.specs.NeighboursLaws.{Around};
-ghost use Rattle.macroblock.specs.Macroblock.{coded, vectorsOf};
+ghost use Rattle.macroblock.specs.Macroblock.{coded};
 ghost use Rattle.macroblock.specs.MacroblockLaws.{Codables};
 ghost use Rattle.macroblock.specs.Choice.{skipsLeaves};
 ghost use Rattle.macroblock.specs.Motions.{motionOf};

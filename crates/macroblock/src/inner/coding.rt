@@ -1,7 +1,7 @@
 // A mode's code and the codes of a vector's differences: counted, and put.
 ghost use mathlib.Core.List.{_++_};
 ghost use mathlib.Core.Path.{_≡_};
-ghost use Prim.Native.Nat.{_<_, _≤_};
+ghost use Prim.Native.Nat.{_<_};
 ghost use lib.ListN.{length};
 ghost use lib.IntN.{_-ℤ_};
 ghost use Rattle.bits.specs.Inner.{Fits, Wrote};

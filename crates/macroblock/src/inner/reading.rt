@@ -2,10 +2,11 @@
 ghost use mathlib.Core.Path.{_≡_};
 ghost use mathlib.Core.Bool.{true};
 ghost use Prim.Native.Nat.{_*_, _<_};
-ghost use lib.ListN.{length, drop};
+ghost use lib.ListN.{length, drop, replicate};
 ghost use Rattle.bits.specs.Basics.{All};
 ghost use Rattle.bits.specs.Bits.{bitsOf};
 ghost use Rattle.book.specs.Book.{tablesOf};
+ghost use Rattle.motion.specs.Vectors.{zeroMv};
 ghost use Rattle.motion.specs.VectorsLaws.{Inside};
 ghost use Rattle.motion.specs.Cache.{nearFrom, Slices};
 ghost use Rattle.motion.specs.Neighbours.{nearOf};
@@ -108,12 +109,25 @@ fn read_four(s: &[u8], at: usize, book: &[u8], near: NearBlocks) -> ReadFour
     }
 }
 
+// No motion, which takes no bits, and zero vectors.
+fn no_motion(at: usize) -> ReadMotion
+    ensures { λ r. ⌜ r ≡ record { refused = 0; next = at; motion = MbMotion.None; vectors = replicate 4 zeroMv } ⌝ }
+{
+    let zero = zero_vector();
+    let motion = MbMotion::None;
+    ReadMotion {
+        refused: 0,
+        next: at,
+        motion,
+        vectors: [zero; 4],
+    }
+}
+
 // The motion of a mode that stands at bit `at`; INTRA has none, and neither has SKIP.
 fn read_motion(s: &[u8], at: usize, book: &[u8], near: NearBlocks, mode: Svq1MbMode) -> ReadMotion
     requires { ⌜ Reads (now book) 5 (length (now s)) at ⌝ }
     ensures { λ r. ⌜ MotionFound (now (s .entry)) (readMotion (byBook (now (book .entry))) (nearFrom near) (modePosition mode) (drop at (bitsOf (now (s .entry))))) r ⌝ }
 {
-    let none = zero_vector();
     match mode {
         Svq1MbMode::Inter => {
             let v = read_vector(s, at, book, predict_one(near));
@@ -135,18 +149,8 @@ fn read_motion(s: &[u8], at: usize, book: &[u8], near: NearBlocks, mode: Svq1MbM
                 vectors,
             }
         }
-        Svq1MbMode::Intra => ReadMotion {
-            refused: 0,
-            next: at,
-            motion: MbMotion::None,
-            vectors: [none; 4],
-        },
-        Svq1MbMode::Skip => ReadMotion {
-            refused: 0,
-            next: at,
-            motion: MbMotion::None,
-            vectors: [none; 4],
-        },
+        Svq1MbMode::Intra => no_motion(at),
+        Svq1MbMode::Skip => no_motion(at),
     }
 }
 
@@ -164,6 +168,22 @@ pub fn no_blocks() -> [Block; 63] {
         node: TreeNode::Off,
         stages: [0u8; 6],
     }; 63]
+}
+
+// SKIP, which has nothing behind its mode, or a refusal.
+fn skipped_at(refused: u8, at: usize) -> ReadChoice
+    ensures { λ r. ⌜ r ≡ record { refused = refused; next = at; skip = true; motion = MbMotion.None; vectors = replicate 4 zeroMv; blocks = r .blocks } ⌝ }
+{
+    let none = zero_vector();
+    let blocks = no_blocks();
+    ReadChoice {
+        refused,
+        next: at,
+        skip: true,
+        motion: MbMotion::None,
+        vectors: [none; 4],
+        blocks,
+    }
 }
 
 // What stands behind a mode other than SKIP: its motion and its tree.
@@ -205,16 +225,7 @@ fn read_behind(s: &[u8], at: usize, book: &[u8], near: NearBlocks, mode: Svq1MbM
     if mode.position() < 3 {
         return read_coded(s, at, book, near, mode);
     }
-    let none = zero_vector();
-    let blocks = no_blocks();
-    ReadChoice {
-        refused: 0,
-        next: at,
-        skip: true,
-        motion: MbMotion::None,
-        vectors: [none; 4],
-        blocks,
-    }
+    skipped_at(0, at)
 }
 
 // The macroblock that stands at bit `at`, among these neighbours.
@@ -225,16 +236,7 @@ fn read_choice(s: &[u8], at: usize, book: &[u8], near: NearBlocks) -> ReadChoice
     let m = read_mb_mode(s, at, book);
     let mode = m.mode;
     if m.refused != 0 {
-        let none = zero_vector();
-        let blocks = no_blocks();
-        return ReadChoice {
-            refused: m.refused,
-            next: at,
-            skip: true,
-            motion: MbMotion::None,
-            vectors: [none; 4],
-            blocks,
-        };
+        return skipped_at(m.refused, at);
     }
     read_behind(s, m.next, book, near, mode)
 }

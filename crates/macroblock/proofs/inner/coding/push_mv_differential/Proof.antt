@@ -1,12 +1,8 @@
 -- The two differences' codes, one behind the other. Assumes nothing.
-use mathlib.Core.Path.{ap, sym, _∙_}
-use mathlib.Core.List.{List}
-use lib.ListN.{length}
-use Prim.Native.Nat.{ℕ}
 use native.Mathlib.Omega.{arith}
 use mir.ValLaws.{toZ-ofZ}
 use mir.Syntax.{w32}
-use Rattle.bits.specs.Inner.{Fits, Wrote}
+use Rattle.bits.specs.Inner.{Wrote}
 use Rattle.bits.specs.InnerLaws.{wrote-more}
 use Rattle.tree.specs.WalkLaws.{wrote-as}
 use Rattle.macroblock.specs.Coding.{componentBits}

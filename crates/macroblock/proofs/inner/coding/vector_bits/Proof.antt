@@ -1,5 +1,4 @@
 -- The two differences' codes. Assumes nothing.
-use native.Mathlib.Omega.{arith}
 use mir.ValLaws.{toZ-ofZ}
 use mir.Syntax.{w32}
 use Rattle.macroblock.specs.Coding.{componentBits, Counted}

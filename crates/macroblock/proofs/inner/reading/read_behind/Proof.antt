@@ -16,25 +16,16 @@ read-coded-requires c κs = search needs
 returns : tie.Need-returns
 returns c = search needs
 
-zero-vector-requires : tie.Need-zero-vector-requires
-zero-vector-requires c κs = search needs
-
-no-blocks-requires : tie.Need-no-blocks-requires
-no-blocks-requires c κs = search needs
+skipped-at-requires : tie.Need-skipped-at-requires
+skipped-at-requires c κs = search needs
 
 returns-2 : tie.Need-returns-2
 returns-2 c =
-    let s = c .before .before .before .before .before .before in
+    let s = c .before .before .before .before .before in
     let a = s .args in
-    skip-found (a .s .now) (a .book .now) (nearFrom (a .near)) (a .at) (modePosition (a .mode)) _ _ (omega (arith, c .before .before .before .position .ensures .0)) (omega (arith, s .pre .from .bits-fit)) (c .before .zero-vector .ensures)
+    skip-found (a .s .now) (a .book .now) (nearFrom (a .near)) (a .at) (modePosition (a .mode)) _ (omega (arith, c .before .before .position .ensures .0)) (omega (arith, s .pre .from .bits-fit)) (c .skipped-at .ensures)
 
 pub read-behind-spec : {M : Type 1} → statement M
 read-behind-spec =
     tie.close
-    (tie.spec
-    position-requires
-    read-coded-requires
-    returns
-    zero-vector-requires
-    no-blocks-requires
-    returns-2)
+    (tie.spec position-requires read-coded-requires returns skipped-at-requires returns-2)

@@ -10,17 +10,14 @@ use Rattle.macroblock.proofs.inner.reading.read_choice.Tie as tie
 read-mb-mode-requires : tie.Need-read-mb-mode-requires
 read-mb-mode-requires c κs = search needs
 
-zero-vector-requires : tie.Need-zero-vector-requires
-zero-vector-requires c κs = search needs
-
-no-blocks-requires : tie.Need-no-blocks-requires
-no-blocks-requires c κs = search needs
+skipped-at-requires : tie.Need-skipped-at-requires
+skipped-at-requires c κs = search needs
 
 returns : tie.Need-returns
 returns c =
-    let s = c .before .before .before .before .before .before .before in
+    let s = c .before .before .before .before .before .before in
     let a = s .args in
-    mode-refused (a .s .now) (a .book .now) (nearFrom (a .near)) (a .at) _ _ _ (c .before .before .before .before .read-mb-mode .ensures) _ _ (c .before .before .if1 .taken) (omega (arith, s .pre .from .bits-fit)) (c .before .zero-vector .ensures)
+    mode-refused (a .s .now) (a .book .now) (nearFrom (a .near)) (a .at) _ _ _ (c .before .before .before .read-mb-mode .ensures) _ (c .before .if1 .taken) (omega (arith, s .pre .from .bits-fit)) (c .skipped-at .ensures)
 
 read-behind-requires : tie.Need-read-behind-requires
 read-behind-requires c κs = reads-on _ _ _ _ _ (c .before .before .before .before .before .pre) (c .before .before .read-mb-mode .ensures .within)
@@ -33,10 +30,4 @@ returns-2 c =
 pub read-choice-spec : {M : Type 1} → statement M
 read-choice-spec =
     tie.close
-    (tie.spec
-    read-mb-mode-requires
-    zero-vector-requires
-    no-blocks-requires
-    returns
-    read-behind-requires
-    returns-2)
+    (tie.spec read-mb-mode-requires skipped-at-requires returns read-behind-requires returns-2)

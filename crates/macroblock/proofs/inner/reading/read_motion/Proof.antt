@@ -7,9 +7,6 @@ use borrow.Author.Needs.{needs}
 use Rattle.macroblock.proofs.inner.reading.read_motion.Statement.{statement}
 use Rattle.macroblock.proofs.inner.reading.read_motion.Tie as tie
 
-zero-vector-requires : tie.Need-zero-vector-requires
-zero-vector-requires c κs = search needs
-
 enum-told : tie.Need-enum-told
 enum-told c = search needs
 
@@ -28,43 +25,50 @@ read-four-requires c κs = search needs
 enum-told-3 : tie.Need-enum-told-3
 enum-told-3 c = search needs
 
+no-motion-requires : tie.Need-no-motion-requires
+no-motion-requires c κs = search needs
+
 enum-told-4 : tie.Need-enum-told-4
 enum-told-4 c = search needs
 
+no-motion-requires-2 : tie.Need-no-motion-requires-2
+no-motion-requires-2 c κs = search needs
+
 returns : tie.Need-returns
 returns c =
-    let a = c .before .before .before .before .before .before .before .before .args in
+    let a = c .before .before .before .before .before .before .before .args in
     one-found (a .s .now) (a .book .now) (nearFrom (a .near)) (a .at) (a .mode) _ _ _ (c .before .before .before .enum-told .given .1) (rw (c .before .before .predict-one .ensures) at (c .before .read-vector .ensures .0)) (c .before .read-vector .ensures .1)
 
 returns-2 : tie.Need-returns-2
 returns-2 c =
-    let a = c .before .before .before .before .before .before .before .args in
+    let a = c .before .before .before .before .before .before .args in
     fours-found (a .s .now) (a .book .now) (nearFrom (a .near)) (a .at) (a .mode) _ _ _ (c .before .read-four .ensures .2) (c .before .before .enum-told2 .given .1) (c .before .read-four .ensures .0) (c .before .read-four .ensures .1)
 
 returns-3 : tie.Need-returns-3
 returns-3 c =
     let s = c .before .before .before .before .before in
     let a = s .args in
-    none-found (a .s .now) (a .book .now) (nearFrom (a .near)) (a .at) (a .mode) (omega (arith, s .pre .from .bits-fit)) (inl (c .enum-told3 .given .1)) _ (c .before .before .zero-vector .ensures)
+    none-found (a .s .now) (a .book .now) (nearFrom (a .near)) (a .at) (a .mode) (omega (arith, s .pre .from .bits-fit)) (inl (c .before .enum-told3 .given .1)) _ (c .no-motion .ensures)
 
 returns-4 : tie.Need-returns-4
 returns-4 c =
     let s = c .before .before .before .before .before in
     let a = s .args in
-    none-found (a .s .now) (a .book .now) (nearFrom (a .near)) (a .at) (a .mode) (omega (arith, s .pre .from .bits-fit)) (inr (c .enum-told4 .given .1)) _ (c .before .before .zero-vector .ensures)
+    none-found (a .s .now) (a .book .now) (nearFrom (a .near)) (a .at) (a .mode) (omega (arith, s .pre .from .bits-fit)) (inr (c .before .enum-told4 .given .1)) _ (c .no-motion2 .ensures)
 
 pub read-motion-spec : {M : Type 1} → statement M
 read-motion-spec =
     tie.close
     (tie.spec
-    zero-vector-requires
     enum-told
     predict-one-requires
     read-vector-requires
     enum-told-2
     read-four-requires
     enum-told-3
+    no-motion-requires
     enum-told-4
+    no-motion-requires-2
     returns
     returns-2
     returns-3

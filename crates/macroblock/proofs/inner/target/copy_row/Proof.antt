@@ -1,11 +1,10 @@
 -- One sample after the other. Assumes nothing.
-use mathlib.Core.Path.{_≡_, refl, ap, _∙_}
+use mathlib.Core.Path.{_≡_, refl}
 use Prim.Native.Nat.{_+_, _-_, _≤_}
-use lib.ListN.{getD, length, length-set}
+use lib.ListN.{getD, length}
 use native.Mathlib.Omega.{arith}
 use Rattle.motion.specs.Moved.{rowSet}
 use Rattle.motion.specs.InsideLaws.{row-none, row-more}
-use Rattle.macroblock.specs.TargetLaws.{row-length}
 use borrow.Author.Needs.{needs}
 use Rattle.macroblock.proofs.inner.target.copy_row.Statement.{statement}
 use Rattle.macroblock.proofs.inner.target.copy_row.Tie as tie

@@ -1,9 +1,7 @@
 -- One row after the other. Assumes nothing.
-use mathlib.Core.Path.{_≡_, refl, sym, ap, _∙_}
-use Prim.Native.Nat.{_*_, _-_, _%_, _/_, _≤_}
+use mathlib.Core.Path.{refl, sym, _∙_}
+use Prim.Native.Nat.{_*_, _-_, _≤_}
 use native.Mathlib.Omega.{arith}
-use lib.ListN.{length}
-use Rattle.motion.specs.Search.{largestSide, blocksAlong}
 use Rattle.macroblock.specs.Target.{targetSample, Filled}
 use Rattle.macroblock.specs.TargetLaws.{wide, left-most, top-most, row-in, filled-none, filled-row, filled-all}
 use borrow.Author.Needs.{needs}
