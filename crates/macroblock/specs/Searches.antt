@@ -14,8 +14,8 @@ use Rattle.motion.specs.Search.{Search, searched, largestSide, blocksAlong}
 use Rattle.motion.specs.SearchCallLaws.{Fitting}
 use Rattle.tree.specs.Blocks.{gather}
 use Rattle.macroblock.specs.declared.inner.motions.FoundMotion.{FoundMotion}
-use Rattle.macroblock.specs.declared.inner.motions.FoundMv.{FoundMv}
-use Rattle.macroblock.specs.declared.inner.motions.FoundPair.{FoundPair}
+use Rattle.macroblock.specs.declared.inner.searches.FoundMv.{FoundMv}
+use Rattle.macroblock.specs.declared.inner.searches.FoundPair.{FoundPair}
 use Rattle.macroblock.specs.declared.svq1_enc_inter.MbMotion.the-variants.{None, One, Four}
 use Rattle.macroblock.specs.declared.svq1_plane.Svq1PlaneCanvas.{Svq1PlaneCanvas}
 use Rattle.macroblock.specs.Macroblock.{Given, Motion, coded, vectorsOf}

@@ -22,8 +22,8 @@ use Rattle.motion.specs.SearchLaws.{found}
 use Rattle.motion.specs.Search as motion-search
 use Rattle.tree.specs.Turns.{Rows}
 use Rattle.macroblock.specs.declared.inner.motions.FoundMotion.{FoundMotion}
-use Rattle.macroblock.specs.declared.inner.motions.FoundMv.{FoundMv}
-use Rattle.macroblock.specs.declared.inner.motions.FoundPair.{FoundPair}
+use Rattle.macroblock.specs.declared.inner.searches.FoundMv.{FoundMv}
+use Rattle.macroblock.specs.declared.inner.searches.FoundPair.{FoundPair}
 use Rattle.macroblock.specs.declared.svq1_plane.Svq1PlaneCanvas.{Svq1PlaneCanvas}
 use Rattle.macroblock.specs.Macroblock.{Given, Motion, still, four}
 use Rattle.macroblock.specs.MacroblockLaws.{Codables}

@@ -6,8 +6,8 @@ use Rattle.macroblock.specs.Inner.{givenBy}
 use Rattle.macroblock.specs.InnerLaws.{book-passes}
 use Rattle.macroblock.specs.ChosenLaws.{plan-few, made-by}
 use borrow.Author.Needs.{needs}
-use Rattle.macroblock.proofs.inner.choice.coded_candidate.Statement.{statement}
-use Rattle.macroblock.proofs.inner.choice.coded_candidate.Tie as tie
+use Rattle.macroblock.proofs.inner.plans.coded_candidate.Statement.{statement}
+use Rattle.macroblock.proofs.inner.plans.coded_candidate.Tie as tie
 
 plan-motion-requires : tie.Need-plan-motion-requires
 plan-motion-requires c κs = search needs

@@ -2,8 +2,8 @@
 use mathlib.Core.Path.{_∙_}
 use Rattle.macroblock.specs.SearchesLaws.{quarter-passes}
 use borrow.Author.Needs.{needs}
-use Rattle.macroblock.proofs.inner.motions.find_in.Statement.{statement}
-use Rattle.macroblock.proofs.inner.motions.find_in.Tie as tie
+use Rattle.macroblock.proofs.inner.searches.find_in.Statement.{statement}
+use Rattle.macroblock.proofs.inner.searches.find_in.Tie as tie
 
 corner-of-requires : tie.Need-corner-of-requires
 corner-of-requires c κs = search needs

@@ -1,8 +1,8 @@
 -- The call refuses nothing, so a refusal is that nothing was found. Assumes nothing.
 use Rattle.macroblock.specs.SearchesLaws.{found-vector, found-none}
 use borrow.Author.Needs.{needs}
-use Rattle.macroblock.proofs.inner.motions.find_vector.Statement.{statement}
-use Rattle.macroblock.proofs.inner.motions.find_vector.Tie as tie
+use Rattle.macroblock.proofs.inner.searches.find_vector.Statement.{statement}
+use Rattle.macroblock.proofs.inner.searches.find_vector.Tie as tie
 
 search-motion-vector-requires : tie.Need-search-motion-vector-requires
 search-motion-vector-requires c κs = search needs

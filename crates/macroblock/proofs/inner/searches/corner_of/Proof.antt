@@ -3,8 +3,8 @@ use mathlib.Core.Path.{refl}
 use native.Mathlib.Omega.{arith}
 use Rattle.macroblock.specs.SearchesLaws.{corner-small}
 use borrow.Author.Needs.{needs}
-use Rattle.macroblock.proofs.inner.motions.corner_of.Statement.{statement}
-use Rattle.macroblock.proofs.inner.motions.corner_of.Tie as tie
+use Rattle.macroblock.proofs.inner.searches.corner_of.Statement.{statement}
+use Rattle.macroblock.proofs.inner.searches.corner_of.Tie as tie
 
 blocks-along-requires : tie.Need-blocks-along-requires
 blocks-along-requires c κs = search needs

@@ -8,8 +8,8 @@ use Rattle.motion.specs.VectorsLaws.{codable-inside}
 use Rattle.macroblock.specs.Searches.{quarterBy}
 use Rattle.macroblock.specs.SearchesLaws.{was-off, was-on, found-codes, pair-none, pair-both}
 use borrow.Author.Needs.{needs}
-use Rattle.macroblock.proofs.inner.motions.second_pair.Statement.{statement}
-use Rattle.macroblock.proofs.inner.motions.second_pair.Tie as tie
+use Rattle.macroblock.proofs.inner.searches.second_pair.Statement.{statement}
+use Rattle.macroblock.proofs.inner.searches.second_pair.Tie as tie
 
 predict-third-requires : tie.Need-predict-third-requires
 predict-third-requires c κs = search needs

@@ -7,8 +7,8 @@ use Rattle.macroblock.specs.InnerLaws.{stands}
 use Rattle.macroblock.specs.SamplesLaws.{length-baseline}
 use Rattle.macroblock.specs.ChosenLaws.{plan-ready, found-by}
 use borrow.Author.Needs.{needs}
-use Rattle.macroblock.proofs.inner.choice.plan_over.Statement.{statement}
-use Rattle.macroblock.proofs.inner.choice.plan_over.Tie as tie
+use Rattle.macroblock.proofs.inner.plans.plan_over.Statement.{statement}
+use Rattle.macroblock.proofs.inner.plans.plan_over.Tie as tie
 
 half-of-requires : tie.Need-half-of-requires
 half-of-requires c κs = search needs

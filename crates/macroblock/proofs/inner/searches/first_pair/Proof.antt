@@ -8,8 +8,8 @@ use Rattle.motion.specs.VectorsLaws.{codable-inside}
 use Rattle.macroblock.specs.Searches.{quarterBy}
 use Rattle.macroblock.specs.SearchesLaws.{was-off, was-on, found-codes, pair-none, pair-both}
 use borrow.Author.Needs.{needs}
-use Rattle.macroblock.proofs.inner.motions.first_pair.Statement.{statement}
-use Rattle.macroblock.proofs.inner.motions.first_pair.Tie as tie
+use Rattle.macroblock.proofs.inner.searches.first_pair.Statement.{statement}
+use Rattle.macroblock.proofs.inner.searches.first_pair.Tie as tie
 
 predict-first-requires : tie.Need-predict-first-requires
 predict-first-requires c κs = search needs
