@@ -1,6 +1,5 @@
 -- The motion of the code as the definitions' motion.
 use mathlib.Core.List.{List}
-use Prim.Native.Nat.{ℕ}
 use lib.ListN.{getD}
 use Rattle.motion.specs.declared.svq1_motion_predictor.Svq1Mv.{Svq1Mv}
 use Rattle.motion.specs.Vectors.{zeroMv}
@@ -11,5 +10,5 @@ use Rattle.macroblock.specs.declared.svq1_enc_inter.MbMotion.the-variant
 -- a motion and the four vectors beside it
 abbrev pub motionOf : MbMotion → List Svq1Mv → Motion
 motionOf None vs = still
-motionOf (One v) vs = single v
+motionOf (One v d) vs = single v
 motionOf Four vs = four (getD vs 0 zeroMv) (getD vs 1 zeroMv) (getD vs 2 zeroMv) (getD vs 3 zeroMv)

@@ -100,9 +100,9 @@ module _ (c : Svq1PlaneCanvas) (reference : List ℕ) (k : ℕ) (m : MbMotion) (
   over-none e o book codebook = rw e o
 
   module _ (s : Stands lent (blocksAlong (c .width)) k) where
-    pub over-one : (v : Svq1Mv) → m ≡ One v → out ≡ movedBlock lent 16 (16 * (k % (c .stride / 16))) (16 * (k / (c .stride / 16))) v → Over
+    pub over-one : (v d : Svq1Mv) → m ≡ One v d → out ≡ movedBlock lent 16 (16 * (k % (c .stride / 16))) (16 * (k / (c .stride / 16))) v → Over
     unfolding baseline
-    over-one v e o book codebook = rw e (rw (cols-is lent (blocksAlong (c .width)) k s) at o)
+    over-one v d e o book codebook = rw e (rw (cols-is lent (blocksAlong (c .width)) k s) at o)
 
     pub over-four : m ≡ Four → out ≡ quarters lent (16 * (k % (c .stride / 16))) (16 * (k / (c .stride / 16))) vs → Over
     unfolding baseline quarters

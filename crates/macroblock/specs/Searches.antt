@@ -4,6 +4,7 @@ use mathlib.Core.Bool.{true, false}
 use mathlib.Core.List.{List, [], _∷_}
 use mathlib.Core.Option.{Option, none, some}
 use Prim.Native.Nat.{ℕ, _+_, _*_, _/_, _%_, _≤_, _<_}
+use lib.IntN.{_-ℤ_}
 use lib.ListN.{length}
 use Rattle.bits.specs.Basics.{pick, All}
 use Rattle.motion.specs.declared.svq1_motion_predictor.Svq1Mv.{Svq1Mv}
@@ -79,8 +80,12 @@ noneFound = record { found = false; motion = None; vectors = zeroMv ∷ zeroMv �
 abbrev pub stillFound : FoundMotion
 stillFound = record { found = true; motion = None; vectors = zeroMv ∷ zeroMv ∷ zeroMv ∷ zeroMv ∷ [] }
 
-abbrev pub oneFound : Svq1Mv → FoundMotion
-oneFound v = record { found = true; motion = One v; vectors = v ∷ v ∷ v ∷ v ∷ [] }
+-- a vector's difference from its predictor
+abbrev pub differenceMv : Svq1Mv → Svq1Mv → Svq1Mv
+differenceMv p v = record { x = v .x -ℤ p .x; y = v .y -ℤ p .y }
+
+abbrev pub oneFound : Svq1Mv → Svq1Mv → FoundMotion
+oneFound v d = record { found = true; motion = One v d; vectors = v ∷ v ∷ v ∷ v ∷ [] }
 
 abbrev pub fourFound : Svq1Mv → Svq1Mv → Svq1Mv → Svq1Mv → FoundMotion
 fourFound a b c d = record { found = true; motion = Four; vectors = a ∷ b ∷ c ∷ d ∷ [] }

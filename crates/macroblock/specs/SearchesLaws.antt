@@ -29,7 +29,7 @@ use Rattle.macroblock.specs.Macroblock.{Given, Motion, still, four}
 use Rattle.macroblock.specs.MacroblockLaws.{Codables}
 use Rattle.macroblock.specs.Choice.{Task, target, ifFound, singleTried, fourTried}
 use Rattle.macroblock.specs.Motions.{motionOf}
-use Rattle.macroblock.specs.Searches.{searchBy, wholeBy, quarterBy, Cornered, Searching, vectorFound, PairFound, motionsOf, noneFound, stillFound, oneFound, fourFound, MotionsFound}
+use Rattle.macroblock.specs.Searches.{searchBy, wholeBy, quarterBy, Cornered, Searching, vectorFound, PairFound, motionsOf, noneFound, stillFound, differenceMv, oneFound, fourFound, MotionsFound}
 
 -- ---- a test that is turned round
 pub was-off : (b : Bool) → not b ≡ true → b ≡ false
@@ -160,7 +160,7 @@ module _ (c : Svq1PlaneCanvas) (reference block : List ℕ) (radius k : ℕ) (n 
   moves-off = record { are = λ book codebook t e q. refl; codes = tt; stored = refl }
 
   module _ (v : FoundMv) (e : vectorFound v ≡ searched (wholeBy c reference block k (forOne n) radius)) where
-    pub moves-single : v .found ≡ true → MotionsFound c reference block radius k n (λ g t. singleTried g t k n) (oneFound (v .mv))
+    pub moves-single : v .found ≡ true → MotionsFound c reference block radius k n (λ g t. singleTried g t k n) (oneFound (v .mv) (differenceMv (forOne n) (v .mv)))
     unfolding singleTried
     moves-single h = record {
       are = λ book codebook t eb er. rw (← eb, ← er, is-found v (wholeBy c reference block k (forOne n) radius) e h);

@@ -95,7 +95,7 @@ fn mode_of(motion: MbMotion) -> Svq1MbMode
 {
     match motion {
         MbMotion::None => Svq1MbMode::Intra,
-        MbMotion::One { mv: _ } => Svq1MbMode::Inter,
+        MbMotion::One { mv: _, diff: _ } => Svq1MbMode::Inter,
         MbMotion::Four => Svq1MbMode::Inter4Mv,
     }
 }

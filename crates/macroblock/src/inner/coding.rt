@@ -188,7 +188,7 @@ pub fn motion_bits(book: &[u8], near: NearBlocks, motion: MbMotion, vectors: [Sv
 {
     match motion {
         MbMotion::None => 0,
-        MbMotion::One { mv } => vector_bits(book, predict_one(near), mv),
+        MbMotion::One { mv, diff: _ } => vector_bits(book, predict_one(near), mv),
         MbMotion::Four => four_bits(book, near, vectors[0], vectors[1], vectors[2], vectors[3]),
     }
 }
@@ -207,7 +207,7 @@ pub fn put_motion(
 {
     match motion {
         MbMotion::None => at,
-        MbMotion::One { mv } => push_mv_differential(out, at, book, predict_one(near), mv),
+        MbMotion::One { mv, diff: _ } => push_mv_differential(out, at, book, predict_one(near), mv),
         MbMotion::Four => put_four(
             out,
             at,

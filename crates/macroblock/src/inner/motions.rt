@@ -2,10 +2,12 @@
 ghost use mathlib.Core.Path.{_≡_};
 ghost use mathlib.Core.List.{[]};
 ghost use Rattle.bits.specs.Basics.{pick};
+ghost use lib.IntN.{_-ℤ_};
+ghost use Rattle.motion.specs.VectorsLaws.{InRange, Codable};
 ghost use Rattle.motion.specs.NeighboursLaws.{Around};
 ghost use Rattle.motion.specs.Cache.{nearFrom};
 ghost use Rattle.macroblock.specs.Choice.{singleTried, fourTried};
-ghost use Rattle.macroblock.specs.Searches.{Searching, MotionsFound, oneFound, fourFound, noneFound, stillFound};
+ghost use Rattle.macroblock.specs.Searches.{Searching, MotionsFound, differenceMv, oneFound, fourFound, noneFound, stillFound};
 use super::super::svq1_enc_inter::MbMotion;
 use super::super::svq1_plane::Svq1PlaneCanvas;
 use super::searches::corner_of;
@@ -48,12 +50,31 @@ pub fn still_found() -> FoundMotion
     }
 }
 
-fn one_found(v: Svq1Mv) -> FoundMotion
-    ensures { λ r. ⌜ r ≡ oneFound v ⌝ }
+// A component's difference from its prediction.
+fn difference(v: i32, p: i32) -> i32
+    requires { ⌜ InRange (v -ℤ p) ⌝ }
+    ensures { λ r. ⌜ r ≡ v -ℤ p ⌝ }
+{
+    v - p
+}
+
+// A vector's difference from its predictor.
+fn difference_of(p: Svq1Mv, v: Svq1Mv) -> Svq1Mv
+    requires { ⌜ Codable p v ⌝ }
+    ensures { λ r. ⌜ r ≡ differenceMv p v ⌝ }
+{
+    Svq1Mv {
+        x: difference(v.x, p.x),
+        y: difference(v.y, p.y),
+    }
+}
+
+fn one_found(v: Svq1Mv, diff: Svq1Mv) -> FoundMotion
+    ensures { λ r. ⌜ r ≡ oneFound v diff ⌝ }
 {
     FoundMotion {
         found: true,
-        motion: MbMotion::One { mv: v },
+        motion: MbMotion::One { mv: v, diff },
         vectors: [v, v, v, v],
     }
 }
@@ -85,7 +106,8 @@ pub fn single_motion(
     let v = find_vector(canvas, reference, target, 16, at.x, at.y, p, radius);
     if v.found {
         let mv = v.mv;
-        return one_found(mv);
+        let diff = difference_of(p, mv);
+        return one_found(mv, diff);
     }
     none_found()
 }

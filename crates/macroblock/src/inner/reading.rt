@@ -38,7 +38,8 @@ use tree::svq1_enc_tree::Block;
 use tree::svq1_enc_tree::TreeNode;
 use tree::walk::ReadTree;
 
-// Four vectors, a motion with its four vectors, and a macroblock, that were read likewise. A refused one has vectors too, which mean nothing.
+// Four vectors, a motion with its four vectors, and a macroblock, that were read: each with the number of a refusal, or 0 and the bit behind it.
+// A refused one has vectors too, which mean nothing.
 pub struct ReadFour {
     pub refused: u8,
     pub next: usize,
@@ -132,10 +133,11 @@ fn read_motion(s: &[u8], at: usize, book: &[u8], near: NearBlocks, mode: Svq1MbM
         Svq1MbMode::Inter => {
             let v = read_vector(s, at, book, predict_one(near));
             let mv = v.mv;
+            let diff = v.diff;
             ReadMotion {
                 refused: v.refused,
                 next: v.next,
-                motion: MbMotion::One { mv },
+                motion: MbMotion::One { mv, diff },
                 vectors: [mv; 4],
             }
         }

@@ -109,7 +109,7 @@ pub fn baseline_of(
     let y = 16 * (k / cols);
     match motion {
         MbMotion::None => clear(out),
-        MbMotion::One { mv } => mc_macroblock(out, reference, stride, rows, x, y, mv),
+        MbMotion::One { mv, diff: _ } => mc_macroblock(out, reference, stride, rows, x, y, mv),
         MbMotion::Four => move_quarters(out, reference, stride, rows, x, y, vectors),
     }
 }
@@ -120,7 +120,7 @@ pub fn half_of(motion: MbMotion) -> Svq1Half
 {
     match motion {
         MbMotion::None => Svq1Half::Intra,
-        MbMotion::One { mv: _ } => Svq1Half::Inter,
+        MbMotion::One { mv: _, diff: _ } => Svq1Half::Inter,
         MbMotion::Four => Svq1Half::Inter,
     }
 }

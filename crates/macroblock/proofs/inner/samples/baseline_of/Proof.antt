@@ -48,7 +48,7 @@ returns-2 : tie.Need-returns-2
 returns-2 c =
     let s = c .before .before .before .before .before .before in
     let a = s .args in
-    over-one (a .canvas) (a .reference .now) (a .k) (a .motion) (a .vectors) _ (s .pre .0) _ (c .before .before .before .motion .given .1) (c .mc-macroblock .ensures)
+    over-one (a .canvas) (a .reference .now) (a .k) (a .motion) (a .vectors) _ (s .pre .0) _ _ (c .before .before .before .motion .given .1) (c .mc-macroblock .ensures)
 
 returns-3 : tie.Need-returns-3
 returns-3 c =
