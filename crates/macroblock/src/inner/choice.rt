@@ -4,7 +4,6 @@ ghost use lib.ListN.{length};
 ghost use Rattle.bits.specs.Basics.{All};
 ghost use Rattle.motion.specs.Cache.{nearFrom};
 ghost use Rattle.motion.specs.NeighboursLaws.{Around};
-ghost use Rattle.macroblock.specs.Macroblock.{coded};
 ghost use Rattle.macroblock.specs.MacroblockLaws.{Codables};
 ghost use Rattle.macroblock.specs.Inner.{givenBy};
 ghost use Rattle.macroblock.specs.Searches.{motionsOf};
