@@ -20,7 +20,6 @@ use super::motions::still_found;
 use super::plans::coded_candidate;
 use super::target::target_block;
 use motion::svq1_mv_cache::NearBlocks;
-use tree::planning::plan;
 
 // The best so far, or a motion that was found, if it is better.
 fn try_motion(
