@@ -27,3 +27,4 @@ pub mod Written
 pub mod WrittenLaws
 pub mod Chosen
 pub mod ChosenLaws
+pub mod NextLaws

@@ -4,7 +4,6 @@ ghost use lib.ListN.{length};
 ghost use Rattle.bits.specs.Basics.{All};
 ghost use Rattle.motion.specs.Cache.{nearFrom};
 ghost use Rattle.motion.specs.NeighboursLaws.{Around};
-ghost use Rattle.macroblock.specs.Macroblock.{coded};
 ghost use Rattle.macroblock.specs.MacroblockLaws.{Codables};
 ghost use Rattle.macroblock.specs.Inner.{givenBy};
 ghost use Rattle.macroblock.specs.Searches.{motionsOf};
@@ -21,7 +20,6 @@ use super::motions::still_found;
 use super::plans::coded_candidate;
 use super::target::target_block;
 use motion::svq1_mv_cache::NearBlocks;
-use tree::planning::plan;
 
 // The best so far, or a motion that was found, if it is better.
 fn try_motion(

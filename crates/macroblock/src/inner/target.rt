@@ -1,6 +1,6 @@
 // The samples that a macroblock is to show: the source's, its last column and row repeated.
 ghost use mathlib.Core.Path.{_≡_};
-ghost use Prim.Native.Nat.{_+_, _-_, _*_, _<_, _≤_, min};
+ghost use Prim.Native.Nat.{_+_, _<_, _≤_, min};
 ghost use lib.ListN.{length, getD};
 ghost use Rattle.motion.specs.Moved.{rowSet};
 ghost use Rattle.motion.specs.Search.{largestSide, blocksAlong};
