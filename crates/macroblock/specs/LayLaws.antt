@@ -66,7 +66,7 @@ module _ (c : Svq1PlaneCanvas) (k : ℕ) (vs : List Svq1Mv) (recon vx vy : List 
   lays reference raised d out recon' vx' vy' s l book codebook bytes r = rw (s book codebook bytes r, cols-by) at l
 
 -- slices with a choice's samples and vectors put there are the slices that it leaves
-laid-is : (g : Given) (k : ℕ) (d : Choice) (u : Slices) (vs : List Svq1Mv) (recon' vx' vy' : List ℕ) → vs ≡ vectorsOf d
+pub laid-is : (g : Given) (k : ℕ) (d : Choice) (u : Slices) (vs : List Svq1Mv) (recon' vx' vy' : List ℕ) → vs ≡ vectorsOf d
     → Laid (cols g) k (shown g k d) vs (u .recon) (u .vx) (u .vy) recon' vx' vy' → record { recon = recon'; vx = vx'; vy = vy' } ≡ laid g k d u
 unfolding laid
 laid-is g k d u vs recon' vx' vy' e l =

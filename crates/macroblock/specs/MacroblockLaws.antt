@@ -63,7 +63,7 @@ all-append : {A : Type 0} (P : A → Type 0) (xs ys : List A) → All P xs → A
 all-append P [] ys h k = k
 all-append P (x ∷ xs) ys h k = (h .0, all-append P xs ys (h .1) k)
 
-all-map : {A B : Type 0} (P : A → Type 0) (Q : B → Type 0) (f : A → B) (xs : List A) → ((x : A) → P x → Q (f x)) → All P xs → All Q (map f xs)
+pub all-map : {A B : Type 0} (P : A → Type 0) (Q : B → Type 0) (f : A → B) (xs : List A) → ((x : A) → P x → Q (f x)) → All P xs → All Q (map f xs)
 all-map P Q f [] h k = tt
 all-map P Q f (x ∷ xs) h k = (h x (k .0), all-map P Q f xs h (k .1))
 
@@ -281,7 +281,7 @@ module _ (g : Given) (t : Task) (ok : Fine g t) where
   best-one P k n c (d ∷ ds) hc hr =
       best-one P k n (pick (beats g t k n d c) d c) ds (pick-one P (beats g t k n d c) c d hc (hr .0)) (hr .1)
 
-  chosen-one : (P : Choice → Type 0) (k : ℕ) (n : Near) → All P (tried g t k n) → P (chosen g t k n)
+  pub chosen-one : (P : Choice → Type 0) (k : ℕ) (n : Near) → All P (tried g t k n) → P (chosen g t k n)
   unfolding chosen tried
   chosen-one P k n h = best-one P k n skipped (map (λ m. coded m (treeFor k m)) (motionsTried g t k n)) (h .0) (h .1)
 

@@ -9,3 +9,4 @@ pub mod SumLaws
 pub mod SlicesLaws
 pub mod ReaderLaws
 pub mod ClaimLaws
+pub mod StepLaws

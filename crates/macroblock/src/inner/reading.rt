@@ -165,7 +165,7 @@ fn decode_mb_block_tree(s: &[u8], at: usize, half: Svq1Half, book: &[u8]) -> Rea
 }
 
 // No tree.
-fn no_blocks() -> [Block; 63] {
+pub fn no_blocks() -> [Block; 63] {
     [Block {
         node: TreeNode::Off,
         stages: [0u8; 6],
