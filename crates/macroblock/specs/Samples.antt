@@ -17,7 +17,7 @@ use Rattle.motion.specs.Search.{largestSide, blocksAlong}
 use Rattle.tree.specs.TreeBits.{Node}
 use Rattle.tree.specs.Walk.{SoundTree}
 use Rattle.macroblock.specs.declared.svq1_plane.Svq1PlaneCanvas.{Svq1PlaneCanvas}
-use Rattle.macroblock.specs.Macroblock.{Motion, coded, vectorFor, shown}
+use Rattle.macroblock.specs.Macroblock.{Choice, vectorFor, shown}
 use Rattle.macroblock.specs.Inner.{givenBy}
 
 -- macroblock k of a canvas that is cols macroblocks wide
@@ -50,7 +50,7 @@ pub record Showing (c : Canvas) (cols k raised : ℕ) (h : Svq1Half) (t : List N
   pub copy : raised ≡ codebookBytes
   pub sound : SoundTree h t
 
--- the samples out are what the motion and the tree show, by any codebook whose raised copy was lent
-abbrev pub Shows : Svq1PlaneCanvas → List ℕ → List ℕ → ℕ → Motion → List Node → List ℕ → Type 0
-Shows c reference raised k m t out =
-    (book codebook : List ℕ) → Bytes codebook → raised ≡ raisedCodebook codebook → out ≡ shown (givenBy c reference book codebook) k (coded m t)
+-- the samples out are what a choice shows, by any codebook whose raised copy was lent
+abbrev pub Shows : Svq1PlaneCanvas → List ℕ → List ℕ → ℕ → Choice → List ℕ → Type 0
+Shows c reference raised k d out =
+    (book codebook : List ℕ) → Bytes codebook → raised ≡ raisedCodebook codebook → out ≡ shown (givenBy c reference book codebook) k d

@@ -32,7 +32,7 @@ use Rattle.tree.specs.Walk.{SoundTree}
 use Rattle.macroblock.specs.declared.svq1_enc_inter.MbMotion.{MbMotion}
 use Rattle.macroblock.specs.declared.svq1_enc_inter.MbMotion.the-variants.{None, One, Four}
 use Rattle.macroblock.specs.declared.svq1_plane.Svq1PlaneCanvas.{Svq1PlaneCanvas}
-use Rattle.macroblock.specs.Macroblock.{Given, Motion, still, single, four, halfOf, leftOf, topOf, baseline, shown}
+use Rattle.macroblock.specs.Macroblock.{Given, Motion, still, single, four, skipped, coded, halfOf, leftOf, topOf, referenceBlock, baseline, shown}
 use Rattle.macroblock.specs.Inner.{givenBy}
 use Rattle.macroblock.specs.Motions.{motionOf}
 use Rattle.macroblock.specs.Samples.{Stands, Laid, Showing, Shows, quarters}
@@ -125,10 +125,14 @@ whole-tree c cols k raised p n h half t g e a b =
 
 pub tree-shown : (c : Svq1PlaneCanvas) (reference raised : List ℕ) (k : ℕ) (m : Motion) (t : List Node) (h : Svq1Half) (base zeros out : List ℕ) → h ≡ halfOf m → SoundTree (halfOf m) t
     → ((book codebook : List ℕ) → base ≡ baseline (givenBy c reference book codebook) k m) → zeros ≡ replicate 256 0 → out ≡ rebuiltBy raised h 16 base t 5 0 zeros
-    → Shows c reference raised k m t out
+    → Shows c reference raised k (coded m t) out
 unfolding shown
 tree-shown c reference raised k m t h base zeros out e sound b z o book codebook bytes r =
     o ∙ rw (r, e, b book codebook, z) (rebuilt-shown codebook bytes (halfOf m) 5 (baseline (givenBy c reference book codebook) k m) t sound)
+
+pub skip-shown : (c : Svq1PlaneCanvas) (reference raised : List ℕ) (k : ℕ) (out : List ℕ) → out ≡ part 16 (blocksAlong (c .width)) k reference → Shows c reference raised k skipped out
+unfolding shown referenceBlock
+skip-shown c reference raised k out o book codebook bytes r = o
 
 -- ---- the four vectors
 pub inside-at : (vs : List Svq1Mv) → All Inside vs → (j : ℕ) → Inside (getD vs j zeroMv)

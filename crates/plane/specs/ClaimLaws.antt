@@ -29,13 +29,14 @@ use Rattle.macroblock.specs.declared.svq1_enc_inter.Svq1MbMode.the-variants.{Sk
 use Rattle.macroblock.specs.Macroblock.{Given, cols, rows, Choice, vectorsOf, shown, referenceBlock, modeBits, choiceBits}
 use Rattle.macroblock.specs.Choice.{Task, paddedSource, target, motionsTried, tried, weightOf}
 use Rattle.macroblock.specs.MacroblockLaws.{Fine, Good, chosen-good, chosen-least, unpruned}
+use Rattle.macroblock.specs.InnerLaws.{four-each}
 use Rattle.macroblock.specs.Reading.{readMacroblock}
 use Rattle.plane.specs.Run.{Step, on, End, run, after}
 use Rattle.plane.specs.RunLaws.{testing, run-on, run-fits}
 use Rattle.macroblock.specs.Slices.{Slices, near, laid}
 use Rattle.plane.specs.Plane.{count, Writing, wrote, wroteWeight, wroteBits, fits, written, toWrite, writePlane, ReadingState, taken, readStep, readUpTo, readPlane}
 use Rattle.plane.specs.Calls.{sourceRefusal, slicesRefusal, writeRefusal, readRefusal}
-use Rattle.plane.specs.SlicesLaws.{Sized, four-each, holds-recon, holds-vx, holds-vy, laid-sized, Alike, alike-laid, alike-near, laid-past-vx, laid-past-vy}
+use Rattle.plane.specs.SlicesLaws.{Sized, holds-recon, holds-vx, holds-vy, laid-sized, Alike, alike-laid, alike-near, laid-past-vx, laid-past-vy}
 use Rattle.plane.specs.SumLaws.{sse-blocks}
 use Rattle.plane.specs.Claim.{Appended, ReadBack, stateAt, final, costOf, InMemory, Claim, Claimed}
 

@@ -3,7 +3,9 @@ pub mod Run
 pub mod RunLaws
 pub mod Plane
 pub mod Calls
+pub mod Reader
 pub mod Claim
 pub mod SumLaws
 pub mod SlicesLaws
+pub mod ReaderLaws
 pub mod ClaimLaws

@@ -1,17 +1,16 @@
 -- Laws of the result slices: what laying a macroblock leaves, and slices that agree on the macroblocks before one.
 -- Assumes nothing.
-use mathlib.Core.Path.{_≡_, refl, sym, ap, _∙_}
-use Prim.Native.Nat.{ℕ, zero, suc, _+_, _*_, _≤_, _<_}
+use mathlib.Core.Path.{_≡_, _∙_}
+use Prim.Native.Nat.{ℕ, suc, _*_, _≤_, _<_}
 use native.Mathlib.Omega.{arith}
-use native.Mathlib.Nat.{mul-assoc}
-use mathlib.Core.List.{List, map}
+use mathlib.Core.List.{map}
 use lib.ListN.{length, drop}
 use Rattle.bits.specs.Basics.{signedByte}
-use Rattle.motion.specs.Grid.{putPart}
 use Rattle.motion.specs.GridLaws.{Agree, Holds, agree-put, length-put, in-owner, put-past}
 use Rattle.motion.specs.NeighboursLaws.{near-same}
 use Rattle.macroblock.specs.Macroblock.{Given, cols, rows, Choice, vectorsOf, shown}
 use Rattle.macroblock.specs.Slices.{Slices, near, laid}
+use Rattle.macroblock.specs.InnerLaws.{four-each}
 use Rattle.plane.specs.Plane.{count}
 
 -- slices that pass refusal 20
@@ -19,11 +18,6 @@ pub record Sized (g : Given) (s : Slices) : Type 0 where
   pub recon : length (s .recon) ≡ rows g * 16 * (16 * cols g)
   pub vx : 4 * count g ≤ length (s .vx)
   pub vy : 4 * count g ≤ length (s .vy)
-
-pub four-each : (r c : ℕ) → 4 * (r * c) ≡ r * 2 * (2 * c)
-four-each r c =
-    let m : 4 * r ≡ r * 2 * 2 = omega arith in
-    sym (mul-assoc 4 r c) ∙ ap (λ (x : ℕ). x * c) m ∙ mul-assoc (r * 2) 2 c
 
 module _ (g : Given) (wide : 0 < cols g) where
   pub holds-recon : (p : Slices) (k : ℕ) → k ≤ count g → Sized g p → Holds 16 (cols g) k (p .recon)

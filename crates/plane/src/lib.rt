@@ -1,2 +1,3 @@
 // Planes: the writer, the reader, and what is claimed of both.
+pub mod inner;
 pub mod svq1_plane;

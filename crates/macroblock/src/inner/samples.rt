@@ -11,7 +11,7 @@ ghost use Rattle.motion.specs.Search.{blocksAlong};
 ghost use Rattle.motion.specs.VectorsLaws.{Inside};
 ghost use Rattle.motion.specs.declared.svq1_motion_predictor.Svq1Mv.{Svq1Mv};
 ghost use Rattle.tree.specs.Nodes.{treeOf};
-ghost use Rattle.macroblock.specs.Macroblock.{halfOf, baseline};
+ghost use Rattle.macroblock.specs.Macroblock.{coded, halfOf, baseline};
 ghost use Rattle.macroblock.specs.Motions.{motionOf};
 ghost use Rattle.macroblock.specs.Inner.{givenBy};
 ghost use Rattle.macroblock.specs.Samples.{Stands, Room, Laid, Showing, Shows, quarters};
@@ -138,7 +138,7 @@ pub fn show_coded(
     out: &mut [u8; 256],
 )
     requires { ⌜ Showing (record { samples = now reference; stride = canvas .stride; rows = canvas .rows }) (blocksAlong (canvas .width)) k (length (now raised)) (halfOf (motionOf motion vectors)) (treeOf blocks) × (length (now base) ≡ 256) × (length (now out) ≡ 256) ⌝ }
-    ensures { λ _. ⌜ Shows canvas (now (reference .entry)) (now (raised .entry)) k (motionOf motion vectors) (treeOf blocks) (now (out .exit)) ⌝ }
+    ensures { λ _. ⌜ Shows canvas (now (reference .entry)) (now (raised .entry)) k (coded (motionOf motion vectors) (treeOf blocks)) (now (out .exit)) ⌝ }
 {
     let half = half_of(motion);
     baseline_of(canvas, reference, k, motion, vectors, base);

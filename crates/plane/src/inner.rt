@@ -1,0 +1,148 @@
+// Functions that only the crates of this repository call. Most have a `requires`: the caller, proved too, meets it.
+ghost use mathlib.Core.Path.{_≡_};
+ghost use Prim.Native.Nat.{_*_, _≤_};
+ghost use lib.ListN.{length};
+ghost use Rattle.book.specs.Book.{codebookBytes};
+ghost use Rattle.motion.specs.Search.{largestSide, blocksAlong};
+ghost use Rattle.macroblock.specs.Inner.{givenBy};
+ghost use Rattle.plane.specs.Reader.{lengthsRefusal, PlaneReady, PlaneAccepted, ReadThrough};
+use super::svq1_plane::ReadEnd;
+use leaf::inner::raise_codebook;
+use macroblock::inner::reading::read_macroblock;
+use macroblock::svq1_plane::Svq1PlaneCanvas;
+
+// 20 of a plane of cols x rows macroblocks and `size` samples, by the lengths of its result slices; 0 for none.
+pub fn slices_refusal(
+    cols: usize,
+    rows: usize,
+    size: usize,
+    recon: usize,
+    vx: usize,
+    vy: usize,
+) -> u8
+    requires { ⌜ (cols ≤ blocksAlong largestSide) × (rows ≤ blocksAlong largestSide) ⌝ }
+    ensures { λ r. ⌜ r ≡ lengthsRefusal (rows * cols) size recon vx vy ⌝ }
+{
+    let vectors = 4 * (rows * cols);
+    if vx < vectors {
+        return 20;
+    }
+    if vy < vectors {
+        return 20;
+    }
+    if recon != size {
+        return 20;
+    }
+    0
+}
+
+// A plane that no refusal meets, read from bit `start` on, macroblock by macroblock. `raised` is the raised codebook.
+fn read_blocks(
+    canvas: Svq1PlaneCanvas,
+    reference: &[u8],
+    book: &[u8],
+    codebook: &[u8],
+    raised: &[u8],
+    bytes: &[u8],
+    start: usize,
+    recon: &mut [u8],
+    vx: &mut [u8],
+    vy: &mut [u8],
+) -> ReadEnd
+    requires { ⌜ PlaneReady (givenBy canvas (now reference) (now book) (now codebook)) (now raised) (record { recon = now recon; vx = now vx; vy = now vy }) (length (now bytes)) start ⌝ }
+    ensures { λ r. ⌜ ReadThrough (givenBy canvas (now (reference .entry)) (now (book .entry)) (now (codebook .entry))) (now (bytes .entry)) start (record { recon = now (recon .entry); vx = now (vx .entry); vy = now (vy .entry) }) r (record { recon = now (recon .exit); vx = now (vx .exit); vy = now (vy .exit) }) ⌝ }
+{
+    let count = canvas.rows / 16 * (canvas.stride / 16);
+    let mut k = 0;
+    let mut at = start;
+    while k < count {
+        let r = read_macroblock(
+            canvas,
+            reference,
+            book,
+            codebook,
+            raised,
+            bytes,
+            at,
+            k,
+            recon,
+            vx,
+            vy,
+        );
+        if r.refused != 0 {
+            return ReadEnd {
+                refused: r.refused,
+                done: k,
+                next: at,
+            };
+        }
+        at = r.next;
+        k += 1;
+    }
+    ReadEnd {
+        refused: 0,
+        done: k,
+        next: at,
+    }
+}
+
+// The same; the codebook is raised into `raised` first.
+fn read_raised(
+    canvas: Svq1PlaneCanvas,
+    reference: &[u8],
+    book: &[u8],
+    codebook: &[u8],
+    bytes: &[u8],
+    start: usize,
+    recon: &mut [u8],
+    vx: &mut [u8],
+    vy: &mut [u8],
+    raised: &mut [u8],
+) -> ReadEnd
+    requires { ⌜ PlaneAccepted (givenBy canvas (now reference) (now book) (now codebook)) (record { recon = now recon; vx = now vx; vy = now vy }) (length (now bytes)) start × (length (now raised) ≡ codebookBytes) ⌝ }
+    ensures { λ r. ⌜ ReadThrough (givenBy canvas (now (reference .entry)) (now (book .entry)) (now (codebook .entry))) (now (bytes .entry)) start (record { recon = now (recon .entry); vx = now (vx .entry); vy = now (vy .entry) }) r (record { recon = now (recon .exit); vx = now (vx .exit); vy = now (vy .exit) }) ⌝ }
+{
+    raise_codebook(codebook, raised);
+    read_blocks(
+        canvas,
+        reference,
+        book,
+        codebook,
+        raised,
+        bytes,
+        start,
+        recon,
+        vx,
+        vy,
+    )
+}
+
+// The same with room of its own for the raised codebook.
+pub fn read_accepted(
+    canvas: Svq1PlaneCanvas,
+    reference: &[u8],
+    book: &[u8],
+    codebook: &[u8],
+    bytes: &[u8],
+    start: usize,
+    recon: &mut [u8],
+    vx: &mut [u8],
+    vy: &mut [u8],
+) -> ReadEnd
+    requires { ⌜ PlaneAccepted (givenBy canvas (now reference) (now book) (now codebook)) (record { recon = now recon; vx = now vx; vy = now vy }) (length (now bytes)) start ⌝ }
+    ensures { λ r. ⌜ ReadThrough (givenBy canvas (now (reference .entry)) (now (book .entry)) (now (codebook .entry))) (now (bytes .entry)) start (record { recon = now (recon .entry); vx = now (vx .entry); vy = now (vy .entry) }) r (record { recon = now (recon .exit); vx = now (vx .exit); vy = now (vy .exit) }) ⌝ }
+{
+    let mut raised = [0u8; 23040];
+    read_raised(
+        canvas,
+        reference,
+        book,
+        codebook,
+        bytes,
+        start,
+        recon,
+        vx,
+        vy,
+        &mut raised,
+    )
+}
