@@ -162,10 +162,10 @@ module _ (s book : List ℕ) (n : Near) (at : ℕ) (m : Svq1MbMode) where
   abbrev motionAt : Got Motion
   motionAt = readMotion (byBook book) n (modePosition m) (drop at (bitsOf s))
 
-  pub one-found : (k : ℕ) (v d : Svq1Mv) (next : ℕ) → m ≡ Mode.Inter → Found s (readVector (byBook book) (forOne n) (drop at (bitsOf s))) k v next → Inside v
-      → MotionFound s motionAt (record { refused = k; next = next; motion = One v d; vectors = replicate 4 v })
+  pub one-found : (k : ℕ) (v : Svq1Mv) (next : ℕ) → m ≡ Mode.Inter → Found s (readVector (byBook book) (forOne n) (drop at (bitsOf s))) k v next → Inside v
+      → MotionFound s motionAt (record { refused = k; next = next; motion = One v; vectors = replicate 4 v })
   unfolding readMotion
-  one-found k v d next e f i = rw e (record {
+  one-found k v next e f i = rw e (record {
     found = found-made s (readVector (byBook book) (forOne n) (drop at (bitsOf s))) single k v next f;
     vectors-are = refl;
     inside = (i, (i, (i, (i, tt))));

@@ -116,7 +116,7 @@ module _ (c : MbCandidate) where
     unfolding shown referenceBlock
     shows-skip cols out s e o book codebook b h = o ∙ rw (e, is-skipped s)
 
-    pub shows-coded : (out : List ℕ) → skips (c .mode) ≡ false → Shows v reference raised k m t out → ShowsChoice v reference raised k c out
+    pub shows-coded : (out : List ℕ) → skips (c .mode) ≡ false → Shows v reference raised k (coded m t) out → ShowsChoice v reference raised k c out
     shows-coded out s f book codebook b h = rw (is-coded s) (f book codebook b h)
 
     pub showing : (size : ℕ) → ShowReady v reference size k c → skips (c .mode) ≡ false

@@ -25,7 +25,7 @@ pub struct ReadPosition {
     pub position: usize,
 }
 
-// A mode, two positions (x before y) and a vector with its difference, that were read likewise.
+// A mode, two positions (x before y) and a vector, that were read likewise.
 pub struct ReadMode {
     pub refused: u8,
     pub next: usize,
@@ -43,7 +43,6 @@ pub struct ReadMv {
     pub refused: u8,
     pub next: usize,
     pub mv: Svq1Mv,
-    pub diff: Svq1Mv,
 }
 
 // The code of the table that stands at bit `at`.
@@ -148,6 +147,5 @@ pub fn read_vector(s: &[u8], at: usize, book: &[u8], predictor: Svq1Mv) -> ReadM
         refused: p.refused,
         next: p.next,
         mv,
-        diff: Svq1Mv { x, y },
     }
 }

@@ -132,11 +132,10 @@ fn read_motion(s: &[u8], at: usize, book: &[u8], near: NearBlocks, mode: Svq1MbM
         Svq1MbMode::Inter => {
             let v = read_vector(s, at, book, predict_one(near));
             let mv = v.mv;
-            let diff = v.diff;
             ReadMotion {
                 refused: v.refused,
                 next: v.next,
-                motion: MbMotion::One { mv, diff },
+                motion: MbMotion::One { mv },
                 vectors: [mv; 4],
             }
         }

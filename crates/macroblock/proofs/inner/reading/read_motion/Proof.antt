@@ -36,8 +36,8 @@ no-motion-requires-2 c κs = search needs
 
 returns : tie.Need-returns
 returns c =
-    let a = c .before .before .before .before .before .before .before .before .args in
-    one-found (a .s .now) (a .book .now) (nearFrom (a .near)) (a .at) (a .mode) _ _ _ _ (c .before .before .before .before .enum-told .given .1) (rw (c .before .before .before .predict-one .ensures) at (c .before .before .read-vector .ensures .0)) (c .before .before .read-vector .ensures .1)
+    let a = c .before .before .before .before .before .before .before .args in
+    one-found (a .s .now) (a .book .now) (nearFrom (a .near)) (a .at) (a .mode) _ _ _ (c .before .before .before .enum-told .given .1) (rw (c .before .before .predict-one .ensures) at (c .before .read-vector .ensures .0)) (c .before .read-vector .ensures .1)
 
 returns-2 : tie.Need-returns-2
 returns-2 c =
