@@ -4,9 +4,11 @@ pub mod RunLaws
 pub mod Plane
 pub mod Calls
 pub mod Reader
+pub mod Writer
 pub mod Claim
 pub mod SumLaws
 pub mod SlicesLaws
 pub mod ReaderLaws
+pub mod WriterLaws
 pub mod ClaimLaws
 pub mod StepLaws

@@ -58,15 +58,15 @@ module _ (g : Given) (bytes : List ℕ) (at k : ℕ) (u : Slices) (r : ReadMb) (
 -- ---- the loop
 -- laying keeps the lengths
 module _ (g : Given) (k : ℕ) (d : Choice) (u : Slices) where
-  recon-kept : length (laid g k d u .recon) ≡ length (u .recon)
+  pub recon-kept : length (laid g k d u .recon) ≡ length (u .recon)
   unfolding laid
   recon-kept = length-put 16 (cols g) k _ (u .recon)
 
-  vx-kept : length (laid g k d u .vx) ≡ length (u .vx)
+  pub vx-kept : length (laid g k d u .vx) ≡ length (u .vx)
   unfolding laid
   vx-kept = length-put 2 (cols g) k _ (u .vx)
 
-  vy-kept : length (laid g k d u .vy) ≡ length (u .vy)
+  pub vy-kept : length (laid g k d u .vy) ≡ length (u .vy)
   unfolding laid
   vy-kept = length-put 2 (cols g) k _ (u .vy)
 

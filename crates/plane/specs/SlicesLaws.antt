@@ -3,7 +3,7 @@
 use mathlib.Core.Path.{_≡_, _∙_}
 use Prim.Native.Nat.{ℕ, suc, _*_, _≤_, _<_}
 use native.Mathlib.Omega.{arith}
-use mathlib.Core.List.{map}
+use mathlib.Core.List.{List, map}
 use lib.ListN.{length, drop}
 use Rattle.bits.specs.Basics.{signedByte}
 use Rattle.motion.specs.GridLaws.{Agree, Holds, agree-put, length-put, in-owner, put-past}
@@ -23,13 +23,14 @@ module _ (g : Given) (wide : 0 < cols g) where
   pub holds-recon : (p : Slices) (k : ℕ) → k ≤ count g → Sized g p → Holds 16 (cols g) k (p .recon)
   holds-recon p k h z j l = rw (z .recon) (in-owner 16 (cols g) (omega arith) wide (rows g) j (omega arith))
 
+  pub holds-vectors : (vs : List ℕ) (k : ℕ) → k ≤ count g → 4 * count g ≤ length vs → Holds 2 (cols g) k vs
+  holds-vectors vs k h z j l = omega (arith, in-owner 2 (cols g) (omega arith) wide (rows g) j (omega arith), four-each (rows g) (cols g))
+
   pub holds-vx : (p : Slices) (k : ℕ) → k ≤ count g → Sized g p → Holds 2 (cols g) k (p .vx)
-  holds-vx p k h z j l =
-      omega (arith, in-owner 2 (cols g) (omega arith) wide (rows g) j (omega arith), four-each (rows g) (cols g), z .vx)
+  holds-vx p k h z = holds-vectors (p .vx) k h (z .vx)
 
   pub holds-vy : (p : Slices) (k : ℕ) → k ≤ count g → Sized g p → Holds 2 (cols g) k (p .vy)
-  holds-vy p k h z j l =
-      omega (arith, in-owner 2 (cols g) (omega arith) wide (rows g) j (omega arith), four-each (rows g) (cols g), z .vy)
+  holds-vy p k h z = holds-vectors (p .vy) k h (z .vy)
 
   pub laid-sized : (k : ℕ) (c : Choice) (p : Slices) → Sized g p → Sized g (laid g k c p)
   unfolding laid

@@ -1,15 +1,18 @@
 // Functions that only the crates of this repository call. Most have a `requires`: the caller, proved too, meets it.
+pub mod writing;
+
 ghost use mathlib.Core.Path.{_≡_};
 ghost use Prim.Native.Nat.{_*_, _≤_};
 ghost use lib.ListN.{length};
 ghost use Rattle.book.specs.Book.{codebookBytes};
 ghost use Rattle.motion.specs.Search.{largestSide, blocksAlong};
 ghost use Rattle.macroblock.specs.Inner.{givenBy};
-ghost use Rattle.plane.specs.Reader.{lengthsRefusal, PlaneReady, PlaneAccepted, ReadThrough};
+ghost use Rattle.plane.specs.Reader.{lengthsRefusal, readRefusalBy, PlaneReady, PlaneAccepted, ReadThrough};
 use super::svq1_plane::ReadEnd;
 use leaf::inner::raise_codebook;
 use macroblock::inner::reading::read_macroblock;
 use macroblock::svq1_plane::Svq1PlaneCanvas;
+use motion::svq1_enc_inter::plane_refusal;
 
 // 20 of a plane of cols x rows macroblocks and `size` samples, by the lengths of its result slices; 0 for none.
 pub fn slices_refusal(
@@ -34,6 +37,37 @@ pub fn slices_refusal(
         return 20;
     }
     0
+}
+
+// The refusals of the reader, lowest number first, 20 and 21 behind the others; 0 for none. The result slices are given by their lengths.
+pub fn read_refusal(
+    canvas: Svq1PlaneCanvas,
+    reference: &[u8],
+    book: &[u8],
+    codebook: &[u8],
+    bytes: usize,
+    start: usize,
+    recon: usize,
+    vx: usize,
+    vy: usize,
+) -> u8
+    ensures { λ r. ⌜ r ≡ readRefusalBy (givenBy canvas (now (reference .entry)) (now (book .entry)) (now (codebook .entry))) bytes start recon vx vy ⌝ }
+{
+    let stride = canvas.stride;
+    let rows = canvas.rows;
+    let plane = plane_refusal(reference, canvas.width, canvas.height, stride, rows);
+    if plane != 0 {
+        return plane;
+    }
+    let data = book::book::data_refusal(book, codebook);
+    if data != 0 {
+        return data;
+    }
+    let slices = slices_refusal(stride / 16, rows / 16, stride * rows, recon, vx, vy);
+    if slices != 0 {
+        return slices;
+    }
+    bits::inner::start_refusal(bytes, start)
 }
 
 // A plane that no refusal meets, read from bit `start` on, macroblock by macroblock. `raised` is the raised codebook.

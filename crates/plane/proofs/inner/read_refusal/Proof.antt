@@ -5,8 +5,8 @@ use Rattle.macroblock.specs.Macroblock.{Given}
 use Rattle.macroblock.specs.Inner.{givenBy}
 use Rattle.plane.specs.ReaderLaws.{small-grid, small-canvas, grid-slices, by-plane, by-data, by-slices, by-start}
 use borrow.Author.Needs.{needs}
-use Rattle.plane.proofs.svq1_plane.read_refusal.Statement.{statement}
-use Rattle.plane.proofs.svq1_plane.read_refusal.Tie as tie
+use Rattle.plane.proofs.inner.read_refusal.Statement.{statement}
+use Rattle.plane.proofs.inner.read_refusal.Tie as tie
 
 plane-refusal-requires : tie.Need-plane-refusal-requires
 plane-refusal-requires c κs = search needs
