@@ -1,5 +1,10 @@
 -- The bits of the three parts together. Assumes nothing.
-use mathlib.Core.Path.{refl}
+use mathlib.Core.Path.{_≡_, refl}
+use native.Mathlib.Omega.{arith}
+use lib.ListN.{length}
+use Rattle.macroblock.specs.Macroblock.{motionMode, modeBits}
+use Rattle.macroblock.specs.Motions.{motionOf}
+use Rattle.macroblock.specs.Finding.{byBook}
 use borrow.Author.Needs.{needs}
 use Rattle.macroblock.proofs.inner.candidates.candidate_of.Statement.{statement}
 use Rattle.macroblock.proofs.inner.candidates.candidate_of.Tie as tie
@@ -23,12 +28,13 @@ returns : tie.Need-returns
 returns c =
     let a = c .before .before .before .before .args in
     let e = c .before .before .mode-of .ensures (a .vectors) in
+    let h : c .before .mb-mode-bits .result ≡ length (modeBits (byBook (a .book .now)) (motionMode (motionOf (a .motion) (a .vectors)))) = rw e at (c .before .mb-mode-bits .ensures .is) in
     record {
       mode = e;
       motion-is = refl;
       vectors-are = refl;
       blocks-are = refl;
-      bits-are = rw (c .before .mb-mode-bits .ensures .is, c .motion-bits .ensures .is, e);
+      bits-are = omega (arith, h, c .motion-bits .ensures .is);
       error-is = refl;
     }
 

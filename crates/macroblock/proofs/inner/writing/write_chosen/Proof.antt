@@ -1,4 +1,6 @@
 -- By the one test whether it fits. Assumes nothing.
+use Prim.Native.Nat.{_+_, _*_, _≤_, _<_}
+use native.Mathlib.Omega.{arith}
 use lib.ListN.{length}
 use Rattle.motion.specs.Cache.{nearFrom}
 use Rattle.macroblock.specs.WrittenLaws.{wrote-candidate, wrote-nothing, laid-candidate, laid-nothing}
@@ -37,14 +39,15 @@ returns : tie.Need-returns
 returns c =
     let s = c .before .before .before .before .before .before .before .before .before .before .before .before .before .before .before .before .before .before .before .before .before .before in
     let a = s .args in
-    let f = c .before .before .before .before .before .before .before .before .before .before .before .before .before .before .if1 .taken in
+    let f : a .at + a .c .bits ≤ 8 * length (a .out .now) = omega (arith, c .before .before .before .before .before .before .before .before .before .before .before .before .before .before .if1 .taken) in
     (wrote-candidate (a .book .now) (nearFrom (a .near)) (a .c) (a .out .now) (a .at) (s .pre .0) _ _ f (c .before .before .before .before .before .before .before .before .before .before .before .before .put-candidate .ensures), laid-candidate (a .canvas) (a .reference .now) (a .raised .now) (a .k) (a .c) (length (a .out .now)) (a .at) (a .recon .now) (a .vx .now) (a .vy .now) _ _ _ f (c .before .before .before .before .before .before .lay-candidate .ensures))
 
 returns-2 : tie.Need-returns-2
 returns-2 c =
     let s = c .before .before .before .before .before .before .before .before in
     let a = s .args in
-    (wrote-nothing (a .book .now) (nearFrom (a .near)) (a .c) (a .out .now) (a .at) (s .pre .0) (c .if1 .left), laid-nothing (a .canvas) (a .reference .now) (a .raised .now) (a .k) (a .c) (length (a .out .now)) (a .at) (a .recon .now) (a .vx .now) (a .vy .now) (c .if1 .left))
+    let f : 8 * length (a .out .now) < a .at + a .c .bits = omega (arith, c .if1 .left) in
+    (wrote-nothing (a .book .now) (nearFrom (a .near)) (a .c) (a .out .now) (a .at) (s .pre .0) f, laid-nothing (a .canvas) (a .reference .now) (a .raised .now) (a .k) (a .c) (length (a .out .now)) (a .at) (a .recon .now) (a .vx .now) (a .vy .now) f)
 
 pub write-chosen-spec : {M : Type 1} → statement M
 write-chosen-spec =
