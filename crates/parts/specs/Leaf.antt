@@ -1,28 +1,14 @@
 -- What the leaf search answers, field by field (document 01, `svq1_enc_leaf.rs`, refusals 5 to 8).
 use Prim.Native.Nat.{ℕ, _-_}
 use mathlib.Core.List.{List, _++_}
-use lib.IntN.{ℤ, pos}
+use lib.IntN.{pos}
 use lib.ListN.{length, replicate}
 use Rattle.bits.specs.Calls.{Answer, done, refused}
-use Rattle.leaf.specs.Leaf.{Leaf, skip, coded}
+use Rattle.leaf.specs.Leaf.{Leaf}
 use Rattle.leaf.specs.LeafCall.{LeafChosen}
 use Rattle.leaf.specs.Lent.{sixOf}
+use Rattle.parts.specs.Node.{kindOf, meanOf, countOf}
 use Rattle.parts.specs.declared.leaf_part.LeafPart.{LeafPart}
-
--- 2 for skip, 3 for a mean with its stages
-abbrev pub kindOf : Leaf → ℕ
-kindOf skip = 2
-kindOf (coded m js) = 3
-
--- the mean, 0 for skip
-abbrev pub meanOf : Leaf → ℤ
-meanOf skip = pos 0
-meanOf (coded m js) = m
-
--- how many stages
-abbrev pub countOf : Leaf → ℕ
-countOf skip = 0
-countOf (coded m js) = length js
 
 -- a block's samples, and zeros up to the 256 of a macroblock
 abbrev pub filled : List ℕ → List ℕ

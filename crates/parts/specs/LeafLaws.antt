@@ -1,50 +1,16 @@
 -- Laws of the leaf search's answer.
 -- Assumes nothing.
-use Prim.Native.Nat.{ℕ, suc, _+_, _-_, _<_, min}
-use mathlib.Core.Path.{_≡_, sym, ap, _∙_}
+use Prim.Native.Nat.{ℕ, _-_}
+use mathlib.Core.Path.{_≡_}
 use mathlib.Core.List.{List}
-use native.Mathlib.Numerals.{add-one}
 use native.Mathlib.Omega.{arith}
-use native.Mathlib.Decide.{decLe}
-use lib.IntN.{ℤ}
-use lib.ListN.{length, take, drop, set, getD, replicate, length-take, take-append-drop}
-use lib.Seq.{length-take-le, take-all, take-suc, append-snoc, set-at}
+use lib.ListN.{length, take, drop, replicate, length-take, take-append-drop}
 use borrow.Author.Tests.{eq-eqb, ne-eqb}
-use Rattle.leaf.specs.Leaf.{coded}
-use Rattle.leaf.specs.Lent.{padded}
 use Rattle.leaf.specs.LeafCall.{BlockIn, leafAnswer}
 use Rattle.leaf.specs.LeafAnswer.{LeafAnswered}
 use Rattle.leaf.specs.Raised.{leafOf}
 use Rattle.leaf.specs.declared.svq1_enc_leaf.LeafAnswer.{LeafAnswer}
-use Rattle.parts.specs.declared.leaf_part.LeafPart.{LeafPart}
 use Rattle.parts.specs.Leaf.{filled, partOf, nothing, leafPart}
-
--- one more stage index in front of the zeros
-pub front-put : (stages : List ℕ) (i : ℕ) → length stages ≡ 6 → i < 6 → set (padded (take i stages)) i (getD stages i 0) ≡ padded (take (i + 1) stages)
-front-put stages i six h =
-    let n = length-take-le i stages (omega arith) in
-    let m = length-take-le (suc i) stages (omega arith) in
-    let v = getD stages i 0 in
-    let a : 6 - length (take i stages) ≡ suc (5 - i) = omega arith in
-    let b : 6 - length (take (suc i) stages) ≡ 5 - i = omega arith in
-    let put = set-at (take i stages) 0 (replicate (5 - i) 0) v i n in
-    rw (add-one i, a, b, put, take-suc stages i 0 (omega arith)) (sym (append-snoc (take i stages) v (replicate (5 - i) 0)))
-
--- a count above six takes what six takes
-take-six : (stages : List ℕ) (n : ℕ) → length stages ≡ 6 → take (min 6 n) stages ≡ take n stages
-take-six stages n six =
-    elim (decLe n 6) [
-      | yes h ↦ (let m : min 6 n ≡ n = omega arith in rw m)
-      | no h ↦ (let m : min 6 n ≡ 6 = omega arith in rw m (take-all 6 stages (omega arith) ∙ sym (take-all n stages (omega arith))))
-    ]
-
-pub coded-part : (m : ℤ) (n k : ℕ) (stages front : List ℕ) (bits error : ℕ) (samples : List ℕ) → length stages ≡ 6 → k ≡ min 6 n
-    → front ≡ padded (take k stages)
-    → _≡_ {A = LeafPart} (record { bits = bits; error = error; mean = m; refused = 0; kind = 3; count = k; stages = front; samples = samples }) (partOf (coded m (take n stages)) bits error samples)
-coded-part m n k stages front bits error samples six e f =
-    let t : take k stages ≡ take n stages = ap (λ (i : ℕ). take i stages) e ∙ take-six stages n six in
-    let l : k ≡ length (take n stages) = omega (arith, length-take n stages) in
-    rw (f, t, l)
 
 -- zeros behind a front are what they were
 pub filled-back : (n : ℕ) (s : List ℕ) → length s ≡ 256 → drop n s ≡ replicate (256 - n) 0 → filled (take n s) ≡ s

@@ -1,13 +1,12 @@
 // The leaf search as an exported function.
 ghost use mathlib.Core.Path.{_≡_};
 ghost use mathlib.Core.Bool.{not};
-ghost use Prim.Native.Nat.{_≤_, min};
 ghost use lib.Dec.{eqb};
-ghost use lib.ListN.{length, take};
+ghost use lib.ListN.{length};
 ghost use Rattle.leaf.specs.LeafCall.{leafAnswer};
-ghost use Rattle.leaf.specs.Lent.{padded};
 ghost use Rattle.leaf.specs.Raised.{leafOf};
 ghost use Rattle.parts.specs.Leaf.{partOf, nothing, leafPart};
+use super::inner::leaf_node;
 use leaf::svq1_enc_leaf::LeafCode;
 use leaf::svq1_enc_leaf::search_leaf;
 
@@ -40,27 +39,6 @@ fn refused_part(refused: u8) -> LeafPart
     }
 }
 
-// Six stands for every count above it.
-fn most_six(count: u8) -> u8
-    ensures { λ r. ⌜ (r ≡ min 6 count) × (r ≤ 6) ⌝ }
-{
-    if count < 6 { count } else { 6 }
-}
-
-// The first `count` stage indices, and zeros behind them.
-fn front_of(stages: [u8; 6], count: usize) -> [u8; 6]
-    requires { ⌜ count ≤ 6 ⌝ }
-    ensures { λ r. ⌜ (r ≡ padded (take count stages)) × (length stages ≡ 6) ⌝ }
-{
-    let mut front = [0u8; 6];
-    let mut i = 0;
-    while i < count {
-        front[i] = stages[i];
-        i += 1;
-    }
-    front
-}
-
 // A leaf that was found, field by field. That there are 256 samples is known here, where they come as an array.
 fn found_part(
     code: LeafCode,
@@ -71,31 +49,17 @@ fn found_part(
 ) -> LeafPart
     ensures { λ r. ⌜ (r ≡ partOf (leafOf code stages) bits error samples) × (length samples ≡ 256) ⌝ }
 {
-    match code {
-        LeafCode::Skip => LeafPart {
-            bits,
-            error,
-            mean: 0,
-            refused: 0,
-            kind: 2,
-            count: 0,
-            stages: [0u8; 6],
-            samples,
-        },
-        LeafCode::Coded { mean, count } => {
-            let count = most_six(count);
-            let front = front_of(stages, count as usize);
-            LeafPart {
-                bits,
-                error,
-                mean,
-                refused: 0,
-                kind: 3,
-                count,
-                stages: front,
-                samples,
-            }
-        }
+    let leaf = leaf_node(code, stages);
+    let front = leaf.stages;
+    LeafPart {
+        bits,
+        error,
+        mean: leaf.mean,
+        refused: 0,
+        kind: leaf.kind,
+        count: leaf.count,
+        stages: front,
+        samples,
     }
 }
 

@@ -4,10 +4,10 @@ use Prim.Native.Nat.{_≤_, _<_, _-_}
 use native.Mathlib.Omega.{arith}
 use lib.ListN.{length, take}
 use Rattle.leaf.specs.Lent.{padded}
-use Rattle.parts.specs.LeafLaws.{front-put}
+use Rattle.parts.specs.NodeLaws.{front-put}
 use borrow.Author.Needs.{needs}
-use Rattle.parts.proofs.leaf_part.front_of.Statement.{statement}
-use Rattle.parts.proofs.leaf_part.front_of.Tie as tie
+use Rattle.parts.proofs.inner.front_of.Statement.{statement}
+use Rattle.parts.proofs.inner.front_of.Tie as tie
 
 abbrev Inv-loop : tie.InvT-loop
 Inv-loop count stages front₀ i₀ front i = (i ≤ count) × (length stages ≡ 6) × (front ≡ padded (take i stages))
