@@ -27,4 +27,3 @@ pub mod Written
 pub mod WrittenLaws
 pub mod Chosen
 pub mod ChosenLaws
-pub mod NextLaws

@@ -11,4 +11,5 @@ pub mod SlicesLaws
 pub mod ReaderLaws
 pub mod WriterLaws
 pub mod ClaimLaws
-pub mod StepLaws
+pub mod RoundTrip
+pub mod RoundTripLaws
