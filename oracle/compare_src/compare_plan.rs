@@ -2,13 +2,14 @@
 
 use crate::book::house_codebook;
 use crate::calls::{SeedTables, load_tables};
+use crate::compare_leaf::leaf_node;
 use crate::leaf_calls::{HALVES, LEVELS};
 use crate::ours::{LeafCall, Node, Plan, PlanCall};
 use crate::plan_calls::{BlockInput, block_input, cut, dims};
 use crate::random::Random;
 use crate::stream::unsigned;
 use crate::svq1_enc::BitWriter;
-use crate::svq1_enc_leaf::{LeafCode, search_leaf};
+use crate::svq1_enc_leaf::search_leaf;
 use crate::svq1_enc_tree::{MbPlan, TreeNode, emit_macroblock, plan_reconstruction};
 use crate::tables;
 use crate::tally::Tally;
@@ -18,7 +19,8 @@ pub fn compare(seed: u64, count: u64) -> Result<Tally, String> {
     let mut tally = Tally::default();
     for index in 0..count {
         let input = any_input(seed, index);
-        let want = expected(&input)?;
+        let want =
+            expected(&input).map_err(|told| format!("plan {index} of seed {seed}: {told}"))?;
         let got = call(&input, &lent).ask();
         if got != want {
             return Err(difference(seed, index, &input, &lent, &want, &got));
@@ -70,7 +72,7 @@ fn expected(input: &BlockInput) -> Result<Plan, String> {
     emit_macroblock(&mut writer, &whole, HALVES[input.around.half]);
     let emitted = writer.bits_written() as u32 - more;
     if emitted != plan.bits {
-        return Err(format!("{emitted} bits emitted, {} planned", plan.bits));
+        return Err(format!("the original emits {emitted} bits, {} planned", plan.bits));
     }
     let (width, height) = dims(input.level);
     let shown = cut(&plan_reconstruction(&whole), 0, 0, width, height);
@@ -93,20 +95,8 @@ fn put(nodes: &mut [Node; 63], number: usize, node: &TreeNode) {
             put(nodes, 2 * number + 1, one);
             put(nodes, 2 * number + 2, two);
         }
-        TreeNode::Leaf(choice) => nodes[number] = leaf(&choice.code),
+        TreeNode::Leaf(choice) => nodes[number] = leaf_node(&choice.code),
     }
-}
-
-fn leaf(code: &LeafCode) -> Node {
-    let mut node = Node::none();
-    node.kind = 2;
-    if let LeafCode::Coded { mean, stages } = code {
-        node.kind = 3;
-        node.mean = *mean;
-        node.count = stages.len() as u8;
-        node.stages[..stages.len()].copy_from_slice(stages);
-    }
-    node
 }
 
 /// The plan at the first block of its level in a macroblock, which is what
