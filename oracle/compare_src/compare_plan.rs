@@ -72,7 +72,10 @@ fn expected(input: &BlockInput) -> Result<Plan, String> {
     emit_macroblock(&mut writer, &whole, HALVES[input.around.half]);
     let emitted = writer.bits_written() as u32 - more;
     if emitted != plan.bits {
-        return Err(format!("the original emits {emitted} bits, {} planned", plan.bits));
+        return Err(format!(
+            "the original emits {emitted} bits, {} planned",
+            plan.bits
+        ));
     }
     let (width, height) = dims(input.level);
     let shown = cut(&plan_reconstruction(&whole), 0, 0, width, height);
