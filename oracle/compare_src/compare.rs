@@ -7,6 +7,7 @@
 include!("modules.rs");
 
 mod compare_leaf;
+mod compare_plan;
 mod compare_search;
 mod none;
 mod ours;
@@ -17,6 +18,7 @@ use std::process::ExitCode;
 
 const USAGE: &str = "usage:
   compare leaf SEED N      N random leaf searches under the seed's book and codebook
+  compare plan SEED N      N random plans of blocks, likewise
   compare search SEED N    N random motion searches
   compare none             where the original's motion search has no answer
   compare refusals         calls that have to be refused";
@@ -39,6 +41,7 @@ fn main() -> ExitCode {
 fn dispatch(words: &[&str]) -> Result<tally::Tally, String> {
     match *words {
         ["leaf", seed, count] => compare_leaf::compare(number(seed)?, number(count)?),
+        ["plan", seed, count] => compare_plan::compare(number(seed)?, number(count)?),
         ["search", seed, count] => compare_search::compare(number(seed)?, number(count)?),
         ["none"] => none::none(),
         ["refusals"] => refusals::refusals(),

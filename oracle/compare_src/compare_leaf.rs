@@ -3,7 +3,7 @@
 use crate::book::house_codebook;
 use crate::calls::{SeedTables, load_tables};
 use crate::leaf_calls::{LeafInput, leaf_input};
-use crate::ours::{Leaf, LeafCall};
+use crate::ours::{Leaf, LeafCall, Node};
 use crate::random::Random;
 use crate::stream::unsigned;
 use crate::svq1_enc_leaf::{LeafChoice, LeafCode};
@@ -40,18 +40,29 @@ fn call(input: &LeafInput, lent: &SeedTables) -> LeafCall {
 
 /// The original's answer in the form of ours.
 fn expected(choice: &LeafChoice) -> Leaf {
+    let node = leaf_node(&choice.code);
     let mut leaf = Leaf::refused(0);
-    leaf.kind = 2;
-    if let LeafCode::Coded { mean, stages } = &choice.code {
-        leaf.kind = 3;
-        leaf.mean = *mean;
-        leaf.count = stages.len() as u8;
-        leaf.stages[..stages.len()].copy_from_slice(stages);
-    }
+    leaf.kind = node.kind;
+    leaf.mean = node.mean;
+    leaf.count = node.count;
+    leaf.stages = node.stages;
     leaf.bits = choice.bits;
     leaf.error = choice.sse.try_into().expect("an error of 32 bits");
     leaf.samples[..choice.recon.len()].copy_from_slice(&choice.recon);
     leaf
+}
+
+/// A leaf as a block of a tree.
+pub fn leaf_node(code: &LeafCode) -> Node {
+    let mut node = Node::none();
+    node.kind = 2;
+    if let LeafCode::Coded { mean, stages } = code {
+        node.kind = 3;
+        node.mean = *mean;
+        node.count = stages.len() as u8;
+        node.stages[..stages.len()].copy_from_slice(stages);
+    }
+    node
 }
 
 fn note(tally: &mut Tally, input: &LeafInput, leaf: &Leaf, lent: &SeedTables) {

@@ -30,6 +30,52 @@ impl Leaf {
     }
 }
 
+/// A block of a plan's tree.
+#[repr(C)]
+#[derive(Clone, Copy, Debug, PartialEq, Eq)]
+pub struct Node {
+    pub mean: i16,
+    /// 0 not reached, 1 split, 2 skip, 3 coded.
+    pub kind: u8,
+    pub count: u8,
+    pub stages: [u8; 6],
+}
+
+impl Node {
+    /// A block that is not reached.
+    pub fn none() -> Self {
+        Self {
+            mean: 0,
+            kind: 0,
+            count: 0,
+            stages: [0; 6],
+        }
+    }
+}
+
+#[repr(C)]
+#[derive(Clone, Copy, Debug, PartialEq, Eq)]
+pub struct Plan {
+    pub bits: u32,
+    pub error: u32,
+    pub nodes: [Node; 63],
+    pub refused: u8,
+    pub samples: [u8; 256],
+}
+
+impl Plan {
+    /// A refusal's number and zeros.
+    pub fn refused(refused: u8) -> Self {
+        Self {
+            bits: 0,
+            error: 0,
+            nodes: [Node::none(); 63],
+            refused,
+            samples: [0; 256],
+        }
+    }
+}
+
 #[repr(C)]
 #[derive(Clone, Copy, Debug, PartialEq, Eq)]
 pub struct Vector {
@@ -64,6 +110,22 @@ unsafe extern "C" {
         cap: u8,
         skip: u8,
     ) -> Leaf;
+
+    fn parts_plan_macroblock(
+        book: *const u8,
+        book_length: usize,
+        codebook: *const u8,
+        codebook_length: usize,
+        level: u8,
+        half: u8,
+        target: *const u8,
+        target_length: usize,
+        predictor: *const u8,
+        predictor_length: usize,
+        cap: u8,
+        skip: u8,
+        lambda: u64,
+    ) -> Plan;
 
     fn parts_search_motion_vector(
         reference: *const u8,
@@ -114,6 +176,37 @@ impl LeafCall {
                 self.predictor.len(),
                 self.cap,
                 self.skip,
+            )
+        }
+    }
+}
+
+/// What a plan is asked, right or wrong.
+#[derive(Clone)]
+pub struct PlanCall {
+    pub block: LeafCall,
+    pub lambda: u64,
+}
+
+impl PlanCall {
+    pub fn ask(&self) -> Plan {
+        let block = &self.block;
+        // Safety: as above.
+        unsafe {
+            parts_plan_macroblock(
+                block.book.as_ptr(),
+                block.book.len(),
+                block.codebook.as_ptr(),
+                block.codebook.len(),
+                block.level,
+                block.half,
+                block.target.as_ptr(),
+                block.target.len(),
+                block.predictor.as_ptr(),
+                block.predictor.len(),
+                block.cap,
+                block.skip,
+                self.lambda,
             )
         }
     }

@@ -2,7 +2,7 @@
 //! wanted stands here: the lowest number that applies, and zeros.
 
 use crate::book::{Book, Table, house_codebook};
-use crate::ours::{Leaf, LeafCall, Vector, VectorCall};
+use crate::ours::{Leaf, LeafCall, Plan, PlanCall, Vector, VectorCall};
 use crate::stream::unsigned;
 use crate::tally::Tally;
 
@@ -17,6 +17,15 @@ pub fn refusals() -> Result<Tally, String> {
         }
         tally.one(format!("leaf call answered {want}"));
     }
+    for (name, want, change) in LEAVES {
+        let mut block = good_leaf();
+        change(&mut block);
+        let got = PlanCall { block, lambda: 20 }.ask();
+        if *want == 0 && got.refused != 0 || *want != 0 && got != Plan::refused(*want) {
+            return Err(format!("plan, {name}: wanted {want}, got {got:?}"));
+        }
+        tally.one(format!("plan call answered {want}"));
+    }
     for (name, want, change) in SEARCHES {
         let mut call = good_search();
         change(&mut call);
@@ -29,7 +38,7 @@ pub fn refusals() -> Result<Tally, String> {
     Ok(tally)
 }
 
-// ---- leaf ----
+// ---- leaf, and plan: both refuse the same blocks ----
 
 fn good_leaf() -> LeafCall {
     LeafCall {

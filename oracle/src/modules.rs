@@ -12,6 +12,7 @@ mod job;
 mod leaf_calls;
 mod make;
 mod motion_calls;
+mod plan_calls;
 mod random;
 mod stream;
 mod tables;
