@@ -8,9 +8,13 @@ include!("modules.rs");
 
 mod compare_leaf;
 mod compare_plan;
+mod compare_plane;
 mod compare_search;
 mod none;
 mod ours;
+mod ours_plane;
+mod plane_refusals;
+mod plane_wanted;
 mod refusals;
 mod tally;
 
@@ -20,6 +24,9 @@ const USAGE: &str = "usage:
   compare leaf SEED N      N random leaf searches under the seed's book and codebook
   compare plan SEED N      N random plans of blocks, likewise
   compare search SEED N    N random motion searches
+  compare plane SEED N     N random planes under the seed's book and codebook
+  compare plane SEED N LARGEST
+                           the same, no side longer than LARGEST
   compare none             where the original's motion search has no answer
   compare refusals         calls that have to be refused";
 
@@ -43,6 +50,10 @@ fn dispatch(words: &[&str]) -> Result<tally::Tally, String> {
         ["leaf", seed, count] => compare_leaf::compare(number(seed)?, number(count)?),
         ["plan", seed, count] => compare_plan::compare(number(seed)?, number(count)?),
         ["search", seed, count] => compare_search::compare(number(seed)?, number(count)?),
+        ["plane", seed, count] => compare_plane::compare(number(seed)?, number(count)?, None),
+        ["plane", seed, count, side] => {
+            compare_plane::compare(number(seed)?, number(count)?, Some(number(side)?))
+        }
         ["none"] => none::none(),
         ["refusals"] => refusals::refusals(),
         _ => Err(USAGE.into()),

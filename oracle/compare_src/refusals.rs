@@ -3,6 +3,7 @@
 
 use crate::book::{Book, Table, house_codebook};
 use crate::ours::{Leaf, LeafCall, Plan, PlanCall, Vector, VectorCall};
+use crate::plane_refusals;
 use crate::stream::unsigned;
 use crate::tally::Tally;
 
@@ -35,6 +36,7 @@ pub fn refusals() -> Result<Tally, String> {
         }
         tally.one(format!("search call answered {want}"));
     }
+    plane_refusals::refusals(&mut tally)?;
     Ok(tally)
 }
 

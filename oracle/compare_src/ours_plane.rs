@@ -1,0 +1,158 @@
+//! The proved plane writer and plane reader, linked from the static library
+//! of the crate `parts`.
+
+#[repr(C)]
+#[derive(Clone, Copy, Debug, PartialEq, Eq)]
+pub struct Written {
+    pub refused: u8,
+    pub done: usize,
+    pub next: usize,
+    pub bits: u64,
+    pub error: u64,
+}
+
+#[repr(C)]
+#[derive(Clone, Copy, Debug, PartialEq, Eq)]
+pub struct Read {
+    pub refused: u8,
+    pub done: usize,
+    pub next: usize,
+}
+
+unsafe extern "C" {
+    fn parts_encode_inter_plane(
+        width: usize,
+        height: usize,
+        stride: usize,
+        rows: usize,
+        source: *const u8,
+        source_length: usize,
+        reference: *const u8,
+        reference_length: usize,
+        book: *const u8,
+        book_length: usize,
+        codebook: *const u8,
+        codebook_length: usize,
+        lambda: u64,
+        radius: u8,
+        four: u8,
+        out: *mut u8,
+        out_length: usize,
+        start: usize,
+        recon: *mut u8,
+        recon_length: usize,
+        vx: *mut u8,
+        vx_length: usize,
+        vy: *mut u8,
+        vy_length: usize,
+    ) -> Written;
+
+    fn parts_decode_inter_plane(
+        width: usize,
+        height: usize,
+        stride: usize,
+        rows: usize,
+        reference: *const u8,
+        reference_length: usize,
+        book: *const u8,
+        book_length: usize,
+        codebook: *const u8,
+        codebook_length: usize,
+        bytes: *const u8,
+        bytes_length: usize,
+        start: usize,
+        recon: *mut u8,
+        recon_length: usize,
+        vx: *mut u8,
+        vx_length: usize,
+        vy: *mut u8,
+        vy_length: usize,
+    ) -> Read;
+}
+
+/// What a plane call is asked, right or wrong.
+#[derive(Clone)]
+pub struct PlaneCall {
+    pub width: usize,
+    pub height: usize,
+    pub stride: usize,
+    pub rows: usize,
+    pub source: Vec<u8>,
+    pub reference: Vec<u8>,
+    pub book: Vec<u8>,
+    pub codebook: Vec<u8>,
+    pub lambda: u64,
+    pub radius: u8,
+    pub four: u8,
+}
+
+/// What a plane call is lent to write to; the reader only reads `out`.
+#[derive(Clone, Debug, PartialEq, Eq)]
+pub struct Lent {
+    pub out: Vec<u8>,
+    pub recon: Vec<u8>,
+    pub vx: Vec<u8>,
+    pub vy: Vec<u8>,
+}
+
+impl PlaneCall {
+    pub fn write(&self, lent: &mut Lent, start: usize) -> Written {
+        // Safety: each pointer is a slice's, with that slice's length, no
+        // two of those written overlap, and the function takes any numbers.
+        unsafe {
+            parts_encode_inter_plane(
+                self.width,
+                self.height,
+                self.stride,
+                self.rows,
+                self.source.as_ptr(),
+                self.source.len(),
+                self.reference.as_ptr(),
+                self.reference.len(),
+                self.book.as_ptr(),
+                self.book.len(),
+                self.codebook.as_ptr(),
+                self.codebook.len(),
+                self.lambda,
+                self.radius,
+                self.four,
+                lent.out.as_mut_ptr(),
+                lent.out.len(),
+                start,
+                lent.recon.as_mut_ptr(),
+                lent.recon.len(),
+                lent.vx.as_mut_ptr(),
+                lent.vx.len(),
+                lent.vy.as_mut_ptr(),
+                lent.vy.len(),
+            )
+        }
+    }
+
+    pub fn read(&self, lent: &mut Lent, start: usize) -> Read {
+        // Safety: as above.
+        unsafe {
+            parts_decode_inter_plane(
+                self.width,
+                self.height,
+                self.stride,
+                self.rows,
+                self.reference.as_ptr(),
+                self.reference.len(),
+                self.book.as_ptr(),
+                self.book.len(),
+                self.codebook.as_ptr(),
+                self.codebook.len(),
+                lent.out.as_ptr(),
+                lent.out.len(),
+                start,
+                lent.recon.as_mut_ptr(),
+                lent.recon.len(),
+                lent.vx.as_mut_ptr(),
+                lent.vx.len(),
+                lent.vy.as_mut_ptr(),
+                lent.vy.len(),
+            )
+        }
+    }
+}
