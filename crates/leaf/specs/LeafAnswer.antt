@@ -57,10 +57,11 @@ pub record LevelChosen (h : Svq1Half) (d : ℕ) (t p raised : List ℕ) (cap : �
   pub chosen : Chosen h t p raised (pageStart h d) (capAt d cap) allowSkip code stages error (take (length t) left)
   pub behind : drop (length t) left ≡ drop (length t) out
 
--- a call's answer: by the definition, and the samples behind the block's are 0
+-- a call's answer: by the definition; the samples behind the block's are 0; a refused one is its number and nothing else
 pub record LeafAnswered (b : BlockIn) (r : LeafAnswer) : Type 0 where
   pub answer : leafAnswerOf (length (b .target)) r ≡ leafAnswer b
   pub behind : drop (length (b .target)) (r .samples) ≡ replicate (256 - length (b .target)) 0
+  pub bare : (r .refused ≡ 0 → ⊥) → r ≡ refusedAnswer (r .refused)
 
 -- what an accepted call asks of its parts: a book and a codebook that pass, room for the copy, and a block of its level
 pub record Searchable (book codebook raised : List ℕ) (d : ℕ) (h : Svq1Half) (t p : List ℕ) (cap : ℕ) (allowSkip : Bool) : Type 0 where

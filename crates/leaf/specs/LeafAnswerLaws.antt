@@ -125,7 +125,7 @@ module _ (b : BlockIn) (x : ℕ) (e : x ≡ dataRefusal (b .book) (b .codebook))
       p ∙ ap (λ (t : Bool). unless t 8) (q ∙ sym (fits-is b)) ∙ sym (or-next (dataRefusal (b .book) (b .codebook)) (unless (blockOk b) 8) (sym e ∙ z))
 
 -- ---- the answers
-drop-replicate : (k n : ℕ) → drop {A = ℕ} k (replicate n 0) ≡ replicate (n - k) 0
+pub drop-replicate : (k n : ℕ) → drop {A = ℕ} k (replicate n 0) ≡ replicate (n - k) 0
 drop-replicate zero n =
     let z : n - 0 ≡ n = omega arith in
     rw z
@@ -142,6 +142,7 @@ answer-refused b n e h =
     record {
       answer = rw (← e, ne-eqb n 0 h);
       behind = drop-replicate (length (b .target)) 256;
+      bare = λ z. refl;
     }
 
 -- what was found, counted, and put at the front of 256 zeros
@@ -155,6 +156,7 @@ answer-found b r e z f c d =
     record {
       answer = rw (z, eq-eqb (blockRefusal b) 0 e, c, f .erring, f .shown, f .leaf);
       behind = d ∙ drop-replicate (length (b .target)) 256;
+      bare = λ n. absurd (n z);
     }
 
 -- the leaf found may stand at its level, so its mean has an entry

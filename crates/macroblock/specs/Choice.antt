@@ -16,7 +16,7 @@ use Rattle.motion.specs.Neighbours.{Near, forOne, forFirst, forSecond, forThird
 use Rattle.motion.specs.Grid.{part}
 use Rattle.motion.specs.Search.{Search, searched}
 use Rattle.tree.specs.Blocks.{gather}
-use Rattle.tree.specs.Plan.{Weight, Planning, total, cost}
+use Rattle.tree.specs.Plan.{Weight, Planning, cost}
 use Rattle.tree.specs.TreeBits.{planTree}
 use Rattle.macroblock.specs.Macroblock.{Given, cols, Motion, still, single, four, Choice, skipped, coded, halfOf, leftOf, topOf, baseline, shown, choiceBits}
 

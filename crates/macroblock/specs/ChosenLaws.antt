@@ -3,10 +3,9 @@
 use mathlib.Core.Path.{_≡_, refl, sym, ap, _∙_}
 use mathlib.Core.Bool.{Bool, true, false, true≢false}
 use mathlib.Core.List.{List, [], _∷_}
-use Prim.Native.Nat.{ℕ, _≤_, _<_}
+use Prim.Native.Nat.{ℕ, _≤_}
 use native.Mathlib.Omega.{arith}
-use native.Mathlib.Decide.{decLt}
-use lib.ListN.{length, getD, List·getD-eq-default}
+use lib.ListN.{length}
 use Rattle.bits.specs.Basics.{pick, All, Bytes}
 use Rattle.book.specs.Book.{tablesOf}
 use Rattle.book.specs.BookLaws.{good-tables, data-passes}
@@ -17,14 +16,12 @@ use Rattle.leaf.specs.RasterLaws.{raised-length}
 use Rattle.motion.specs.declared.svq1_motion_predictor.Svq1Mv.{Svq1Mv}
 use Rattle.motion.specs.Neighbours.{Near}
 use Rattle.motion.specs.NeighboursLaws.{Around, around}
-use Rattle.tree.specs.Blocks.{blockCount, level}
 use Rattle.tree.specs.Nodes.{treeOf}
-use Rattle.tree.specs.Plan.{Planning, Weight, root, leafAt, planSplits}
-use Rattle.tree.specs.PlanClaimLaws.{Planned, allowed, plan-bits, plan-error, plan-short}
-use Rattle.tree.specs.ShownLaws.{allowed-sound}
-use Rattle.tree.specs.TreeBits.{Node, Off, Split, Ends, reached, grow, planTree, treeBits}
-use Rattle.tree.specs.TreeLaws.{length-grow, grown}
-use Rattle.tree.specs.Walk.{SoundNode, SoundTree}
+use Rattle.tree.specs.Plan.{Planning, Weight}
+use Rattle.tree.specs.PlanClaimLaws.{Planned, plan-bits, plan-error, plan-short}
+use Rattle.tree.specs.PlanCallLaws.{plan-sound}
+use Rattle.tree.specs.TreeBits.{planTree, treeBits}
+use Rattle.tree.specs.Walk.{SoundTree}
 use Rattle.macroblock.specs.declared.inner.candidates.MbCandidate.{MbCandidate}
 use Rattle.macroblock.specs.declared.svq1_enc_inter.MbMotion.{MbMotion}
 use Rattle.macroblock.specs.declared.svq1_plane.Svq1PlaneCanvas.{Svq1PlaneCanvas}
@@ -47,32 +44,6 @@ use Rattle.macroblock.specs.Written.{Codes, LayReady, WriteReady, Candid
 use Rattle.tree.specs.Planning.{PlanReady, PlanFound, planningIn}
 use Rattle.tree.specs.declared.svq1_enc_tree.MbPlan.{MbPlan}
 use Rattle.macroblock.specs.Chosen.{taskBy, planningBy, Placing, Sourced, Carries, Made, ChosenFor, ChosenBy}
-
--- ---- the leaves of a plan can be written and shown
-module _ (g : Planning) (p : Planned g) where
-  choice-sound : (i : ℕ) (f : Bool) → SoundNode (g .tables .half) (level i) (pick f Split (Ends (leafAt g i)))
-  choice-sound i true = tt
-  choice-sound i false = allowed-sound (g .tables) (level i) (leafAt g i) (allowed g p i)
-
-  node-sound : (i : ℕ) (r : Bool) → SoundNode (g .tables .half) (level i) (pick r (pick (planSplits g i) Split (Ends (leafAt g i))) Off)
-  node-sound i true = choice-sound i (planSplits g i)
-  node-sound i false = tt
-
-  pub plan-sound : SoundTree (g .tables .half) (planTree g)
-  unfolding planTree
-  plan-sound i = go (decLt i blockCount)
-    where
-      choose : ℕ → Node
-      choose j = pick (planSplits g j) Split (Ends (leafAt g j))
-
-      tree : List Node
-      tree = grow (root g) choose blockCount
-
-      go : Dec (i < blockCount) → SoundNode (g .tables .half) (level i) (getD tree i Off)
-      go (yes l) = rw (grown (root g) choose blockCount i l) (node-sound i (reached (root g) tree i))
-      go (no l) =
-          let e : getD tree i Off ≡ Off = List·getD-eq-default tree Off (rw (length-grow (root g) choose blockCount) (omega arith)) in
-          rw e tt
 
 -- ---- a motion's plan
 bare : Task

@@ -1,12 +1,11 @@
 -- What a macroblock can be coded as: motions, the samples and vectors that they leave, and their bits (document 01, `svq1_enc_inter.rs`, "Reading").
 use Prim.Native.Nat.{ℕ, _+_, _*_, _/_, _%_}
-use mathlib.Core.Bool.{Bool, true, false}
 use mathlib.Core.List.{List, [], _∷_, _++_}
-use lib.ListN.{length, replicate, getD}
+use lib.ListN.{replicate, getD}
 use lib.IntN.{_-ℤ_}
 use Rattle.bits.specs.Basics.{valuesFrom}
 use Rattle.bits.specs.Codes.{codesOf, code}
-use Rattle.book.specs.Book.{Tables, tablesOf, modeTable, vectorTable}
+use Rattle.book.specs.Book.{tablesOf, modeTable, vectorTable}
 use Rattle.book.specs.declared.svq1_vlc.Svq1Half.{Svq1Half}
 use Rattle.book.specs.declared.svq1_vlc.Svq1Half.the-variants.{Intra, Inter}
 use Rattle.leaf.specs.Codebook.{vectorAt}

@@ -1,19 +1,19 @@
 -- Laws of one macroblock: every mode tried is read back from its bits, shows a block of bytes and saturates no cost; none is cheaper than the one chosen.
 -- Assumes nothing.
-use mathlib.Core.Path.{_≡_, refl, sym, ap, _∙_}
+use mathlib.Core.Path.{_≡_, refl, ap, _∙_}
 use mathlib.Core.Bool.{Bool, true, false, _&&_, _||_}
 use mathlib.Core.List.{List, [], _∷_, _++_, append-assoc, map}
 use mathlib.Core.Option.{Option, none, some}
-use Prim.Native.Nat.{ℕ, zero, suc, _+_, _-_, _*_, _/_, _%_, _^_, _≤_, _<_, min}
+use Prim.Native.Nat.{ℕ, zero, suc, _+_, _-_, _*_, _^_, _≤_, _<_}
 use native.Mathlib.Omega.{arith}
 use native.Mathlib.Nat.{mul-le-mul, le-refl, le-of-eq, le-of-lt, le-trans}
-use lib.Dec.{eqb, leb, ltb}
+use lib.Dec.{eqb, ltb}
 use borrow.Author.Tests.{ltb-true, ltb-false, eqb-true}
 use lib.IntN.{_-ℤ_}
-use lib.ListN.{length, getD, replicate, length-append, length-replicate}
+use lib.ListN.{length, replicate, length-append, length-replicate}
 use Rattle.bits.specs.Basics.{pick, All, Bytes}
 use Rattle.bits.specs.BasicsLaws.{both-true, length-values}
-use Rattle.bits.specs.Codes.{code, codesOf, Got, got, then}
+use Rattle.bits.specs.Codes.{code, got}
 use Rattle.bits.specs.CodeReadLaws.{take-code}
 use Rattle.book.specs.Book.{tablesOf, modeTable, vectorTable, bookRefusal}
 use Rattle.bits.specs.CodesLaws.{code-most}
@@ -24,25 +24,23 @@ use Rattle.leaf.specs.Codebook.{vectorAt}
 use Rattle.leaf.specs.Leaf.{sse}
 use Rattle.leaf.specs.LeafLaws.{vectors-sized}
 use Rattle.motion.specs.declared.svq1_motion_predictor.Svq1Mv.{Svq1Mv}
-use Rattle.motion.specs.Vectors.{zeroMv, placeOf}
+use Rattle.motion.specs.Vectors.{placeOf}
 use Rattle.motion.specs.VectorsLaws.{Codable, Inside, place-lt, final-back, codable-inside, zero-inside}
 use Rattle.motion.specs.Neighbours.{Near, forOne, forFirst, forSecond, forThird, forFourth}
 use Rattle.motion.specs.Grid.{part}
-use Rattle.motion.specs.GridLaws.{length-part}
-use Rattle.motion.specs.Compensation.{Canvas, movedSample}
 use Rattle.motion.specs.CompensationLaws.{bytes-list, moved-byte, bytes-moved, length-moved}
-use Rattle.motion.specs.Search.{Search, searched}
+use Rattle.motion.specs.Search.{searched}
 use Rattle.motion.specs.SearchLaws.{found}
 use Rattle.tree.specs.RowsLaws.{sse-most}
-use Rattle.tree.specs.Plan.{Weight, Planning, total, cost, prunedCost}
+use Rattle.tree.specs.Plan.{total, cost, prunedCost}
 use Rattle.tree.specs.PlanClaim.{largestLambda, planCost}
 use Rattle.tree.specs.PlanClaimLaws.{Planned, plan-short, plan-long, plan-bytes, plan-cheapest, plan-reads}
-use Rattle.tree.specs.TreeBits.{Node, planTree, treeBits, treeShown, readTree}
+use Rattle.tree.specs.TreeBits.{Node, planTree, treeBits, treeShown}
 use Rattle.macroblock.specs.declared.svq1_enc_inter.Svq1MbMode.{Svq1MbMode}
 use Rattle.macroblock.specs.declared.svq1_enc_inter.Svq1MbMode.the-variants as Mode
 use Rattle.macroblock.specs.Mode.{modePosition}
-use Rattle.macroblock.specs.Macroblock.{Given, cols, rows, Motion, still, single, four, Choice, skipped, coded, motionMode, halfOf, vectorsOf, leftOf, topOf, referenceBlock, vectorFor, baseline, shown, modeCodes, vectorCodes, vectorBits, motionBits, modeBits, choiceBits}
-use Rattle.macroblock.specs.Choice.{Task, paddedSource, target, searchFor, blockSearchFor, ifFound, singleTried, fourTried, motionsTried, skipsLeaves, planningFor, tried, weightOf, beats, bestOf, bestFrom, chosen}
+use Rattle.macroblock.specs.Macroblock.{Given, cols, Motion, still, single, four, Choice, skipped, coded, motionMode, halfOf, vectorsOf, leftOf, topOf, referenceBlock, vectorFor, baseline, shown, modeCodes, vectorCodes, vectorBits, motionBits, modeBits, choiceBits}
+use Rattle.macroblock.specs.Choice.{Task, paddedSource, target, searchFor, blockSearchFor, ifFound, singleTried, fourTried, motionsTried, skipsLeaves, planningFor, tried, weightOf, beats, bestOf, chosen}
 use Rattle.macroblock.specs.Reading.{readVector, readCoded, readBehind, readMacroblock}
 
 -- ---- a block of 256 bytes

@@ -1,5 +1,5 @@
 ghost use mathlib.Core.Path.{_≡_};
-ghost use Prim.Native.Nat.{ℕ, _<_};
+ghost use Prim.Native.Nat.{_<_};
 ghost use Rattle.macroblock.specs.Mode.{modePosition};
 use motion::svq1_motion_predictor::Svq1Mv;
 

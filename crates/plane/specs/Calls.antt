@@ -1,6 +1,6 @@
 -- The plane calls: their refusals in order, their answers, and every byte they leave (document 01, "Refused for what came in", "Refused for the state met").
 use Prim.Native.Nat.{ℕ, _*_}
-use mathlib.Core.Bool.{Bool, true, false, _&&_}
+use mathlib.Core.Bool.{_&&_}
 use mathlib.Core.List.{List}
 use mathlib.Core.Path.{_≡_}
 use lib.Dec.{eqb, leb}

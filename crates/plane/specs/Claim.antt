@@ -1,5 +1,5 @@
 -- The claim about a whole plane, written and read back (document 00, demand 3; document 01, "Behind demand 3").
-use Prim.Native.Nat.{ℕ, suc, _+_, _*_, _^_, _≤_, _<_}
+use Prim.Native.Nat.{ℕ, suc, _+_, _*_, _≤_, _<_}
 use mathlib.Core.Bool.{Bool}
 use mathlib.Core.List.{List}
 use mathlib.Core.Path.{_≡_}
@@ -8,14 +8,13 @@ use Rattle.bits.specs.Basics.{All, Bytes, sum}
 use Rattle.bits.specs.Bits.{bitsOf, putBits}
 use Rattle.leaf.specs.Leaf.{sse}
 use Rattle.motion.specs.Grid.{part}
-use Rattle.tree.specs.Plan.{Weight, total, prunedCost}
+use Rattle.tree.specs.Plan.{total, prunedCost}
 use Rattle.tree.specs.PlanClaim.{largestLambda, planCost}
 use Rattle.macroblock.specs.declared.svq1_enc_inter.Svq1MbMode.the-variants.{Skip}
 use Rattle.macroblock.specs.Macroblock.{Given, cols, Choice, modeBits}
 use Rattle.macroblock.specs.Choice.{Task, paddedSource, target, motionsTried, planningFor, tried, weightOf}
-use Rattle.plane.specs.Run.{End}
 use Rattle.macroblock.specs.Slices.{Slices, near}
-use Rattle.plane.specs.Plane.{count, Writing, wrote, wroteWeight, wroteBits, writePlane, writingAt, ReadingState, readUpTo, readPlane}
+use Rattle.plane.specs.Plane.{count, Writing, wrote, wroteWeight, wroteBits, writePlane, writingAt, readUpTo, readPlane}
 use Rattle.plane.specs.Calls.{writeRefusal, readRefusal, slicesRefusal}
 
 -- macroblock k, written in state s, leads to state u: it appends exactly the bits that it states

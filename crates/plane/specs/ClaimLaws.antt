@@ -1,28 +1,28 @@
 -- The claim about a whole plane holds: of every accepted plane that is written to its last macroblock.
 -- Assumes nothing.
 use mathlib.Core.Path.{_≡_, refl, sym, ap, ap₂, _∙_}
-use Prim.Native.Nat.{ℕ, zero, suc, _+_, _-_, _*_, _/_, _≤_, _<_}
+use Prim.Native.Nat.{ℕ, zero, suc, _+_, _-_, _*_, _≤_, _<_}
 use native.Mathlib.Omega.{arith}
-use native.Mathlib.Nat.{add-zero, zero-add, add-suc, suc-add, le-refl, mul-add, mul-suc, mul-assoc, mul-comm}
-use mathlib.Core.Bool.{Bool, true, _&&_}
+use native.Mathlib.Nat.{add-zero, zero-add, add-suc, suc-add, le-refl, mul-add, mul-suc, mul-comm}
+use mathlib.Core.Bool.{true, _&&_}
 use mathlib.Core.List.{List, [], _∷_, _++_, append-assoc, map}
 use lib.Dec.{eqb, leb}
 use lib.ListN.{length, take, drop, length-append, length-drop}
 use lib.Seq.{length-take-le}
 use borrow.Author.Tests.{leb-true, eqb-true}
-use Rattle.bits.specs.Basics.{All, Bytes, sum, orElse, unless}
+use Rattle.bits.specs.Basics.{All, sum, orElse, unless}
 use Rattle.bits.specs.BasicsLaws.{both-true, or-none, unless-none, length-values}
 use Rattle.bits.specs.Bits.{bitsOf, putBits, afterBits}
 use Rattle.bits.specs.BitsLaws.{put-nil, put-put, drop-put, put-length, length-bitsOf}
 use Rattle.bits.specs.Calls.{startRefusal}
-use Rattle.book.specs.Book.{bookRefusal, dataRefusal}
+use Rattle.book.specs.Book.{dataRefusal}
 use Rattle.book.specs.BookLaws.{data-passes}
 use Rattle.bits.specs.Basics.{signedByte}
 use Rattle.leaf.specs.Leaf.{sse}
 use Rattle.motion.specs.Grid.{part}
 use Rattle.motion.specs.GridLaws.{part-own, part-other, agree-whole, agree-take}
 use Rattle.motion.specs.NeighboursLaws.{Ranged, ranged-put, stored-x, stored-y, Around, around}
-use Rattle.motion.specs.Search.{largestSide, sideOk, blocksAlong, padded16, sizeRefusal, canvasRefusal}
+use Rattle.motion.specs.Search.{largestSide, sideOk, padded16, sizeRefusal, canvasRefusal}
 use Rattle.tree.specs.Plan.{Weight}
 use Rattle.tree.specs.PlanClaim.{largestLambda}
 use Rattle.macroblock.specs.declared.svq1_enc_inter.Svq1MbMode.the-variants.{Skip}
@@ -31,14 +31,14 @@ use Rattle.macroblock.specs.Choice.{Task, paddedSource, target, motionsTried, t
 use Rattle.macroblock.specs.MacroblockLaws.{Fine, Good, chosen-good, chosen-least, unpruned}
 use Rattle.macroblock.specs.InnerLaws.{four-each}
 use Rattle.macroblock.specs.Reading.{readMacroblock}
-use Rattle.plane.specs.Run.{Step, on, End, run, after}
+use Rattle.plane.specs.Run.{on, End, after}
 use Rattle.plane.specs.RunLaws.{testing, run-on, run-fits}
 use Rattle.macroblock.specs.Slices.{Slices, near, laid}
 use Rattle.plane.specs.Plane.{count, Writing, wrote, wroteWeight, wroteBits, fits, written, toWrite, writePlane, ReadingState, taken, readStep, readUpTo, readPlane}
 use Rattle.plane.specs.Calls.{sourceRefusal, slicesRefusal, writeRefusal, readRefusal}
 use Rattle.plane.specs.SlicesLaws.{Sized, holds-recon, holds-vx, holds-vy, laid-sized, Alike, alike-laid, alike-near, laid-past-vx, laid-past-vy}
 use Rattle.plane.specs.SumLaws.{sse-blocks}
-use Rattle.plane.specs.Claim.{Appended, ReadBack, stateAt, final, costOf, InMemory, Claim, Claimed}
+use Rattle.plane.specs.Claim.{Appended, ReadBack, stateAt, final, costOf, InMemory, Claimed}
 
 -- ---- what an input that is not refused is known to be
 pub record Accepted (g : Given) (t : Task) : Type 0 where

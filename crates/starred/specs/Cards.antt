@@ -1,15 +1,14 @@
 -- The starred cards as one table, and what each says of the definitions (document 01, "Bench cards"; the house book throughout).
-use Prim.Native.Nat.{ℕ, _+_, _*_}
-use mathlib.Core.Bool.{Bool, true, false}
+use Prim.Native.Nat.{ℕ, _*_}
+use mathlib.Core.Bool.{true}
 use mathlib.Core.List.{List, [], _∷_}
-use mathlib.Core.Option.{Option, none, some}
+use mathlib.Core.Option.{some}
 use mathlib.Core.Path.{_≡_}
 use lib.IntN.{ℤ, pos, negsuc}
 use lib.ListN.{length, replicate}
 use Rattle.bits.specs.Bits.{bitsOf}
 use Rattle.book.specs.House.{houseBook, houseCodebook}
-use Rattle.book.specs.declared.svq1_vlc.Svq1Half.{Svq1Half}
-use Rattle.book.specs.declared.svq1_vlc.Svq1Half.the-variants.{Intra, Inter}
+use Rattle.book.specs.declared.svq1_vlc.Svq1Half.the-variants.{Inter}
 use Rattle.leaf.specs.Codebook.{rasterOf}
 use Rattle.leaf.specs.Mean.{meanOf}
 use Rattle.motion.specs.declared.svq1_motion_predictor.Svq1Mv.{Svq1Mv}
@@ -21,8 +20,7 @@ use Rattle.bits.specs.Calls.{done}
 use Rattle.motion.specs.Search.{Search, padded16, searchAnswer}
 use Rattle.macroblock.specs.Macroblock.{Given}
 use Rattle.macroblock.specs.Choice.{Task}
-use Rattle.plane.specs.Plane.{Writing, writePlane}
-use Rattle.plane.specs.Run.{End}
+use Rattle.plane.specs.Plane.{writePlane}
 use Rattle.jobs.specs.Job.{Job, jobIn}
 use Rattle.jobs.specs.Listing.{noSlices, planeText}
 

@@ -3,7 +3,7 @@
 use mathlib.Core.Path.{_≡_, refl, sym, ap, _∙_}
 use mathlib.Core.Bool.{Bool, true, false, not, _&&_, true≢false}
 use mathlib.Core.List.{List, [], _∷_, _++_}
-use Prim.Native.Nat.{ℕ, zero, suc, _+_, _-_, _/_, _≤_, _<_}
+use Prim.Native.Nat.{ℕ, zero, suc, _+_, _-_, _/_, _<_}
 use native.Mathlib.Omega.{arith}
 use lib.Dec.{eqb, leb, eqb·suc-zero}
 use borrow.Author.Tests.{eqb-true, not-true}
@@ -21,7 +21,7 @@ use Rattle.book.specs.declared.svq1_vlc.Svq1Half.the-variants.{Intra, Inter}
 use Rattle.text.specs.Text.{same}
 use Rattle.leaf.specs.Codebook.{vectorAt, stagesPerPage}
 use Rattle.leaf.specs.Mean.{residual, rounded, clampMean, meanOf, saturate}
-use Rattle.leaf.specs.Leaf.{Leaf, coded, sse, seeded, staged, samples, leafShown, codedLeaf, leafRule}
+use Rattle.leaf.specs.Leaf.{Leaf, coded, sse, seeded, staged, samples, leafShown, leafRule}
 use Rattle.leaf.specs.LeafLaws.{coded-exact}
 use Rattle.leaf.specs.LeafBits.{leafBits, stageBits}
 use Rattle.tree.specs.Blocks.{level, gather, placeUnder, place, blockOf}

@@ -14,7 +14,7 @@ use Rattle.motion.specs.Vectors.{zeroMv}
 use Rattle.motion.specs.Neighbours.{Near}
 use Rattle.macroblock.specs.Macroblock.{Given, Motion, still, single, four, Choice, skipped, coded, halfOf}
 use Rattle.macroblock.specs.Choice.{Task}
-use Rattle.macroblock.specs.Slices.{near, laid}
+use Rattle.macroblock.specs.Slices.{near}
 use Rattle.tree.specs.TreeBits.{Node, planTree}
 use Rattle.jobs.specs.Job.{Job}
 use Rattle.jobs.specs.Listing.{noSlices, outputBytes}
@@ -24,9 +24,9 @@ use Rattle.bits.specs.Basics.{every, valuesFrom}
 use Rattle.bits.specs.Bits.{msb, bitsOf, cleared, afterBits, putBits}
 use Rattle.bits.specs.BitsLaws.{length-bitsOf}
 use Rattle.bits.specs.Codes.{codesOf}
-use Rattle.book.specs.House.{logUnder, signedRank, rank, houseFrom, houseBook, houseCodebook}
+use Rattle.book.specs.House.{logUnder, signedRank, rank, houseFrom, houseBook}
 use Rattle.jobs.specs.Job.{jobRead, jobIn}
-use Rattle.jobs.specs.Listing.{refusedText, totalLine, macroblockLine, linesTo, textInto, planeText}
+use Rattle.jobs.specs.Listing.{totalLine, macroblockLine, linesTo, textInto, planeText}
 use Rattle.leaf.specs.Codebook.{rasterOf}
 use Rattle.leaf.specs.Leaf.{sse, seeded, staged, samples, leafShown}
 use Rattle.leaf.specs.LeafBits.{stageBits, leafBits}
@@ -34,7 +34,7 @@ use Rattle.leaf.specs.Mean.{rounded, clampMean, meanOf, saturate}
 use Rattle.macroblock.specs.Choice.{paddedSource, target, singleTried, fourTried, motionsTried, planningFor, tried, weightOf, beats, bestOf, chosen}
 use Rattle.macroblock.specs.Macroblock.{referenceBlock, baseline, shown, vectorBits, motionBits, choiceBits}
 use Rattle.motion.specs.Compensation.{sampleAt, halfSample, movedBlock}
-use Rattle.motion.specs.Grid.{owner, placeIn, part, putFrom, putPart}
+use Rattle.motion.specs.Grid.{part}
 use Rattle.motion.specs.Neighbours.{neighbourAt, nearOf}
 use Rattle.motion.specs.Search.{inWindow, allowed, sad, errorOf, consider, fullAt, rowTo, rowsTo, fullSearch, aroundTo, searchBest, searched, searchOk, searchRefusal, searchAnswer}
 use Rattle.motion.specs.Vectors.{median, predicted, codable}

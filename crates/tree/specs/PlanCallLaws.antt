@@ -14,7 +14,7 @@ use Rattle.book.specs.Level.{width, area}
 use Rattle.book.specs.declared.svq1_vlc.Svq1Half.{Svq1Half}
 use Rattle.leaf.specs.Codebook.{vectorAt}
 use Rattle.leaf.specs.LeafCall.{BlockIn, halfAt, blockRefusal}
-use Rattle.leaf.specs.LeafAnswerLaws.{block-passes}
+use Rattle.leaf.specs.LeafAnswerLaws.{block-passes, drop-replicate}
 use Rattle.leaf.specs.Raised.{raisedCodebook}
 use Rattle.leaf.specs.RasterLaws.{raised-length}
 use Rattle.tree.specs.Blocks.{blockCount, level, first}
@@ -132,11 +132,6 @@ module _ (book codebook raised : List ℕ) (d : ℕ) (h : Svq1Half) (target pred
     take-zeros (suc n) zero l = absurd (omega arith)
     take-zeros (suc n) (suc m) l = rw (take-zeros n m (omega arith))
 
-    drop-zeros : (n m : ℕ) → n ≤ m → drop {A = ℕ} n (replicate m 0) ≡ replicate (m - n) 0
-    drop-zeros zero m l = let z : m - 0 ≡ m = omega arith in rw z
-    drop-zeros (suc n) zero l = absurd (omega arith)
-    drop-zeros (suc n) (suc m) l = let z : suc m - suc n ≡ m - n = omega arith in rw z (drop-zeros n m (omega arith))
-
     pub call-shown : (left : List ℕ) → Bytes codebook → FrontShown h (treeOf (r .blocks)) predictor copied d samples left
         → PlanShown book codebook d h target predictor most skips lambda r left
     call-shown left bytes s =
@@ -145,7 +140,7 @@ module _ (book codebook raised : List ℕ) (d : ℕ) (h : Svq1Half) (target pred
         record {
           found = f;
           front = s .front ∙ rw (zs, e) (rebuilt-shown codebook bytes h d predictor (treeOf (r .blocks)) sound ∙ ap (treeShown (vectorAt codebook h) d predictor) (f .tree));
-          behind = s .behind ∙ ap (drop (area d)) (q .zeros) ∙ drop-zeros (area d) 256 few;
+          behind = s .behind ∙ ap (drop (area d)) (q .zeros) ∙ drop-replicate (area d) 256;
         }
 
 -- ---- the answers
@@ -154,14 +149,9 @@ unfolding planAnswer
 plan-refused b lambda n e h =
     record {
       answer = rw (← e, ne-eqb n 0 h);
-      behind = gone (length (b .target)) 256;
+      behind = drop-replicate (length (b .target)) 256;
       bare = λ z. refl;
     }
-  where
-    gone : (k m : ℕ) → drop {A = ℕ} k (replicate m 0) ≡ replicate (m - k) 0
-    gone zero m = let z : m - 0 ≡ m = omega arith in rw z
-    gone (suc k) zero = let z : 0 - suc k ≡ 0 = omega arith in rw z
-    gone (suc k) (suc m) = let z : suc m - suc k ≡ m - k = omega arith in rw z (gone k m)
 
 pub plan-answered : (b : BlockIn) (lambda : ℕ) → blockRefusal b ≡ 0 → (h : Svq1Half) → h ≡ halfAt (b .half) → (p : MbPlan) (samples : List ℕ)
     → PlanShown (b .book) (b .codebook) (b .level) h (b .target) (b .predictor) (b .cap) (b .allowSkip) lambda p samples

@@ -6,6 +6,7 @@ ghost use lib.ListN.{length, getD};
 ghost use Rattle.tree.specs.Blocks.{blockCount, level};
 ghost use Rattle.tree.specs.Nodes.{nodeOf, treeOf};
 ghost use Rattle.tree.specs.TreeBits.{grow};
+ghost use Rattle.tree.specs.Planned.{Light, decided};
 ghost use Rattle.tree.specs.PlannedLaws.{blank, LeafAt, PlannedAt, Done};
 ghost use Rattle.tree.specs.Planning.{LeafReady, Scratch, BlockLeaf, PlanReady, BlockReady, planningIn, leafRecord, plannedNode, PlanFound};
 use super::inner::block_of;
@@ -15,7 +16,7 @@ use super::svq1_enc_tree::Block;
 use super::svq1_enc_tree::MbPlan;
 use super::svq1_enc_tree::PlannedBlock;
 use super::svq1_enc_tree::TreeNode;
-use super::svq1_enc_tree::decide;
+use super::svq1_enc_tree::cost;
 use super::walk::first_of;
 use super::walk::is_reached;
 use super::walk::level_at;
@@ -154,6 +155,35 @@ fn plan_leaf(
     let stages = c.stages;
     let bits = book_leaf_bits(book, level_at(level_of(i)), half, code);
     as_leaf(code, stages, bits, c.error)
+}
+
+// The leaf `l`, or a split into parts planned as `x` and `y` if that is strictly cheaper.
+fn decide(lambda: u64, l: PlannedBlock, x: PlannedBlock, y: PlannedBlock) -> PlannedBlock
+    requires { ⌜ Light l × Light x × Light y ⌝ }
+    ensures { λ r. ⌜ r ≡ decided lambda l x y ⌝ }
+{
+    let leaf_bits = l.bits + 1;
+    let split_bits = x.bits + y.bits + 1;
+    let split_error = x.error + y.error;
+    let code = l.code;
+    let stages = l.stages;
+    if cost(lambda, split_bits, split_error) < cost(lambda, leaf_bits, l.error) {
+        PlannedBlock {
+            split: true,
+            bits: split_bits,
+            error: split_error,
+            code: code,
+            stages: stages,
+        }
+    } else {
+        PlannedBlock {
+            split: false,
+            bits: leaf_bits,
+            error: l.error,
+            code: code,
+            stages: stages,
+        }
+    }
 }
 
 // Block i as the plan has it, where `a` holds the blocks behind it.

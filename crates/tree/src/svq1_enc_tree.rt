@@ -2,7 +2,7 @@ ghost use mathlib.Core.Path.{_≡_};
 ghost use Prim.Native.Nat.{_+_, _*_};
 ghost use Rattle.tree.specs.Plan.{saturated};
 ghost use Rattle.tree.specs.PlanCall.{refusedPlan, Plannable, PlanShown, PlanAnswered};
-ghost use Rattle.tree.specs.Planned.{Light, costOf, decided};
+ghost use Rattle.tree.specs.Planned.{costOf};
 use super::planning::plan;
 use super::walk::plan_reconstruction;
 use book::svq1_vlc::Svq1Half;
@@ -68,35 +68,6 @@ pub struct PlannedBlock {
     pub error: u32,
     pub code: LeafCode,
     pub stages: [u8; 6],
-}
-
-// The leaf `l`, or a split into parts planned as `x` and `y` if that is strictly cheaper.
-pub fn decide(lambda: u64, l: PlannedBlock, x: PlannedBlock, y: PlannedBlock) -> PlannedBlock
-    requires { ⌜ Light l × Light x × Light y ⌝ }
-    ensures { λ r. ⌜ r ≡ decided lambda l x y ⌝ }
-{
-    let leaf_bits = l.bits + 1;
-    let split_bits = x.bits + y.bits + 1;
-    let split_error = x.error + y.error;
-    let code = l.code;
-    let stages = l.stages;
-    if cost(lambda, split_bits, split_error) < cost(lambda, leaf_bits, l.error) {
-        PlannedBlock {
-            split: true,
-            bits: split_bits,
-            error: split_error,
-            code: code,
-            stages: stages,
-        }
-    } else {
-        PlannedBlock {
-            split: false,
-            bits: leaf_bits,
-            error: l.error,
-            code: code,
-            stages: stages,
-        }
-    }
 }
 
 // What a plan call answers: 0 with the plan's bits, its error, its tree and the samples that it shows; or a refusal's number and nothing else.

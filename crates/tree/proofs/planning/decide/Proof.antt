@@ -1,8 +1,8 @@
 -- The two costs compared are those of the rule.
 use Rattle.tree.specs.Planned.{decided-split, decided-leaf}
 use borrow.Author.Needs.{needs}
-use Rattle.tree.proofs.svq1_enc_tree.decide.Statement.{statement}
-use Rattle.tree.proofs.svq1_enc_tree.decide.Tie as tie
+use Rattle.tree.proofs.planning.decide.Statement.{statement}
+use Rattle.tree.proofs.planning.decide.Tie as tie
 
 add-leaf-bits : tie.Need-add-leaf-bits
 add-leaf-bits c = search needs
