@@ -10,14 +10,14 @@ use Rattle.bits.specs.Basics.{pick}
 use Rattle.bits.specs.Bits.{valOf}
 use Rattle.bits.specs.Codes.{codesOf, goodTable, Got, got, bad, then, takeCode}
 use Rattle.bits.specs.Inner.{Fits}
-use Rattle.book.specs.Book.{Tables}
+use Rattle.book.specs.Book.{Tables, tablesOf}
 use Rattle.book.specs.BookLaws.{means}
 use Rattle.book.specs.declared.svq1_vlc.Svq1Half.{Svq1Half}
 use Rattle.leaf.specs.Mean.{meanPosition, meanAt}
 use Rattle.leaf.specs.Leaf.{Leaf, skip, coded}
 use Rattle.leaf.specs.LeafBits.{leafBits, readStages, readRest}
 use Rattle.leaf.specs.Raised.{leafOf}
-use Rattle.leaf.specs.declared.inner.ReadLeaf.{ReadLeaf}
+use Rattle.leaf.specs.declared.inner.reading.ReadLeaf.{ReadLeaf}
 use Rattle.leaf.specs.declared.svq1_enc_leaf.LeafCode.{LeafCode}
 use Rattle.leaf.specs.declared.svq1_enc_leaf.LeafCode.the-variants.{Skip, Coded}
 
@@ -102,3 +102,7 @@ readMean h mean n bits = then (takeCode (codesOf mean) bits) (λ k r. readIndice
 -- what stands behind the stage code at position k, by the mean table alone
 abbrev pub lentRest : Svq1Half → List ℕ → ℕ → ℕ → List ℕ → Got Leaf
 lentRest h mean d k bits = readRest (lentTables h [] mean) d k bits
+
+-- how many bits a leaf of this code has by a book, whatever its six stage indices
+abbrev pub BookLeafSize : List ℕ → Svq1Half → ℕ → LeafCode → ℕ → Type 0
+BookLeafSize book h d c r = (js : List ℕ) → length js ≡ 6 → r ≡ length (leafBits (tablesOf book h) d (leafOf c js))

@@ -11,17 +11,13 @@ pub mod LeafCall
 pub mod Raised
 pub mod RaisedLaws
 pub mod RasterLaws
-pub mod StagesLaws
 pub mod SignedLaws
 pub mod Inner
-pub mod InnerLaws
 pub mod CodebookCalls
 pub mod CodebookCallsLaws
 pub mod AgreeLaws
 pub mod Lent
 pub mod LentLaws
 pub mod LentReadLaws
-pub mod LeafAnswer
-pub mod LeafAnswerLaws
 pub mod Show
 pub mod ShowLaws

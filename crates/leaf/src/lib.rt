@@ -1,4 +1,4 @@
-// Leaves of the block tree: the codebook, the mean and the leaf search.
+// Leaves of the block tree: the codebook, a leaf's bits, its reading and its samples.
 pub mod inner;
 pub mod svq1_codebook;
 pub mod svq1_enc_leaf;

@@ -4,7 +4,7 @@ ghost use Prim.Native.Nat.{_<_};
 ghost use Rattle.book.specs.Level.{levelNumber};
 ghost use Rattle.leaf.specs.Codebook.{rasterOf};
 ghost use Rattle.leaf.specs.CodebookCalls.{pagePlace, rasterPlace};
-use super::inner::page_start;
+use super::inner::raster::page_start;
 use book::svq1_blocktree::Svq1Level;
 use book::svq1_vlc::Svq1Half;
 

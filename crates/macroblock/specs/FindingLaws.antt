@@ -19,10 +19,10 @@ use Rattle.bits.specs.declared.svq1_vlc.CodeRead.the-variants as code
 use Rattle.book.specs.Book.{vectorTable, tablesOf, bookRefusal}
 use Rattle.book.specs.declared.svq1_vlc.Svq1Half.{Svq1Half}
 use Rattle.leaf.specs.LentReadLaws.{read-on}
-use Rattle.motion.specs.declared.svq1_motion_predictor.Svq1Mv.{Svq1Mv}
-use Rattle.motion.specs.Vectors.{zeroMv, clipped, finalMv, differenceAt}
-use Rattle.motion.specs.Neighbours.{Near, forOne, forFirst, forSecond, forThird, forFourth}
-use Rattle.motion.specs.VectorsLaws.{InRange, pos-in, neg-in, Inside, zero-inside}
+use Rattle.vectors.specs.declared.svq1_motion_predictor.Svq1Mv.{Svq1Mv}
+use Rattle.vectors.specs.Vectors.{zeroMv, clipped, finalMv, differenceAt}
+use Rattle.vectors.specs.Neighbours.{Near, forOne, forFirst, forSecond, forThird, forFourth}
+use Rattle.vectors.specs.VectorsLaws.{InRange, pos-in, neg-in, Inside, zero-inside}
 use Rattle.tree.specs.declared.walk.ReadTree.{ReadTree}
 use Rattle.tree.specs.Nodes.{treeOf}
 use Rattle.tree.specs.TreeBits.{readTree}

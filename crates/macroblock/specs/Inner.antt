@@ -5,10 +5,10 @@ use Prim.Native.Nat.{ℕ, _*_, _≤_}
 use lib.ListN.{length}
 use Rattle.book.specs.Book.{dataRefusal}
 use Rattle.leaf.specs.Raised.{raisedCodebook}
-use Rattle.motion.specs.Search.{sizeRefusal, canvasRefusal}
+use Rattle.vectors.specs.Canvas.{sizeRefusal, canvasRefusal}
 use Rattle.macroblock.specs.Macroblock.{Given, cols, rows}
 use Rattle.macroblock.specs.Slices.{Slices}
-use Rattle.macroblock.specs.declared.svq1_plane.Svq1PlaneCanvas.{Svq1PlaneCanvas}
+use Rattle.vectors.specs.declared.svq1_plane.Svq1PlaneCanvas.{Svq1PlaneCanvas}
 
 -- what a call is given, by its parameters
 abbrev pub givenBy : Svq1PlaneCanvas → List ℕ → List ℕ → List ℕ → Given

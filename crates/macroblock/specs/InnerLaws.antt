@@ -9,11 +9,11 @@ use lib.ListN.{length}
 use Rattle.bits.specs.BasicsLaws.{or-next}
 use Rattle.book.specs.Book.{bookRefusal}
 use Rattle.book.specs.BookLaws.{data-passes}
-use Rattle.motion.specs.Cache as cache
-use Rattle.motion.specs.Grid.{owner}
-use Rattle.motion.specs.GridLaws.{in-owner}
-use Rattle.motion.specs.Search.{sizeRefusal}
-use Rattle.motion.specs.SearchCallLaws.{Fitting, plane-passes}
+use Rattle.vectors.specs.Cache as cache
+use Rattle.vectors.specs.Grid.{owner}
+use Rattle.vectors.specs.GridLaws.{in-owner}
+use Rattle.vectors.specs.Canvas.{sizeRefusal}
+use Rattle.vectors.specs.CanvasLaws.{Fitting, plane-passes}
 use Rattle.macroblock.specs.Macroblock.{Given, cols, rows}
 use Rattle.macroblock.specs.Slices.{Slices}
 use Rattle.macroblock.specs.Inner.{Accepted, Held}

@@ -13,17 +13,17 @@ use Rattle.bits.specs.Bits.{bitsOf}
 use Rattle.bits.specs.Codes.{Got, got, bad}
 use Rattle.book.specs.Book.{codebookBytes}
 use Rattle.leaf.specs.Raised.{raisedCodebook}
-use Rattle.motion.specs.declared.svq1_motion_predictor.Svq1Mv.{Svq1Mv}
-use Rattle.motion.specs.Cache as cache
-use Rattle.motion.specs.Compensation.{Canvas}
-use Rattle.motion.specs.Grid.{part}
-use Rattle.motion.specs.Search.{blocksAlong}
-use Rattle.motion.specs.Neighbours.{nearOf}
-use Rattle.motion.specs.VectorsLaws.{Inside}
+use Rattle.vectors.specs.declared.svq1_motion_predictor.Svq1Mv.{Svq1Mv}
+use Rattle.vectors.specs.Cache as cache
+use Rattle.vectors.specs.Canvas.{Canvas}
+use Rattle.vectors.specs.Grid.{part}
+use Rattle.vectors.specs.Canvas.{blocksAlong}
+use Rattle.vectors.specs.Neighbours.{nearOf}
+use Rattle.vectors.specs.VectorsLaws.{Inside}
 use Rattle.tree.specs.Nodes.{treeOf}
 use Rattle.tree.specs.TreeBits.{Node}
 use Rattle.tree.specs.Walk.{Reads}
-use Rattle.macroblock.specs.declared.svq1_plane.Svq1PlaneCanvas.{Svq1PlaneCanvas}
+use Rattle.vectors.specs.declared.svq1_plane.Svq1PlaneCanvas.{Svq1PlaneCanvas}
 use Rattle.macroblock.specs.declared.inner.reading.ReadChoice.{ReadChoice}
 use Rattle.macroblock.specs.Macroblock.{Given, cols, rows, Motion, Choice, coded, halfOf, vectorsOf, shown}
 use Rattle.macroblock.specs.Reading.{readMacroblock}

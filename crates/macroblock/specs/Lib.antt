@@ -15,15 +15,3 @@ pub mod FindingLaws
 pub mod MacroblockReadLaws
 pub mod LayLaws
 pub mod MacroblockLaws
-pub mod Target
-pub mod TargetLaws
-pub mod Coding
-pub mod CodingLaws
-pub mod Searches
-pub mod SearchesLaws
-pub mod Candidates
-pub mod CandidatesLaws
-pub mod Written
-pub mod WrittenLaws
-pub mod Chosen
-pub mod ChosenLaws

@@ -9,12 +9,13 @@ use Rattle.book.specs.Book.{tablesOf, modeTable, vectorTable}
 use Rattle.book.specs.declared.svq1_vlc.Svq1Half.{Svq1Half}
 use Rattle.book.specs.declared.svq1_vlc.Svq1Half.the-variants.{Intra, Inter}
 use Rattle.leaf.specs.Codebook.{vectorAt}
-use Rattle.motion.specs.declared.svq1_motion_predictor.Svq1Mv.{Svq1Mv}
-use Rattle.motion.specs.Vectors.{zeroMv, placeOf}
-use Rattle.motion.specs.Neighbours.{Near, forOne, forFirst, forSecond, forThird, forFourth}
-use Rattle.motion.specs.Compensation.{Canvas, movedSample, movedBlock}
-use Rattle.motion.specs.Grid.{part}
-use Rattle.motion.specs.Search.{blocksAlong}
+use Rattle.vectors.specs.declared.svq1_motion_predictor.Svq1Mv.{Svq1Mv}
+use Rattle.vectors.specs.Vectors.{zeroMv, placeOf}
+use Rattle.vectors.specs.Neighbours.{Near, forOne, forFirst, forSecond, forThird, forFourth}
+use Rattle.vectors.specs.Canvas.{Canvas}
+use Rattle.motion.specs.Compensation.{movedSample, movedBlock}
+use Rattle.vectors.specs.Grid.{part}
+use Rattle.vectors.specs.Canvas.{blocksAlong}
 use Rattle.tree.specs.TreeBits.{Node, treeBits, treeShown}
 use Rattle.macroblock.specs.Mode.{modePosition}
 use Rattle.macroblock.specs.declared.svq1_enc_inter.Svq1MbMode.{Svq1MbMode}

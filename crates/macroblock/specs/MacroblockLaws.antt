@@ -23,18 +23,18 @@ use Rattle.book.specs.declared.svq1_vlc.Svq1Half.the-variants.{Intra, Inter}
 use Rattle.leaf.specs.Codebook.{vectorAt}
 use Rattle.leaf.specs.Leaf.{sse}
 use Rattle.leaf.specs.LeafLaws.{vectors-sized}
-use Rattle.motion.specs.declared.svq1_motion_predictor.Svq1Mv.{Svq1Mv}
-use Rattle.motion.specs.Vectors.{placeOf}
-use Rattle.motion.specs.VectorsLaws.{Codable, Inside, place-lt, final-back, codable-inside, zero-inside}
-use Rattle.motion.specs.Neighbours.{Near, forOne, forFirst, forSecond, forThird, forFourth}
-use Rattle.motion.specs.Grid.{part}
+use Rattle.vectors.specs.declared.svq1_motion_predictor.Svq1Mv.{Svq1Mv}
+use Rattle.vectors.specs.Vectors.{placeOf}
+use Rattle.vectors.specs.VectorsLaws.{Codable, Inside, place-lt, final-back, codable-inside, zero-inside}
+use Rattle.vectors.specs.Neighbours.{Near, forOne, forFirst, forSecond, forThird, forFourth}
+use Rattle.vectors.specs.Grid.{part}
 use Rattle.motion.specs.CompensationLaws.{bytes-list, moved-byte, bytes-moved, length-moved}
 use Rattle.motion.specs.Search.{searched}
 use Rattle.motion.specs.SearchLaws.{found}
 use Rattle.tree.specs.RowsLaws.{sse-most}
 use Rattle.tree.specs.Plan.{total, cost, prunedCost}
-use Rattle.tree.specs.PlanClaim.{largestLambda, planCost}
-use Rattle.tree.specs.PlanClaimLaws.{Planned, plan-short, plan-long, plan-bytes, plan-cheapest, plan-reads}
+use Rattle.plan.specs.PlanClaim.{largestLambda, planCost}
+use Rattle.plan.specs.PlanClaimLaws.{Planned, plan-short, plan-long, plan-bytes, plan-cheapest, plan-reads}
 use Rattle.tree.specs.TreeBits.{Node, planTree, treeBits, treeShown}
 use Rattle.macroblock.specs.declared.svq1_enc_inter.Svq1MbMode.{Svq1MbMode}
 use Rattle.macroblock.specs.declared.svq1_enc_inter.Svq1MbMode.the-variants as Mode

@@ -11,14 +11,14 @@ use Rattle.bits.specs.Inner.{Fits}
 use Rattle.book.specs.Book.{codebookBytes}
 use Rattle.book.specs.declared.svq1_vlc.Svq1Half.{Svq1Half}
 use Rattle.leaf.specs.Raised.{raisedCodebook}
-use Rattle.motion.specs.declared.svq1_motion_predictor.Svq1Mv.{Svq1Mv}
-use Rattle.motion.specs.Cache as cache
-use Rattle.motion.specs.Compensation.{Canvas}
-use Rattle.motion.specs.Search.{blocksAlong, padded16}
-use Rattle.motion.specs.VectorsLaws.{Inside}
+use Rattle.vectors.specs.declared.svq1_motion_predictor.Svq1Mv.{Svq1Mv}
+use Rattle.vectors.specs.Cache as cache
+use Rattle.vectors.specs.Canvas.{Canvas}
+use Rattle.vectors.specs.Canvas.{blocksAlong, padded16}
+use Rattle.vectors.specs.VectorsLaws.{Inside}
 use Rattle.tree.specs.TreeBits.{Node}
 use Rattle.tree.specs.Walk.{SoundTree}
-use Rattle.macroblock.specs.declared.svq1_plane.Svq1PlaneCanvas.{Svq1PlaneCanvas}
+use Rattle.vectors.specs.declared.svq1_plane.Svq1PlaneCanvas.{Svq1PlaneCanvas}
 use Rattle.macroblock.specs.declared.inner.reading.ReadMb.{ReadMb}
 use Rattle.macroblock.specs.Macroblock.{Given, cols, rows, Choice, shown}
 use Rattle.macroblock.specs.Reading.{readMacroblock}

@@ -1,8 +1,8 @@
 -- The motion of the code as the definitions' motion.
 use mathlib.Core.List.{List}
 use lib.ListN.{getD}
-use Rattle.motion.specs.declared.svq1_motion_predictor.Svq1Mv.{Svq1Mv}
-use Rattle.motion.specs.Vectors.{zeroMv}
+use Rattle.vectors.specs.declared.svq1_motion_predictor.Svq1Mv.{Svq1Mv}
+use Rattle.vectors.specs.Vectors.{zeroMv}
 use Rattle.macroblock.specs.Macroblock.{Motion, still, single, four}
 use Rattle.macroblock.specs.declared.svq1_enc_inter.MbMotion.{MbMotion}
 use Rattle.macroblock.specs.declared.svq1_enc_inter.MbMotion.the-variants.{None, One, Four}

@@ -7,16 +7,17 @@ use Rattle.bits.specs.Basics.{Bytes, valuesFrom, signedByte}
 use Rattle.book.specs.Book.{codebookBytes}
 use Rattle.book.specs.declared.svq1_vlc.Svq1Half.{Svq1Half}
 use Rattle.leaf.specs.Raised.{raisedCodebook}
-use Rattle.motion.specs.declared.svq1_motion_predictor.Svq1Mv.{Svq1Mv}
-use Rattle.motion.specs.Vectors.{zeroMv}
-use Rattle.motion.specs.Compensation.{Canvas, movedSample}
-use Rattle.motion.specs.Grid.{putPart}
-use Rattle.motion.specs.GridLaws.{Holds}
+use Rattle.vectors.specs.declared.svq1_motion_predictor.Svq1Mv.{Svq1Mv}
+use Rattle.vectors.specs.Vectors.{zeroMv}
+use Rattle.vectors.specs.Canvas.{Canvas}
+use Rattle.motion.specs.Compensation.{movedSample}
+use Rattle.vectors.specs.Grid.{putPart}
+use Rattle.vectors.specs.GridLaws.{Holds}
 use Rattle.motion.specs.Moved.{Placed}
-use Rattle.motion.specs.Search.{largestSide, blocksAlong}
+use Rattle.vectors.specs.Canvas.{largestSide, blocksAlong}
 use Rattle.tree.specs.TreeBits.{Node}
 use Rattle.tree.specs.Walk.{SoundTree}
-use Rattle.macroblock.specs.declared.svq1_plane.Svq1PlaneCanvas.{Svq1PlaneCanvas}
+use Rattle.vectors.specs.declared.svq1_plane.Svq1PlaneCanvas.{Svq1PlaneCanvas}
 use Rattle.macroblock.specs.Macroblock.{Choice, vectorFor, shown}
 use Rattle.macroblock.specs.Inner.{givenBy}
 

@@ -11,17 +11,18 @@ use lib.Seq.{ext-getD, take-suc-set}
 use Rattle.book.specs.declared.svq1_vlc.Svq1Half.{Svq1Half}
 use Rattle.bits.specs.Basics.{All, signedByte}
 use Rattle.bits.specs.BasicsLaws.{length-values, value-at}
-use Rattle.motion.specs.declared.svq1_motion_predictor.Svq1Mv.{Svq1Mv}
-use Rattle.motion.specs.Vectors.{zeroMv}
-use Rattle.motion.specs.Compensation.{Canvas, movedSample, movedBlock}
+use Rattle.vectors.specs.declared.svq1_motion_predictor.Svq1Mv.{Svq1Mv}
+use Rattle.vectors.specs.Vectors.{zeroMv}
+use Rattle.vectors.specs.Canvas.{Canvas}
+use Rattle.motion.specs.Compensation.{movedSample, movedBlock}
 use Rattle.motion.specs.CompensationLaws.{length-moved}
-use Rattle.motion.specs.Cache.{Stored}
-use Rattle.motion.specs.Grid.{entryOf, part, putPart}
-use Rattle.motion.specs.GridLaws.{length-part, part-at}
+use Rattle.vectors.specs.Cache.{Stored}
+use Rattle.vectors.specs.Grid.{entryOf, part, putPart}
+use Rattle.vectors.specs.GridLaws.{length-part, part-at}
 use Rattle.motion.specs.Moved.{movedPart, Placed}
 use Rattle.motion.specs.PartsLaws.{four-moved}
-use Rattle.motion.specs.Search.{blocksAlong}
-use Rattle.motion.specs.VectorsLaws.{Inside, zero-inside}
+use Rattle.vectors.specs.Canvas.{blocksAlong}
+use Rattle.vectors.specs.VectorsLaws.{Inside, zero-inside}
 use Rattle.motion.specs.Rows.{cell}
 use Rattle.motion.specs.RowsLaws.{half-in}
 use Rattle.tree.specs.GeometryLaws.{in-whole}
@@ -31,7 +32,7 @@ use Rattle.tree.specs.TreeBits.{Node}
 use Rattle.tree.specs.Walk.{SoundTree}
 use Rattle.macroblock.specs.declared.svq1_enc_inter.MbMotion.{MbMotion}
 use Rattle.macroblock.specs.declared.svq1_enc_inter.MbMotion.the-variants.{None, One, Four}
-use Rattle.macroblock.specs.declared.svq1_plane.Svq1PlaneCanvas.{Svq1PlaneCanvas}
+use Rattle.vectors.specs.declared.svq1_plane.Svq1PlaneCanvas.{Svq1PlaneCanvas}
 use Rattle.macroblock.specs.Macroblock.{Given, Motion, still, single, four, skipped, coded, halfOf, leftOf, topOf, referenceBlock, baseline, shown}
 use Rattle.macroblock.specs.Inner.{givenBy}
 use Rattle.macroblock.specs.Motions.{motionOf}

@@ -1,13 +1,6 @@
-// Functions that only the crates of this repository call. Most have a `requires`: the caller, proved too, meets it.
-pub mod candidates;
-pub mod choice;
+// Functions that only the crates of this repository call. Most have a `requires`: the caller, proved too, meets it. The functions for
+// everybody else are in the modules that keep the names of the original's files.
 pub mod codes;
-pub mod coding;
 pub mod laying;
-pub mod motions;
-pub mod plans;
 pub mod reading;
 pub mod samples;
-pub mod searches;
-pub mod target;
-pub mod writing;

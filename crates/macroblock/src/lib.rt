@@ -1,4 +1,3 @@
-// One macroblock: the modes tried for it, the choice, its writing and its reading.
+// One macroblock: what it is, its bits read, its samples and vectors laid into the result slices.
 pub mod inner;
 pub mod svq1_enc_inter;
-pub mod svq1_plane;

@@ -1,7 +1,7 @@
 ghost use mathlib.Core.Path.{_≡_};
 ghost use Prim.Native.Nat.{_<_};
 ghost use Rattle.macroblock.specs.Mode.{modePosition};
-use motion::svq1_motion_predictor::Svq1Mv;
+use vectors::svq1_motion_predictor::Svq1Mv;
 
 // How a macroblock is coded.
 pub enum Svq1MbMode {

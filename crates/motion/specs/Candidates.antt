@@ -7,11 +7,12 @@ use lib.Dec.{leb, ltb}
 use lib.IntN.{ℤ, subℕ}
 use lib.ListN.{length}
 use Rattle.bits.specs.Basics.{pick}
-use Rattle.motion.specs.declared.svq1_motion_predictor.Svq1Mv.{Svq1Mv}
+use Rattle.vectors.specs.declared.svq1_motion_predictor.Svq1Mv.{Svq1Mv}
 use Rattle.motion.specs.declared.inner.search.Spot.{Spot}
 use Rattle.motion.specs.declared.inner.search.Candidate.{Candidate}
 use Rattle.motion.specs.declared.inner.search.Span.{Span}
-use Rattle.motion.specs.Search.{Search, Best, nothing, best, centre, aroundTo, largestSide, padded16}
+use Rattle.motion.specs.Search.{Search, Best, nothing, best, centre, aroundTo}
+use Rattle.vectors.specs.Canvas.{largestSide, padded16}
 use Rattle.motion.specs.Rows.{Sides}
 
 -- a component is raised by 1024, so that no candidate falls below 0; raised numbers and places stay below the end

@@ -14,18 +14,19 @@ use native.Mathlib.Nat.{mul-comm}
 use borrow.Author.Tests.{lt-ltb, le-ltb, leb-true, ltb-true, ltb-false}
 use Rattle.bits.specs.Basics.{pick, gap, sum}
 use Rattle.bits.specs.BasicsLaws.{both-true}
-use Rattle.motion.specs.declared.svq1_motion_predictor.Svq1Mv.{Svq1Mv}
+use Rattle.vectors.specs.declared.svq1_motion_predictor.Svq1Mv.{Svq1Mv}
 use Rattle.motion.specs.declared.inner.error.Taken.{Taken}
 use Rattle.motion.specs.declared.inner.search.Spot.{Spot}
 use Rattle.motion.specs.declared.inner.search.Candidate.{Candidate}
-use Rattle.motion.specs.Vectors.{inRange, codable}
-use Rattle.motion.specs.Compensation.{Canvas, halfSample, movedSample, movedBlock}
+use Rattle.vectors.specs.Vectors.{inRange, codable}
+use Rattle.vectors.specs.Canvas.{Canvas}
+use Rattle.motion.specs.Compensation.{halfSample, movedSample, movedBlock}
 use Rattle.motion.specs.Search.{Search, inWindow, allowed, errorOf, Best, nothing, best, lowers, consider, fullAt, centre}
 use Rattle.motion.specs.Rows.{cell, rowAt, early, ReadIn}
 use Rattle.motion.specs.RowsLaws.{half-in}
 use Rattle.motion.specs.SumLaws.{sum-same, sum-rows, sad-sum}
 use Rattle.motion.specs.EarlyLaws.{Judged, early-same, early-judged}
-use Rattle.motion.specs.RaisedLaws.{leb-as, both, sub-eq, sub-add, sub-pos, pos-sub, sub-sub, sub-half, sub-one, low-is, high-is, nonneg-is, below-is}
+use Rattle.vectors.specs.RaisedLaws.{leb-as, both, sub-eq, sub-add, sub-pos, pos-sub, sub-sub, sub-half, sub-one, low-is, high-is, nonneg-is, below-is}
 use Rattle.motion.specs.Candidates.{lowered, loweredMv, spotSearch, Ready, codableUp, windowUp, axisUp, shown, Held}
 
 -- ---- the tests

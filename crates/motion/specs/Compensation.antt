@@ -7,13 +7,8 @@ use lib.ListN.{getD}
 use lib.IntN.{ℤ, pos, negsuc, _+ℤ_}
 use lib.Signed.{shrZ}
 use Rattle.bits.specs.Basics.{pick, valuesFrom}
-use Rattle.motion.specs.declared.svq1_motion_predictor.Svq1Mv.{Svq1Mv}
-
--- a canvas: its samples, row by row, its stride and its rows
-pub record Canvas : Type 0 where
-  pub samples : List ℕ
-  pub stride : ℕ
-  pub rows : ℕ
+use Rattle.vectors.specs.Canvas.{Canvas}
+use Rattle.vectors.specs.declared.svq1_motion_predictor.Svq1Mv.{Svq1Mv}
 
 abbrev pub even : ℤ → Bool
 even (pos n) = eqb (n % 2) 0

@@ -15,12 +15,13 @@ use lib.Seq.{ext-getD}
 use borrow.Author.Tests.{leb-true, eq-eqb, ne-eqb}
 use Rattle.bits.specs.Basics.{valuesFrom}
 use Rattle.bits.specs.BasicsLaws.{both-true, length-values, value-at}
-use Rattle.motion.specs.Compensation.{Canvas, mean2, mean4, halfSample, movedSample}
-use Rattle.motion.specs.Grid.{entryOf, putPart}
-use Rattle.motion.specs.PutLaws.{putTo, put-all}
+use Rattle.vectors.specs.Canvas.{Canvas}
+use Rattle.motion.specs.Compensation.{mean2, mean4, halfSample, movedSample}
+use Rattle.vectors.specs.Grid.{entryOf, putPart}
+use Rattle.vectors.specs.PutLaws.{putTo, put-all}
 use Rattle.motion.specs.Rows.{cell}
 use Rattle.motion.specs.RowsLaws.{half-in, row-fits}
-use Rattle.motion.specs.RaisedLaws.{pos-sub, sub-pos}
+use Rattle.vectors.specs.RaisedLaws.{pos-sub, sub-pos}
 use Rattle.motion.specs.Moved.{movedPart, Parts, down, downMv, rowSet, InCanvas, cellPart, insideUp}
 use Rattle.motion.specs.MovedLaws.{side-some, cols-some, part-steps}
 

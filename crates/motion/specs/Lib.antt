@@ -1,13 +1,4 @@
 -- The definitions that the contracts of this crate cite; the laws that callers cite stand in the files named `..Laws`.
-pub mod Vectors
-pub mod VectorsLaws
-pub mod ClipLaws
-pub mod RaisedLaws
-pub mod Neighbours
-pub mod NeighboursLaws
-pub mod Grid
-pub mod GridLaws
-pub mod PutLaws
 pub mod Compensation
 pub mod CompensationLaws
 pub mod Search
@@ -24,6 +15,4 @@ pub mod CandidatesLaws
 pub mod ScanLaws
 pub mod SearchCall
 pub mod SearchCallLaws
-pub mod Cache
-pub mod CacheLaws
 pub mod SearchLaws

@@ -7,10 +7,11 @@ use lib.IntN.{ℤ, subℕ}
 use lib.Dec.{leb}
 use lib.ListN.{length, set}
 use Rattle.bits.specs.Basics.{valuesFrom}
-use Rattle.motion.specs.declared.svq1_motion_predictor.Svq1Mv.{Svq1Mv}
-use Rattle.motion.specs.Compensation.{Canvas, movedSample}
-use Rattle.motion.specs.Grid.{entryOf, putPart}
-use Rattle.motion.specs.Search.{largestSide, padded16}
+use Rattle.vectors.specs.declared.svq1_motion_predictor.Svq1Mv.{Svq1Mv}
+use Rattle.vectors.specs.Canvas.{Canvas}
+use Rattle.motion.specs.Compensation.{movedSample}
+use Rattle.vectors.specs.Grid.{entryOf, putPart}
+use Rattle.vectors.specs.Canvas.{largestSide, padded16}
 use Rattle.motion.specs.Rows.{Sides, cell}
 
 -- the samples xs of the macroblock at (x, y) with its part q, of side s, taken from the canvas moved by a vector: with 1 part a row the whole macroblock, with 2 a quarter

@@ -13,12 +13,13 @@ use lib.ListN.{length, getD}
 use borrow.Author.Tests.{lt-ltb, le-ltb, eq-eqb, ne-eqb}
 use Rattle.bits.specs.Basics.{pick, valuesFrom}
 use Rattle.bits.specs.BasicsLaws.{length-values, value-at}
-use Rattle.motion.specs.declared.svq1_motion_predictor.Svq1Mv.{Svq1Mv}
-use Rattle.motion.specs.Compensation.{Canvas, even, clampTo, sampleAt, mean2, mean4, halfSample, movedSample}
-use Rattle.motion.specs.Grid.{entryOf}
-use Rattle.motion.specs.GridLaws.{Holds, in-owner}
-use Rattle.motion.specs.PutLaws.{putTo, put-all, Steps, entry-steps}
-use Rattle.motion.specs.RaisedLaws.{pos-sub, sub-half, sub-one}
+use Rattle.vectors.specs.declared.svq1_motion_predictor.Svq1Mv.{Svq1Mv}
+use Rattle.vectors.specs.Canvas.{Canvas}
+use Rattle.motion.specs.Compensation.{even, clampTo, sampleAt, mean2, mean4, halfSample, movedSample}
+use Rattle.vectors.specs.Grid.{entryOf}
+use Rattle.vectors.specs.GridLaws.{Holds, in-owner}
+use Rattle.vectors.specs.PutLaws.{putTo, put-all, Steps, entry-steps}
+use Rattle.vectors.specs.RaisedLaws.{pos-sub, sub-half, sub-one}
 use Rattle.motion.specs.Moved.{movedPart, Parts, down, downHalf, downMv, Lifted}
 
 -- ---- clamped reads

@@ -10,12 +10,13 @@ use lib.ListN.{length, getD}
 use lib.Seq.{ext-getD}
 use Rattle.bits.specs.Basics.{valuesFrom}
 use Rattle.bits.specs.BasicsLaws.{length-values, value-at}
-use Rattle.motion.specs.declared.svq1_motion_predictor.Svq1Mv.{Svq1Mv}
-use Rattle.motion.specs.Vectors.{zeroMv}
-use Rattle.motion.specs.Compensation.{Canvas, movedSample, movedBlock}
-use Rattle.motion.specs.Grid.{owner, placeIn, entryOf, putPart}
-use Rattle.motion.specs.GridLaws.{length-put, put-own, put-other, owner-in}
-use Rattle.motion.specs.PutLaws.{entry-back, place-lt}
+use Rattle.vectors.specs.declared.svq1_motion_predictor.Svq1Mv.{Svq1Mv}
+use Rattle.vectors.specs.Vectors.{zeroMv}
+use Rattle.vectors.specs.Canvas.{Canvas}
+use Rattle.motion.specs.Compensation.{movedSample, movedBlock}
+use Rattle.vectors.specs.Grid.{owner, placeIn, entryOf, putPart}
+use Rattle.vectors.specs.GridLaws.{length-put, put-own, put-other, owner-in}
+use Rattle.vectors.specs.PutLaws.{entry-back, place-lt}
 use Rattle.motion.specs.Moved.{movedPart}
 
 module _ (s cols : ℕ) (some : 0 < s) (wide : 0 < cols) where

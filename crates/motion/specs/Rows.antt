@@ -5,7 +5,8 @@ use mathlib.Core.List.{List}
 use lib.Dec.{eqb, leb}
 use lib.ListN.{length, getD}
 use Rattle.bits.specs.Basics.{pick, gap, sum}
-use Rattle.motion.specs.Compensation.{Canvas, mean2, mean4}
+use Rattle.vectors.specs.Canvas.{Canvas}
+use Rattle.motion.specs.Compensation.{mean2, mean4}
 use Rattle.motion.specs.declared.inner.error.Taken.{Taken}
 
 -- the sample at place p of the canvas's list, with no clamp; ox and oy, 0 or 1, say whether it lies between two columns and two rows

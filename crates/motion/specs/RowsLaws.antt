@@ -13,7 +13,8 @@ use lib.Seq.{getD-drop, getD-take}
 use borrow.Author.Tests.{lt-ltb, eq-eqb, ne-eqb, eqb-false}
 use Rattle.bits.specs.Basics.{gap, sum}
 use Rattle.motion.specs.declared.inner.error.Taken.{Taken}
-use Rattle.motion.specs.Compensation.{Canvas, mean2, mean4, sampleAt, halfSample}
+use Rattle.vectors.specs.Canvas.{Canvas}
+use Rattle.motion.specs.Compensation.{mean2, mean4, sampleAt, halfSample}
 use Rattle.motion.specs.Rows.{againstTwo, againstFour, cell, cells, ReadIn, Summed}
 use Rattle.motion.specs.SumLaws.{sum-same}
 

@@ -10,7 +10,7 @@ use lib.Dec.{leb, eqb}
 use lib.IntN.{ℤ, _+ℤ_, subℕ}
 use borrow.Author.Tests.{leb-true, eq-eqb, ne-eqb, eqb-true, eqb-false}
 use Rattle.bits.specs.BasicsLaws.{both-true, is-false}
-use Rattle.motion.specs.declared.svq1_motion_predictor.Svq1Mv.{Svq1Mv}
+use Rattle.vectors.specs.declared.svq1_motion_predictor.Svq1Mv.{Svq1Mv}
 use Rattle.motion.specs.declared.inner.search.Spot.{Spot}
 use Rattle.motion.specs.declared.inner.search.Candidate.{Candidate}
 use Rattle.motion.specs.declared.inner.search.Span.{Span}

@@ -3,15 +3,16 @@ use Prim.Native.Nat.{ℕ, zero, suc, _+_, _-_, _*_, _/_, _%_, min}
 use mathlib.Core.Bool.{Bool, true, _&&_, _||_}
 use mathlib.Core.List.{List, [], _∷_}
 use mathlib.Core.Option.{Option, none, some}
-use lib.Dec.{eqb, leb, ltb}
+use lib.Dec.{eqb, ltb}
 use lib.ListN.{length}
 use lib.IntN.{ℤ, pos, subℕ, _+ℤ_}
 use lib.Signed.{ltZ, leZ, shrZ}
 use Rattle.bits.specs.Basics.{pick, gap, orElse, unless}
 use Rattle.bits.specs.Calls.{Answer, done, refused, unlessRefused}
-use Rattle.motion.specs.declared.svq1_motion_predictor.Svq1Mv.{Svq1Mv}
-use Rattle.motion.specs.Vectors.{zeroMv, inRange, codable}
-use Rattle.motion.specs.Compensation.{Canvas, movedBlock}
+use Rattle.vectors.specs.declared.svq1_motion_predictor.Svq1Mv.{Svq1Mv}
+use Rattle.vectors.specs.Vectors.{zeroMv, inRange, codable}
+use Rattle.vectors.specs.Canvas.{Canvas, sizeRefusal, canvasRefusal}
+use Rattle.motion.specs.Compensation.{movedBlock}
 
 -- what a search is asked with: a block of side × side samples at (x, y) of a plane whose visible size is width × height
 pub record Search : Type 0 where
@@ -98,31 +99,7 @@ vectorOf (best v e) = some v
 unfoldable pub searched : Search → Option Svq1Mv
 searched g = vectorOf (searchBest g)
 
--- ---- sizes of a plane, and refusals
--- the largest width or height
-abbrev pub largestSide : ℕ
-largestSide = 1024
-
--- not refused by 1
-abbrev pub sideOk : ℕ → Bool
-sideOk n = leb 1 n && leb n largestSide
-
--- macroblocks along a side, and the side rounded up to 16
-abbrev pub blocksAlong : ℕ → ℕ
-blocksAlong n = (n + 15) / 16
-
-abbrev pub padded16 : ℕ → ℕ
-padded16 n = 16 * blocksAlong n
-
--- 1: width or height 0 or above the largest side
-abbrev pub sizeRefusal : ℕ → ℕ → ℕ
-sizeRefusal w h = unless (sideOk w && sideOk h) 1
-
--- 3: stride or rows not the size rounded up to 16. 4: length not stride × rows
-abbrev pub canvasRefusal : ℕ → ℕ → Canvas → ℕ
-canvasRefusal w h c =
-    orElse (unless (eqb (c .stride) (padded16 w) && eqb (c .rows) (padded16 h)) 3) (unless (eqb (length (c .samples)) (c .stride * c .rows)) 4)
-
+-- ---- refusals
 -- 9: side not 8 or 16, place off that grid or canvas, target length not side squared, predictor outside -32..31
 unfoldable pub searchOk : Search → Bool
 searchOk g =

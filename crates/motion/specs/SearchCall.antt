@@ -5,7 +5,7 @@ use mathlib.Core.Bool.{Bool, _&&_, _||_}
 use lib.Dec.{eqb, ltb}
 use lib.IntN.{ℤ}
 use Rattle.bits.specs.Calls.{Answer, done, refused}
-use Rattle.motion.specs.declared.svq1_motion_predictor.Svq1Mv.{Svq1Mv}
+use Rattle.vectors.specs.declared.svq1_motion_predictor.Svq1Mv.{Svq1Mv}
 use Rattle.motion.specs.declared.svq1_enc_inter.Searched.{Searched}
 use Rattle.motion.specs.declared.svq1_enc_inter.Searched.the-variants.{Vector, Refused}
 use Rattle.motion.specs.Candidates.{lowered}

@@ -4,18 +4,20 @@ use Prim.Native.Nat.{ℕ, suc, _+_, _-_, _*_, _%_, _<_, _≤_}
 use mathlib.Core.Path.{_≡_, refl, sym, ap, _∙_}
 use mathlib.Core.Bool.{Bool, true, false, _&&_, _||_}
 use native.Mathlib.Omega.{arith}
-use lib.Dec.{leb, ltb, eqb}
+use lib.Dec.{ltb, eqb}
 use lib.IntN.{ℤ, pos, negsuc, _+ℤ_}
 use lib.ListN.{length}
-use borrow.Author.Tests.{lt-ltb, le-ltb, le-leb, leb-true, ltb-true, eqb-true, eq-eqb, ne-eqb}
+use borrow.Author.Tests.{lt-ltb, le-ltb, le-leb, ltb-true, eqb-true, eq-eqb, ne-eqb}
 use Rattle.bits.specs.Basics.{orElse, unless}
 use Rattle.bits.specs.BasicsLaws.{both-true, or-first, or-next, or-none, unless-none}
 use Rattle.bits.specs.Calls.{refused}
 use Rattle.motion.specs.declared.inner.search.Spot.{Spot}
-use Rattle.motion.specs.Vectors.{inRange}
-use Rattle.motion.specs.VectorsLaws.{InRange, range-pos, range-neg}
-use Rattle.motion.specs.Compensation.{Canvas}
-use Rattle.motion.specs.Search.{Search, largestSide, padded16, sideOk, sizeRefusal, canvasRefusal, searchOk, searchRefusal, searchBest, vectorOf, searched, foundAnswer, searchAnswer}
+use Rattle.vectors.specs.Vectors.{inRange}
+use Rattle.vectors.specs.VectorsLaws.{InRange, range-pos, range-neg}
+use Rattle.vectors.specs.CanvasLaws.{Fitting, plane-passes}
+use Rattle.vectors.specs.Canvas.{Canvas}
+use Rattle.motion.specs.Search.{Search, searchOk, searchRefusal, searchBest, vectorOf, searched, foundAnswer, searchAnswer}
+use Rattle.vectors.specs.Canvas.{largestSide, padded16, sizeRefusal, canvasRefusal}
 use Rattle.motion.specs.Rows.{Sides}
 use Rattle.motion.specs.Candidates.{spotSearch, Ready}
 use Rattle.motion.specs.SearchCall.{eitherSide, blockOk, Raised}
@@ -85,43 +87,7 @@ module _ (g : Search) where
   pub by-none : plane ≡ 0 → block ≡ true → vector ≡ true → 0 ≡ searchRefusal g
   by-none e b v = sym (refusal-is ∙ or-next plane _ e ∙ simp (b, v))
 
--- ---- a size that passes
-pub record Sized (n : ℕ) : Type 0 where
-  pub some : 1 ≤ n
-  pub most : n ≤ largestSide
-
-sized : (n : ℕ) → sideOk n ≡ true → Sized n
-sized n e =
-    let b = both-true (leb 1 n) _ e in
-    record { some = leb-true _ _ (b .0); most = leb-true _ _ (b .1) }
-
-pub size-passes : (w h : ℕ) → sizeRefusal w h ≡ 0 → Sized w × Sized h
-size-passes w h e =
-    let b = both-true (sideOk w) _ (unless-none (sideOk w && sideOk h) 1 (omega arith) e) in
-    (sized w (b .0), sized h (b .1))
-
--- what a canvas that passes has
-pub record Fitting (w h : ℕ) (c : Canvas) : Type 0 where
-  pub width : Sized w
-  pub height : Sized h
-  pub stride : c .stride ≡ padded16 w
-  pub rows : c .rows ≡ padded16 h
-  pub samples : length (c .samples) ≡ c .stride * c .rows
-
-pub plane-passes : (w h : ℕ) (c : Canvas) → orElse (sizeRefusal w h) (canvasRefusal w h c) ≡ 0 → Fitting w h c
-plane-passes w h c e =
-    let a = or-none (sizeRefusal w h) _ e in
-    let b = or-none (unless (eqb (c .stride) (padded16 w) && eqb (c .rows) (padded16 h)) 3) _ (a .1) in
-    let s = size-passes w h (a .0) in
-    let d = both-true (eqb (c .stride) (padded16 w)) _ (unless-none (eqb (c .stride) (padded16 w) && eqb (c .rows) (padded16 h)) 3 (omega arith) (b .0)) in
-    record {
-      width = s .0;
-      height = s .1;
-      stride = eqb-true _ _ (d .0);
-      rows = eqb-true _ _ (d .1);
-      samples = eqb-true _ _ (unless-none (eqb (length (c .samples)) (c .stride * c .rows)) 4 (omega arith) (b .1));
-    }
-
+-- ---- a call that passes
 -- what a block that passes has
 pub passing-side : (s : ℕ) → eitherSide s ≡ true → Sides s
 passing-side s e = go (eqb s 8) refl e

@@ -9,9 +9,9 @@ use lib.Dec.{eqb}
 use lib.IntN.{ℤ}
 use Rattle.bits.specs.Basics.{pick}
 use Rattle.bits.specs.BasicsLaws.{both-true}
-use Rattle.motion.specs.declared.svq1_motion_predictor.Svq1Mv.{Svq1Mv}
-use Rattle.motion.specs.Vectors.{zeroMv, codable}
-use Rattle.motion.specs.VectorsLaws.{Codable, is-codable}
+use Rattle.vectors.specs.declared.svq1_motion_predictor.Svq1Mv.{Svq1Mv}
+use Rattle.vectors.specs.Vectors.{zeroMv, codable}
+use Rattle.vectors.specs.VectorsLaws.{Codable, is-codable}
 use Rattle.motion.specs.Search.{Search, inWindow, allowed, errorOf, Best, nothing, best, lowers, consider, rowTo, rowsTo, fullSearch, centre, aroundTo, searchBest, vectorOf, searched}
 
 -- what has been found so far was allowed

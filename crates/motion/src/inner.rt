@@ -2,5 +2,4 @@
 // everybody else are in the modules that keep the names of the original's files.
 pub mod error;
 pub mod mc;
-pub mod mv_cache;
 pub mod search;

@@ -9,9 +9,9 @@ ghost use Rattle.parts.specs.Node.{bareNode, nodePart};
 ghost use Rattle.parts.specs.Plan.{nodeParts, madePart, noPlan, planPart};
 use super::inner::NodePart;
 use super::inner::leaf_node;
+use plan::svq1_enc_tree::plan_macroblock;
 use tree::svq1_enc_tree::Block;
 use tree::svq1_enc_tree::TreeNode;
-use tree::svq1_enc_tree::plan_macroblock;
 
 // What a plan answers: a refusal's number with zeros, or 0, the plan's bits, its error, the blocks of its tree by number, and the samples
 // that it shows with zeros behind them.

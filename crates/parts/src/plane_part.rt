@@ -1,13 +1,13 @@
 // The plane writer and the plane reader as exported functions.
 ghost use mathlib.Core.Bool.{not};
 ghost use lib.Dec.{eqb};
-ghost use Rattle.macroblock.specs.Chosen.{taskBy};
+ghost use Rattle.macroblock_enc.specs.Chosen.{taskBy};
 ghost use Rattle.macroblock.specs.Inner.{givenBy};
 ghost use Rattle.plane.specs.Calls.{PlaneWritten, PlaneRead};
 ghost use Rattle.parts.specs.Plane.{writeEnd, readEnd};
-use macroblock::svq1_plane::Svq1PlaneCanvas;
 use plane::svq1_enc_inter::encode_inter_plane;
 use plane::svq1_plane::decode_inter_plane;
+use vectors::svq1_plane::Svq1PlaneCanvas;
 
 // What writing a plane answers: a refusal's number, or 0; the macroblocks done; the next bit; and the bits and the squared error of the
 // macroblocks done.

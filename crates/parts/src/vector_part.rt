@@ -5,7 +5,7 @@ ghost use Rattle.motion.specs.SearchCall.{searchedAnswer};
 ghost use Rattle.parts.specs.Vector.{vectorPart};
 use motion::svq1_enc_inter::Searched;
 use motion::svq1_enc_inter::search_motion_vector;
-use motion::svq1_motion_predictor::Svq1Mv;
+use vectors::svq1_motion_predictor::Svq1Mv;
 
 // What the motion search answers: a refusal's number with zeros, or 0 and the vector.
 #[repr(C)]

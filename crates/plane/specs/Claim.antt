@@ -7,9 +7,9 @@ use lib.ListN.{length, take, drop}
 use Rattle.bits.specs.Basics.{All, Bytes, sum}
 use Rattle.bits.specs.Bits.{bitsOf, putBits}
 use Rattle.leaf.specs.Leaf.{sse}
-use Rattle.motion.specs.Grid.{part}
+use Rattle.vectors.specs.Grid.{part}
 use Rattle.tree.specs.Plan.{total, prunedCost}
-use Rattle.tree.specs.PlanClaim.{largestLambda, planCost}
+use Rattle.plan.specs.PlanClaim.{largestLambda, planCost}
 use Rattle.macroblock.specs.declared.svq1_enc_inter.Svq1MbMode.the-variants.{Skip}
 use Rattle.macroblock.specs.Macroblock.{Given, cols, Choice, modeBits}
 use Rattle.macroblock.specs.Choice.{Task, paddedSource, target, motionsTried, planningFor, tried, weightOf}

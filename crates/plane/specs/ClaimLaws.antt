@@ -19,12 +19,12 @@ use Rattle.book.specs.Book.{dataRefusal}
 use Rattle.book.specs.BookLaws.{data-passes}
 use Rattle.bits.specs.Basics.{signedByte}
 use Rattle.leaf.specs.Leaf.{sse}
-use Rattle.motion.specs.Grid.{part}
-use Rattle.motion.specs.GridLaws.{part-own, part-other, agree-whole, agree-take}
-use Rattle.motion.specs.NeighboursLaws.{Ranged, ranged-put, stored-x, stored-y, Around, around}
-use Rattle.motion.specs.Search.{largestSide, sideOk, padded16, sizeRefusal, canvasRefusal}
+use Rattle.vectors.specs.Grid.{part}
+use Rattle.vectors.specs.GridLaws.{part-own, part-other, agree-whole, agree-take}
+use Rattle.vectors.specs.NeighboursLaws.{Ranged, ranged-put, stored-x, stored-y, Around, around}
+use Rattle.vectors.specs.Canvas.{largestSide, sideOk, padded16, sizeRefusal, canvasRefusal}
 use Rattle.tree.specs.Plan.{Weight}
-use Rattle.tree.specs.PlanClaim.{largestLambda}
+use Rattle.plan.specs.PlanClaim.{largestLambda}
 use Rattle.macroblock.specs.declared.svq1_enc_inter.Svq1MbMode.the-variants.{Skip}
 use Rattle.macroblock.specs.Macroblock.{Given, cols, rows, Choice, vectorsOf, shown, referenceBlock, modeBits, choiceBits}
 use Rattle.macroblock.specs.Choice.{Task, paddedSource, target, motionsTried, tried, weightOf}

@@ -17,9 +17,9 @@ use Rattle.bits.specs.BitsLaws.{length-bitsOf}
 use Rattle.bits.specs.Codes.{got, bad}
 use Rattle.bits.specs.Calls.{startRefusal}
 use Rattle.book.specs.Book.{dataRefusal}
-use Rattle.motion.specs.GridLaws.{length-put}
-use Rattle.motion.specs.Search.{largestSide, blocksAlong, padded16, sizeRefusal, canvasRefusal}
-use Rattle.motion.specs.SearchCallLaws.{Fitting, plane-passes}
+use Rattle.vectors.specs.GridLaws.{length-put}
+use Rattle.vectors.specs.Canvas.{largestSide, blocksAlong, padded16, sizeRefusal, canvasRefusal}
+use Rattle.vectors.specs.CanvasLaws.{Fitting, plane-passes}
 use Rattle.macroblock.specs.Macroblock.{Given, cols, rows, Choice}
 use Rattle.macroblock.specs.Reading.{readMacroblock}
 use Rattle.macroblock.specs.Slices.{Slices, near, laid}

@@ -7,7 +7,7 @@ use native.Mathlib.Nat.{le-refl}
 use borrow.Author.Tests.{eq-eqb}
 use lib.ListN.{take, drop}
 use Rattle.bits.specs.Bits.{bitsOf}
-use Rattle.tree.specs.PlanClaim.{largestLambda}
+use Rattle.plan.specs.PlanClaim.{largestLambda}
 use Rattle.macroblock.specs.Macroblock.{Given}
 use Rattle.macroblock.specs.Choice.{Task}
 use Rattle.macroblock.specs.Slices.{Slices}

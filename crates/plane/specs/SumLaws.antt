@@ -9,8 +9,8 @@ use lib.ListN.{length, getD}
 use lib.Arith.{digits-div, digits-mod}
 use Rattle.bits.specs.Basics.{gap, sum}
 use Rattle.leaf.specs.Leaf.{sse}
-use Rattle.motion.specs.Grid.{entryOf, part}
-use Rattle.motion.specs.GridLaws.{length-part, part-at}
+use Rattle.vectors.specs.Grid.{entryOf, part}
+use Rattle.vectors.specs.GridLaws.{length-part, part-at}
 
 pub sum-ext : (f g : ℕ → ℕ) (n : ℕ) → ((i : ℕ) → i < n → f i ≡ g i) → sum f n ≡ sum g n
 unfolding sum

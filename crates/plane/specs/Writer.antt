@@ -8,8 +8,8 @@ use Rattle.bits.specs.Basics.{orElse, unless}
 use Rattle.bits.specs.Bits.{bitsOf}
 use Rattle.bits.specs.Calls.{startRefusal}
 use Rattle.book.specs.Book.{dataRefusal}
-use Rattle.motion.specs.NeighboursLaws.{Ranged}
-use Rattle.motion.specs.Search.{sizeRefusal, canvasRefusal}
+use Rattle.vectors.specs.NeighboursLaws.{Ranged}
+use Rattle.vectors.specs.Canvas.{sizeRefusal, canvasRefusal}
 use Rattle.macroblock.specs.Macroblock.{Given, cols}
 use Rattle.macroblock.specs.Choice.{Task}
 use Rattle.macroblock.specs.Slices.{Slices}

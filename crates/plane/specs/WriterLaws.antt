@@ -16,18 +16,18 @@ use Rattle.bits.specs.Bits.{bitsOf, putBits}
 use Rattle.bits.specs.BitsLaws.{length-bitsOf}
 use Rattle.bits.specs.Calls.{startRefusal}
 use Rattle.book.specs.Book.{dataRefusal}
-use Rattle.motion.specs.NeighboursLaws.{Ranged, ranged-put, stored-x, stored-y}
-use Rattle.motion.specs.Search.{largestSide, sideOk, padded16, sizeRefusal, canvasRefusal}
-use Rattle.motion.specs.SearchCallLaws.{size-passes}
-use Rattle.motion.specs.VectorsLaws.{Inside}
+use Rattle.vectors.specs.NeighboursLaws.{Ranged, ranged-put, stored-x, stored-y}
+use Rattle.vectors.specs.Canvas.{largestSide, sideOk, padded16, sizeRefusal, canvasRefusal}
+use Rattle.vectors.specs.CanvasLaws.{size-passes}
+use Rattle.vectors.specs.VectorsLaws.{Inside}
 use Rattle.macroblock.specs.Macroblock.{Given, cols, Choice, vectorsOf, shown, choiceBits}
 use Rattle.macroblock.specs.MacroblockLaws.{Fine, Good, chosen-good, target-block, near-24}
 use Rattle.macroblock.specs.Choice.{Task, target, weightOf}
 use Rattle.macroblock.specs.Slices.{Slices, near, laid}
 use Rattle.macroblock.specs.Inner.{Held}
 use Rattle.macroblock.specs.InnerLaws.{book-passes, wide}
-use Rattle.macroblock.specs.declared.inner.writing.WrittenMb.{WrittenMb}
-use Rattle.macroblock.specs.Written.{MbReady, MbWritten, mbChoice, mbWeight, fitsIn}
+use Rattle.macroblock_enc.specs.declared.inner.writing.WrittenMb.{WrittenMb}
+use Rattle.macroblock_enc.specs.Written.{MbReady, MbWritten, mbChoice, mbWeight, fitsIn}
 use Rattle.plane.specs.declared.svq1_enc_inter.WriteEnd.{WriteEnd}
 use Rattle.plane.specs.Run.{on, stop, run}
 use Rattle.plane.specs.RunLaws.{turned, stopped, ended}

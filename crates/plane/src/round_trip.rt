@@ -1,5 +1,5 @@
 // A plane written and read back: what is claimed of a whole plane, tied to memory.
-ghost use Rattle.macroblock.specs.Chosen.{taskBy};
+ghost use Rattle.macroblock_enc.specs.Chosen.{taskBy};
 ghost use Rattle.macroblock.specs.Inner.{givenBy};
 ghost use Rattle.plane.specs.Reader as reader;
 ghost use Rattle.plane.specs.Writer as writer;
@@ -8,7 +8,7 @@ use super::svq1_enc_inter::WriteEnd;
 use super::svq1_enc_inter::encode_inter_plane;
 use super::svq1_plane::ReadEnd;
 use super::svq1_plane::decode_inter_plane;
-use macroblock::svq1_plane::Svq1PlaneCanvas;
+use vectors::svq1_plane::Svq1PlaneCanvas;
 
 // What the writer answered, and the reader.
 pub struct TripEnd {

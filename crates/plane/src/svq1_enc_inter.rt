@@ -1,11 +1,11 @@
 // The plane writer.
-ghost use Rattle.macroblock.specs.Chosen.{taskBy};
+ghost use Rattle.macroblock_enc.specs.Chosen.{taskBy};
 ghost use Rattle.macroblock.specs.Inner.{givenBy};
 ghost use Rattle.plane.specs.Calls.{PlaneWritten};
 ghost use Rattle.plane.specs.Writer.{endOf};
 use super::inner::writing::write_accepted;
 use super::inner::writing::write_refusal;
-use macroblock::svq1_plane::Svq1PlaneCanvas;
+use vectors::svq1_plane::Svq1PlaneCanvas;
 
 // What writing a plane answers: the number of a refusal, or 0; the macroblocks done, which with 22 is the index of the one that does not fit;
 // the next bit; and the bits and the squared error of the macroblocks done.

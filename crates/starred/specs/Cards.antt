@@ -11,13 +11,14 @@ use Rattle.book.specs.House.{houseBook, houseCodebook}
 use Rattle.book.specs.declared.svq1_vlc.Svq1Half.the-variants.{Inter}
 use Rattle.leaf.specs.Codebook.{rasterOf}
 use Rattle.leaf.specs.Mean.{meanOf}
-use Rattle.motion.specs.declared.svq1_motion_predictor.Svq1Mv.{Svq1Mv}
-use Rattle.motion.specs.declared.svq1_motion_predictor.Neighbour.{Neighbour}
-use Rattle.motion.specs.declared.svq1_motion_predictor.Neighbour.the-variants.{Absent, Present}
-use Rattle.motion.specs.Vectors.{predicted}
+use Rattle.vectors.specs.declared.svq1_motion_predictor.Svq1Mv.{Svq1Mv}
+use Rattle.vectors.specs.declared.svq1_motion_predictor.Neighbour.{Neighbour}
+use Rattle.vectors.specs.declared.svq1_motion_predictor.Neighbour.the-variants.{Absent, Present}
+use Rattle.vectors.specs.Vectors.{predicted}
 use Rattle.motion.specs.Compensation.{mean2, mean4}
 use Rattle.bits.specs.Calls.{done}
-use Rattle.motion.specs.Search.{Search, padded16, searchAnswer}
+use Rattle.motion.specs.Search.{Search, searchAnswer}
+use Rattle.vectors.specs.Canvas.{padded16}
 use Rattle.macroblock.specs.Macroblock.{Given}
 use Rattle.macroblock.specs.Choice.{Task}
 use Rattle.plane.specs.Plane.{writePlane}

@@ -27,7 +27,7 @@ use Rattle.leaf.specs.LeafBits.{leafBits, stageBits}
 use Rattle.tree.specs.Blocks.{level, gather, placeUnder, place, blockOf}
 use Rattle.tree.specs.BlocksLaws.{level-le}
 use Rattle.tree.specs.Plan.{Weight, Planning, planned, splits, leafAt, shownAt, weightAt, planSplits}
-use Rattle.tree.specs.PlanLaws.{splits-same}
+use Rattle.plan.specs.PlanLaws.{splits-same}
 use Rattle.tree.specs.TreeBits.{Node, Off, Split, Ends, isSplit, grow, planTree}
 use Rattle.macroblock.specs.Choice.{skipsLeaves}
 

@@ -10,8 +10,8 @@ use borrow.Author.Tests.{le-leb}
 use lib.ListN.{length, replicate, length-replicate}
 use Rattle.bits.specs.Basics.{All}
 use Rattle.book.specs.declared.svq1_vlc.Svq1Half.the-variants.{Intra, Inter}
-use Rattle.motion.specs.Vectors.{zeroMv}
-use Rattle.motion.specs.Neighbours.{Near}
+use Rattle.vectors.specs.Vectors.{zeroMv}
+use Rattle.vectors.specs.Neighbours.{Near}
 use Rattle.macroblock.specs.Macroblock.{Given, Motion, still, single, four, Choice, skipped, coded, halfOf}
 use Rattle.macroblock.specs.Choice.{Task}
 use Rattle.macroblock.specs.Slices.{near}
@@ -34,10 +34,10 @@ use Rattle.leaf.specs.Mean.{rounded, clampMean, meanOf, saturate}
 use Rattle.macroblock.specs.Choice.{paddedSource, target, singleTried, fourTried, motionsTried, planningFor, tried, weightOf, beats, bestOf, chosen}
 use Rattle.macroblock.specs.Macroblock.{referenceBlock, baseline, shown, vectorBits, motionBits, choiceBits}
 use Rattle.motion.specs.Compensation.{sampleAt, halfSample, movedBlock}
-use Rattle.motion.specs.Grid.{part}
-use Rattle.motion.specs.Neighbours.{neighbourAt, nearOf}
+use Rattle.vectors.specs.Grid.{part}
+use Rattle.vectors.specs.Neighbours.{neighbourAt, nearOf}
 use Rattle.motion.specs.Search.{inWindow, allowed, sad, errorOf, consider, fullAt, rowTo, rowsTo, fullSearch, aroundTo, searchBest, searched, searchOk, searchRefusal, searchAnswer}
-use Rattle.motion.specs.Vectors.{median, predicted, codable}
+use Rattle.vectors.specs.Vectors.{median, predicted, codable}
 use Rattle.plane.specs.Plane.{written, writePlane}
 use Rattle.plane.specs.Run.{run, after}
 use Rattle.text.specs.Text.{isNumber, valueFrom, numberUpTo, pieces, allEnded, linesOf, fieldsOf, digitsBefore, decimal, joined, lineOf}

@@ -7,16 +7,10 @@ pub mod RowsLaws
 pub mod Turns
 pub mod GeometryLaws
 pub mod Subtree
-pub mod PlanLaws
 pub mod SumLaws
 pub mod TreeBits
 pub mod TreeLaws
 pub mod Nodes
-pub mod Planned
-pub mod ChoiceLaws
-pub mod PlanClaim
-pub mod PlanClaimLaws
-pub mod PlannedLaws
 pub mod Walk
 pub mod WalkLaws
 pub mod WalkReadLaws
@@ -25,7 +19,3 @@ pub mod RebuildLaws
 pub mod ShownLaws
 pub mod QueueLaws
 pub mod ReadSoundLaws
-pub mod Planning
-pub mod PlanningLaws
-pub mod PlanCall
-pub mod PlanCallLaws

@@ -20,7 +20,7 @@ use Rattle.leaf.specs.Leaf.{Leaf}
 use Rattle.leaf.specs.Lent.{lentTables, LeafRead}
 use Rattle.leaf.specs.LentReadLaws.{book-read}
 use Rattle.leaf.specs.Raised.{leafOf}
-use Rattle.leaf.specs.declared.inner.ReadLeaf.{ReadLeaf}
+use Rattle.leaf.specs.declared.inner.reading.ReadLeaf.{ReadLeaf}
 use Rattle.leaf.specs.LeafBits.{readLeaf}
 use Rattle.tree.specs.Blocks.{blockCount, level, first}
 use Rattle.tree.specs.TreeBits.{Node, Off, Split, Ends, reached, asNode, readNode, readIf, readFrom, readTree}

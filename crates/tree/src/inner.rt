@@ -1,15 +1,11 @@
 // Functions that only the crates of this repository call. Most have a `requires`: the caller, proved too, meets it.
 ghost use mathlib.Core.Path.{_≡_};
-ghost use Prim.Native.Nat.{_+_, _-_, _*_, _^_, _<_, _≤_};
+ghost use Prim.Native.Nat.{_+_, _-_, _*_, _<_, _≤_};
 ghost use lib.ListN.{length};
 ghost use lib.Seq.{sets};
-ghost use Rattle.book.specs.Level.{width};
-ghost use Rattle.tree.specs.Blocks.{gather, paint, level, place, blockOf};
+ghost use Rattle.tree.specs.Blocks.{gather, paint, level, place};
 ghost use Rattle.tree.specs.Turns.{Rows};
 ghost use Rattle.tree.specs.PlaceLaws.{rowOf, columnOf};
-ghost use Rattle.tree.specs.Subtree.{inTree, BlockIn};
-use super::walk::first_of;
-use super::walk::level_at;
 
 // The run `xs` into `out` from sample `at` on.
 fn put_row(out: &mut [u8], at: usize, xs: &[u8])
@@ -230,50 +226,4 @@ pub fn place_of(s: usize, i: usize) -> usize
     ensures { λ r. ⌜ (r ≡ place s i) × (r ≤ 65536) ⌝ }
 {
     s * row_of(i) + column_of(i)
-}
-
-// How many blocks of a level lie under a block `n` levels above it.
-fn blocks_under(n: usize) -> usize
-    requires { ⌜ n ≤ 5 ⌝ }
-    ensures { λ r. ⌜ r ≡ 2 ^ n ⌝ }
-{
-    if n < 1 {
-        return 1;
-    }
-    if n < 2 {
-        return 2;
-    }
-    if n < 3 {
-        return 4;
-    }
-    if n < 4 {
-        return 8;
-    }
-    if n < 5 {
-        return 16;
-    }
-    32
-}
-
-// Whether block i lies under the first block of level d.
-pub fn in_tree(d: usize, i: usize) -> bool
-    requires { ⌜ (d ≤ 5) × (i < 63) ⌝ }
-    ensures { λ r. ⌜ r ≡ inTree d i ⌝ }
-{
-    let e = level_of(i);
-    if d < e {
-        return false;
-    }
-    i - first_of(e) < blocks_under(d - e)
-}
-
-// Block i of a plane that is a block of level d.
-pub fn block_of(m: &[u8], d: usize, i: usize, out: &mut [u8])
-    requires { ⌜ BlockIn d i (length (now m)) (length (now out)) ⌝ }
-    ensures { λ _. ⌜ now (out .exit) ≡ blockOf (width d) (level i) i (now (m .entry)) ⌝ }
-{
-    let whole = level_at(d).block_dims();
-    let dims = level_at(level_of(i)).block_dims();
-    let s = whole.width;
-    gather_block(m, s, place_of(s, i), dims.width, dims.height, out);
 }

@@ -1,5 +1,4 @@
-// The block tree of a macroblock: plan, emission, reading and reconstruction.
+// The block tree: its 63 blocks, its bits, its reading and its samples.
 pub mod inner;
-pub mod planning;
 pub mod svq1_enc_tree;
 pub mod walk;

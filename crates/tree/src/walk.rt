@@ -12,7 +12,6 @@ ghost use Rattle.tree.specs.Blocks.{first, paintAt};
 ghost use Rattle.tree.specs.TreeBits.{isSplit, reached, nodeBits, treeBits};
 ghost use Rattle.tree.specs.Nodes.{nodeOf, treeOf};
 ghost use Rattle.tree.specs.Rebuild.{Cells, Drawing, DrawingNode, Rebuilding, leafAs, nodeAt, rebuiltBy};
-ghost use Rattle.tree.specs.PlanCall.{FrontReady, FrontShown};
 ghost use Rattle.tree.specs.Walk.{leafFlag, LeafRoom, NodeRoom, TreeRoom, Reads, LeafHere, NodeHere, TreeHere};
 use super::inner::gather_block;
 use super::inner::level_of;
@@ -24,11 +23,11 @@ use bits::inner::get_bits;
 use bits::inner::put_bits;
 use book::svq1_blocktree::Svq1Level;
 use book::svq1_vlc::Svq1Half;
-use leaf::inner::mean_table;
-use leaf::inner::page_start;
-use leaf::inner::put_leaf;
-use leaf::inner::read_leaf;
-use leaf::inner::show_leaf;
+use leaf::inner::raster::page_start;
+use leaf::inner::reading::read_leaf;
+use leaf::inner::samples::show_leaf;
+use leaf::inner::writing::mean_table;
+use leaf::inner::writing::put_leaf;
 use leaf::svq1_enc_leaf::LeafCode;
 
 // The level of this number.
@@ -409,23 +408,4 @@ pub fn rebuild(
         }
     }
     paint_node(b, half, predictor, raised, s, level, i, out);
-}
-
-// The samples that the tree of a block of level d shows, at the front of `out`, over the block's predictor. `raised` is the raised codebook.
-pub fn plan_reconstruction(
-    blocks: [Block; 63],
-    half: Svq1Half,
-    predictor: &[u8],
-    raised: &[u8],
-    d: usize,
-    out: &mut [u8],
-)
-    requires { ⌜ FrontReady half (treeOf blocks) (length (now predictor)) (length (now raised)) d (length (now out)) ⌝ }
-    ensures { λ _. ⌜ FrontShown half (treeOf blocks) (now (predictor .entry)) (now (raised .entry)) d (now (out .entry)) (now (out .exit)) ⌝ }
-{
-    let level = level_at(d);
-    let n = level.vector_length();
-    let s = level.block_dims().width;
-    let root = first_of(d);
-    rebuild(blocks, half, predictor, raised, s, d, root, &mut out[0..n]);
 }

@@ -7,16 +7,16 @@ ghost use Rattle.bits.specs.Bits.{bitsOf};
 ghost use Rattle.bits.specs.Codes.{codesOf, goodTable, takeCode};
 ghost use Rattle.bits.specs.Inner.{Fits};
 ghost use Rattle.book.specs.Book.{modeTable, vectorTable};
-ghost use Rattle.motion.specs.Vectors.{differenceAt};
-ghost use Rattle.motion.specs.VectorsLaws.{Inside};
+ghost use Rattle.vectors.specs.Vectors.{differenceAt};
+ghost use Rattle.vectors.specs.VectorsLaws.{Inside};
 ghost use Rattle.tree.specs.Walk.{Reads};
 ghost use Rattle.macroblock.specs.Mode.{modePosition};
 ghost use Rattle.macroblock.specs.Reading.{readVector};
 ghost use Rattle.macroblock.specs.Finding.{Found, PositionFound, readPair, byBook};
 use super::super::svq1_enc_inter::Svq1MbMode;
 use bits::svq1_vlc::CodeRead;
-use motion::svq1_motion_predictor::Svq1Mv;
-use motion::svq1_motion_predictor::final_motion_vector;
+use vectors::svq1_motion_predictor::Svq1Mv;
+use vectors::svq1_motion_predictor::final_motion_vector;
 
 // A code that was read: the number of a refusal, or 0 with the code's position in its table and the bit behind it.
 pub struct ReadPosition {

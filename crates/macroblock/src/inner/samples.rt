@@ -4,27 +4,27 @@ ghost use mathlib.Core.List.{List};
 ghost use Prim.Native.Nat.{ℕ, _*_, _<_};
 ghost use lib.ListN.{length, replicate};
 ghost use Rattle.bits.specs.Basics.{All};
-ghost use Rattle.motion.specs.Cache.{Slices};
-ghost use Rattle.motion.specs.Grid.{part, putPart};
+ghost use Rattle.vectors.specs.Cache.{Slices};
+ghost use Rattle.vectors.specs.Grid.{part, putPart};
 ghost use Rattle.motion.specs.Moved.{Placed};
-ghost use Rattle.motion.specs.Search.{blocksAlong};
-ghost use Rattle.motion.specs.VectorsLaws.{Inside};
-ghost use Rattle.motion.specs.declared.svq1_motion_predictor.Svq1Mv.{Svq1Mv};
+ghost use Rattle.vectors.specs.Canvas.{blocksAlong};
+ghost use Rattle.vectors.specs.VectorsLaws.{Inside};
+ghost use Rattle.vectors.specs.declared.svq1_motion_predictor.Svq1Mv.{Svq1Mv};
 ghost use Rattle.tree.specs.Nodes.{treeOf};
 ghost use Rattle.macroblock.specs.Macroblock.{coded, halfOf, baseline};
 ghost use Rattle.macroblock.specs.Motions.{motionOf};
 ghost use Rattle.macroblock.specs.Inner.{givenBy};
 ghost use Rattle.macroblock.specs.Samples.{Stands, Room, Laid, Showing, Shows, quarters};
 use super::super::svq1_enc_inter::MbMotion;
-use super::super::svq1_plane::Svq1PlaneCanvas;
 use book::svq1_vlc::Svq1Half;
 use motion::inner::mc::mc_macroblock;
 use motion::inner::mc::mc_quarter;
-use motion::inner::mv_cache::store_vectors;
-use motion::svq1_motion_predictor::Svq1Mv;
-use motion::svq1_motion_predictor::zero_vector;
 use tree::svq1_enc_tree::Block;
 use tree::walk::rebuild;
+use vectors::inner::store_vectors;
+use vectors::svq1_motion_predictor::Svq1Mv;
+use vectors::svq1_motion_predictor::zero_vector;
+use vectors::svq1_plane::Svq1PlaneCanvas;
 
 // Macroblock k of a plane, whose canvas has this stride and so many rows: the block that a zero vector reads.
 pub fn take_block(

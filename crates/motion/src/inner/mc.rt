@@ -4,9 +4,9 @@ ghost use lib.ListN.{length, getD};
 ghost use Rattle.motion.specs.Compensation.{clampTo, sampleAt, halfSample, movedBlock, mean2 as meanOf2, mean4 as meanOf4};
 ghost use Rattle.motion.specs.Rows.{cell};
 ghost use Rattle.motion.specs.Moved.{movedPart, Parts, Placed, down, downHalf, downMv, upEnd, Lifted, rowSet, InCanvas, cellPart, insideUp};
-use super::super::svq1_motion_predictor::Svq1Mv;
 use super::error::mean2;
 use super::error::mean4;
+use vectors::svq1_motion_predictor::Svq1Mv;
 
 // A place raised by 2^31, clamped to 0 .. size - 1.
 fn clamped(n: usize, size: usize) -> usize

@@ -3,16 +3,16 @@ ghost use mathlib.Core.Path.{_≡_};
 ghost use Prim.Native.Nat.{_*_};
 ghost use lib.ListN.{length};
 ghost use Rattle.book.specs.Book.{codebookBytes};
-ghost use Rattle.macroblock.specs.Chosen.{taskBy};
+ghost use Rattle.macroblock_enc.specs.Chosen.{taskBy};
 ghost use Rattle.macroblock.specs.Inner.{givenBy};
 ghost use Rattle.plane.specs.Reader.{PlaneReady, PlaneAccepted};
 ghost use Rattle.plane.specs.Writer.{writeRefusalBy, WrittenThrough};
 use super::super::svq1_enc_inter::WriteEnd;
 use super::read_refusal;
-use leaf::inner::raise_codebook;
-use macroblock::inner::writing::write_macroblock;
-use macroblock::svq1_plane::Svq1PlaneCanvas;
-use motion::svq1_enc_inter::plane_refusal;
+use leaf::inner::raster::raise_codebook;
+use macroblock_enc::inner::writing::write_macroblock;
+use vectors::svq1_plane::Svq1PlaneCanvas;
+use vectors::svq1_plane::plane_refusal;
 
 // The refusals of the writer: the reader's, and 2 for a source of another size behind 1; 0 for none. The source, the output and the result slices are
 // given by their lengths.

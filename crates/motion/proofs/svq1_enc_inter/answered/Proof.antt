@@ -5,7 +5,7 @@ use mir.ValLaws.{toZ-ofZ}
 use mir.Val.{SFits}
 use mir.Syntax.{w32}
 use Rattle.motion.specs.Candidates.{lowered, shown}
-use Rattle.motion.specs.ClipLaws.{sub-mag}
+use Rattle.vectors.specs.ClipLaws.{sub-mag}
 use borrow.Author.Needs.{needs}
 use Rattle.motion.proofs.svq1_enc_inter.answered.Statement.{statement}
 use Rattle.motion.proofs.svq1_enc_inter.answered.Tie as tie

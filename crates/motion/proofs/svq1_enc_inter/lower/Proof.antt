@@ -6,7 +6,7 @@ use mir.Val.{SFits, toZ}
 use mir.Syntax.{w32}
 use lib.IntN.{pos, _-ℤ_}
 use Rattle.motion.specs.Candidates.{lowered}
-use Rattle.motion.specs.ClipLaws.{sub-mag}
+use Rattle.vectors.specs.ClipLaws.{sub-mag}
 use borrow.Author.Needs.{needs}
 use Rattle.motion.proofs.svq1_enc_inter.lower.Statement.{statement}
 use Rattle.motion.proofs.svq1_enc_inter.lower.Tie as tie

@@ -2,7 +2,7 @@
 use native.Mathlib.Omega.{arith}
 use Rattle.bits.specs.Basics.{Bytes}
 use Rattle.macroblock.specs.Macroblock.{Given}
-use Rattle.macroblock.specs.Chosen.{taskBy}
+use Rattle.macroblock_enc.specs.Chosen.{taskBy}
 use Rattle.macroblock.specs.Choice.{Task}
 use Rattle.macroblock.specs.Inner.{givenBy}
 use Rattle.plane.specs.RoundTripLaws.{tripped}

@@ -2,7 +2,7 @@
 use mathlib.Core.Path.{sym, _∙_}
 use Rattle.macroblock.specs.Macroblock.{Given}
 use Rattle.macroblock.specs.Choice.{Task}
-use Rattle.macroblock.specs.Chosen.{taskBy}
+use Rattle.macroblock_enc.specs.Chosen.{taskBy}
 use Rattle.macroblock.specs.Slices.{Slices}
 use Rattle.macroblock.specs.Inner.{givenBy}
 use Rattle.plane.specs.WriterLaws.{refusal-is, write-accepted, call-refused, call-written}

@@ -5,8 +5,8 @@ use mir.ValLaws.{toZ-ofZ}
 use mir.Val.{SFits, toZ}
 use mir.Syntax.{w32}
 use lib.IntN.{pos, _-ℤ_}
-use Rattle.motion.specs.Vectors.{differenceAt}
-use Rattle.motion.specs.ClipLaws.{sub-mag}
+use Rattle.vectors.specs.Vectors.{differenceAt}
+use Rattle.vectors.specs.ClipLaws.{sub-mag}
 use borrow.Author.Needs.{needs}
 use Rattle.macroblock.proofs.inner.codes.difference_at.Statement.{statement}
 use Rattle.macroblock.proofs.inner.codes.difference_at.Tie as tie

@@ -1,6 +1,6 @@
 -- A full-sample place is the case in which both offsets are 0; the side is then named, so that each loop has a known length.
 use native.Mathlib.Omega.{arith}
-use Rattle.motion.specs.Compensation.{Canvas}
+use Rattle.vectors.specs.Canvas.{Canvas}
 use Rattle.motion.specs.RowsLaws.{read-full, summed-full}
 use borrow.Author.Needs.{needs}
 use Rattle.motion.proofs.inner.error.block_error.Statement.{statement}

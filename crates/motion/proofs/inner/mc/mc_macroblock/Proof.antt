@@ -1,6 +1,6 @@
 -- One part of side 16 sets every sample, so nothing of the old ones is left.
 use mathlib.Core.Path.{_∙_}
-use Rattle.motion.specs.Compensation.{Canvas}
+use Rattle.vectors.specs.Canvas.{Canvas}
 use Rattle.motion.specs.PartsLaws.{whole-moved}
 use borrow.Author.Needs.{needs}
 use Rattle.motion.proofs.inner.mc.mc_macroblock.Statement.{statement}

@@ -1,9 +1,9 @@
 -- The first j samples of the part are put where its order puts them; each is the definition's at its place.
 use mathlib.Core.Path.{_≡_, _∙_, ap}
 use Prim.Native.Nat.{ℕ, _-_, _*_, _≤_}
-use Rattle.motion.specs.Compensation.{Canvas}
-use Rattle.motion.specs.Grid.{entryOf}
-use Rattle.motion.specs.PutLaws.{putTo, put-none, put-more}
+use Rattle.vectors.specs.Canvas.{Canvas}
+use Rattle.vectors.specs.Grid.{entryOf}
+use Rattle.vectors.specs.PutLaws.{putTo, put-none, put-more}
 use Rattle.motion.specs.Moved.{downMv}
 use Rattle.motion.specs.MovedLaws.{moved-is, part-steps, square-most, side-some, cols-some, partValues, part-value, part-done}
 use native.Mathlib.Omega.{arith}

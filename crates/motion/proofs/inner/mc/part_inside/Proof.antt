@@ -3,8 +3,8 @@ use Rattle.bits.specs.Basics.{valuesFrom}
 use Rattle.motion.specs.Rows.{cell}
 use mathlib.Core.Path.{_≡_, _∙_, ap}
 use Prim.Native.Nat.{ℕ, _+_, _-_, _*_, _/_, _%_, _≤_}
-use Rattle.motion.specs.Compensation.{Canvas}
-use Rattle.motion.specs.PutLaws.{putTo}
+use Rattle.vectors.specs.Canvas.{Canvas}
+use Rattle.vectors.specs.PutLaws.{putTo}
 use Rattle.motion.specs.MovedLaws.{cols-some}
 use Rattle.motion.specs.InsideLaws.{cellValues, part-begin, part-next, part-end, row-place, row-first, row-read}
 use native.Mathlib.Omega.{arith}

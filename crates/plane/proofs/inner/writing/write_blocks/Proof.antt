@@ -3,7 +3,7 @@ use mathlib.Core.Path.{_∙_}
 use Prim.Native.Nat.{_-_, _<_}
 use Rattle.macroblock.specs.Macroblock.{Given}
 use Rattle.macroblock.specs.Choice.{Task}
-use Rattle.macroblock.specs.Chosen.{taskBy}
+use Rattle.macroblock_enc.specs.Chosen.{taskBy}
 use Rattle.macroblock.specs.Slices.{Slices}
 use Rattle.macroblock.specs.Inner.{givenBy}
 use Rattle.plane.specs.Plane.{count}

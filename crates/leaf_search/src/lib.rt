@@ -1,0 +1,3 @@
+// The leaf search.
+pub mod inner;
+pub mod svq1_enc_leaf;

@@ -1,0 +1,2 @@
+// One macroblock chosen and written.
+pub mod inner;

@@ -1,0 +1,11 @@
+-- The definitions that the contracts of this crate cite.
+pub mod PlanLaws
+pub mod ChoiceLaws
+pub mod PlanClaim
+pub mod PlanClaimLaws
+pub mod Planned
+pub mod PlannedLaws
+pub mod Planning
+pub mod PlanningLaws
+pub mod PlanCall
+pub mod PlanCallLaws

@@ -1,0 +1,100 @@
+-- What the functions of `planning` ask and find.
+use mathlib.Core.Path.{_≡_}
+use mathlib.Core.Bool.{Bool, true, false}
+use mathlib.Core.List.{List}
+use Prim.Native.Nat.{ℕ, _≤_, _<_}
+use lib.ListN.{length}
+use Rattle.bits.specs.Basics.{pick}
+use Rattle.book.specs.Book.{tablesOf, bookRefusal, codebookBytes}
+use Rattle.book.specs.Level.{width, area}
+use Rattle.book.specs.declared.svq1_vlc.Svq1Half.{Svq1Half}
+use Rattle.book.specs.declared.svq1_vlc.Svq1Half.the-variants.{Inter}
+use Rattle.leaf.specs.Codebook.{vectorAt}
+use Rattle.leaf.specs.Inner.{pageStart}
+use Rattle.leaf.specs.Leaf.{Leaf, Vectors, sse, leafShown, leafRule, capAt}
+use Rattle.leaf.specs.Raised.{leafOf, vectorsIn, raisedCodebook}
+use Rattle.leaf_search.specs.declared.svq1_enc_leaf.LeafChoice.{LeafChoice}
+use Rattle.leaf.specs.declared.svq1_enc_leaf.LeafCode.{LeafCode}
+use Rattle.tree.specs.Blocks.{blockCount, level, blockOf}
+use Rattle.tree.specs.Plan.{Planning, planWeight}
+use Rattle.plan.specs.Planned.{weight}
+use Rattle.tree.specs.Subtree.{inTree}
+use Rattle.tree.specs.TreeBits.{Node, Split, Ends, planTree}
+use Rattle.tree.specs.Nodes.{treeOf}
+use Rattle.plan.specs.declared.svq1_enc_tree.MbPlan.{MbPlan}
+use Rattle.plan.specs.declared.svq1_enc_tree.PlannedBlock.{PlannedBlock}
+
+-- ---- one leaf
+-- block i lies under the root of a block of level d
+pub record BlockReady (d i : ℕ) : Type 0 where
+  pub block : i < blockCount
+  pub under : inTree d i ≡ true
+
+-- the raised codebook, a target and a predictor of level d by their lengths, and block i in them
+pub record LeafReady (raised most d target predictor i : ℕ) : Type 0 where
+  pub copied : raised ≡ codebookBytes
+  pub few : most ≤ 6
+  pub five : d ≤ 5
+  pub target-long : target ≡ area d
+  pub predictor-long : predictor ≡ area d
+  pub here : BlockReady d i
+
+-- scratch for a block of level d
+pub record Scratch (d t p sums shown : ℕ) : Type 0 where
+  pub t-long : t ≡ area d
+  pub p-long : p ≡ area d
+  pub sums-long : sums ≡ 256
+  pub shown-long : shown ≡ 256
+
+-- the leaf choice of block i by the raised codebook, and its error
+module _ (h : Svq1Half) (raised : List ℕ) (most : ℕ) (skips : Bool) (d : ℕ) (target predictor : List ℕ) (i : ℕ) where
+  abbrev blockIn : List ℕ → List ℕ
+  blockIn = blockOf (width d) (level i) i
+
+  abbrev pageOf : Vectors
+  pageOf = vectorsIn raised (pageStart h (level i)) (area (level i))
+
+  abbrev leafIn : Leaf
+  leafIn = leafRule h pageOf (capAt (level i) most) skips (blockIn target) (blockIn predictor)
+
+  pub record BlockLeaf (r : LeafChoice) : Type 0 where
+    pub leaf : leafOf (r .code) (r .stages) ≡ leafIn
+    pub erring : r .error ≡ sse (blockIn target) (leafShown pageOf (blockIn predictor) leafIn)
+
+-- ---- the plan
+-- tables that pass, the codebook's raised copy, at most six stages, skip with the inter half only, a target and a predictor of level d
+pub record PlanReady (h : Svq1Half) (book codebook raised : List ℕ) (most : ℕ) (skips : Bool) (d : ℕ) (target predictor : List ℕ) : Type 0 where
+  pub good : bookRefusal book ≡ 0
+  pub whole : length codebook ≡ codebookBytes
+  pub copy : raised ≡ raisedCodebook codebook
+  pub few : most ≤ 6
+  pub inter : skips ≡ true → h ≡ Inter
+  pub five : d ≤ 5
+  pub target-long : length target ≡ area d
+  pub predictor-long : length predictor ≡ area d
+
+-- what is planned, by the parameters
+abbrev pub planningIn : Svq1Half → List ℕ → List ℕ → ℕ → Bool → ℕ → ℕ → List ℕ → List ℕ → Planning
+planningIn h book codebook most skips lambda d target predictor = record {
+  tables = tablesOf book h;
+  vectors = vectorAt codebook h;
+  cap = most;
+  allowSkip = skips;
+  lambda = lambda;
+  level = d;
+  target = target;
+  predictor = predictor;
+}
+
+-- a leaf choice with its bits
+abbrev pub leafRecord : LeafCode → List ℕ → ℕ → ℕ → PlannedBlock
+leafRecord c js n e = record { split = false; bits = n; error = e; code = c; stages = js }
+
+-- the node that a planned block stands for where it is reached
+abbrev pub plannedNode : PlannedBlock → Node
+plannedNode b = pick (b .split) Split (Ends (leafOf (b .code) (b .stages)))
+
+-- the plan of the definitions, with what it weighs
+pub record PlanFound (g : Planning) (r : MbPlan) : Type 0 where
+  pub tree : treeOf (r .blocks) ≡ planTree g
+  pub weighs : weight (r .bits) (r .error) ≡ planWeight g

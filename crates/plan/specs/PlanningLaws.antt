@@ -1,0 +1,292 @@
+-- Laws of the plan's code: one leaf by the codebook, and the tree that the planned blocks make.
+-- Assumes nothing.
+use mathlib.Core.Path.{_≡_, refl, sym, ap, _∙_}
+use mathlib.Core.Bool.{Bool, true, false, _||_, true≢false}
+use mathlib.Core.List.{List, [], _∷_, _++_, append-nil}
+use Prim.Native.Nat.{ℕ, zero, suc, _+_, _-_, _*_, _/_, _≤_, _<_}
+use native.Mathlib.Omega.{arith}
+use mathlib.Core.Logic.{⊎-elim, _⊎_, inl, inr}
+use native.Mathlib.Decide.{ℕ-discrete}
+use lib.Dec.{eqb}
+use borrow.Author.Tests.{eqb-true}
+use lib.ListN.{length, getD, set, replicate, length-set}
+use lib.Seq.{append-snoc, set-at}
+use Rattle.bits.specs.Basics.{pick, Bytes}
+use Rattle.book.specs.Book.{tablesOf}
+use Rattle.book.specs.BookLaws.{good-tables}
+use Rattle.book.specs.Level.{width, area}
+use Rattle.book.specs.declared.svq1_vlc.Svq1Half.{Svq1Half}
+use Rattle.leaf.specs.Inner.{pageStart, LeafFound}
+use Rattle.leaf.specs.AgreeLaws.{leaf-found}
+use Rattle.leaf.specs.Leaf.{leafShown}
+use Rattle.leaf.specs.LeafBits.{leafBits}
+use Rattle.leaf.specs.LeafLaws.{vectors-sized}
+use Rattle.leaf_search.specs.LeafAnswer.{LevelChosen}
+use Rattle.leaf.specs.Raised.{leafOf, vectorsIn}
+use Rattle.leaf.specs.RasterLaws.{raised-length}
+use Rattle.leaf_search.specs.declared.svq1_enc_leaf.LeafChoice.{LeafChoice}
+use Rattle.tree.specs.Blocks.{blockCount, left, right, level, first, blockOf}
+use Rattle.tree.specs.GeometryLaws.{length-block, at-first}
+use Rattle.tree.specs.Plan.{Planning, leafAt, shownAt, weightAt, planSplits, planWeight}
+use Rattle.plan.specs.PlanClaimLaws as claim
+use Rattle.plan.specs.Planned.{weigh, Light, decided}
+use Rattle.plan.specs.PlannedLaws.{blank, LeafAt, PlannedAt, Done, one-block, no-block, leaf-light, planned-light, parts-planned}
+use Rattle.tree.specs.Subtree.{inTree, in-plane, tree-parts, tree-root}
+use Rattle.tree.specs.TreeBits.{Node, Off, Split, Ends, isSplit, reached, grow, planTree}
+use Rattle.tree.specs.TreeLaws.{length-grow, grown}
+use Rattle.tree.specs.Nodes.{nodeOf, treeOf}
+use Rattle.tree.specs.WalkLaws.{tree-set, reached-front}
+use Rattle.plan.specs.Planning.{BlockReady, LeafReady, BlockLeaf, PlanReady, planningIn, leafRecord, plannedNode, PlanFound}
+use Rattle.tree.specs.declared.svq1_enc_tree.Block.{Block}
+use Rattle.plan.specs.declared.svq1_enc_tree.PlannedBlock.{PlannedBlock}
+
+-- ---- one leaf
+-- the search of the two gathered blocks at level l is that of block i
+pub block-leaf : (h : Svq1Half) (raised : List ℕ) (most : ℕ) (skips : Bool) (d : ℕ) (target predictor : List ℕ) (i l : ℕ) (t p out shown : List ℕ) (r : LeafChoice)
+    → l ≡ level i → length t ≡ area (level i) → t ≡ blockOf (width d) (level i) i target → p ≡ blockOf (width d) (level i) i predictor
+    → LevelChosen h l t p raised most skips (r .code) (r .stages) (r .error) out shown → BlockLeaf h raised most skips d target predictor i r
+block-leaf h raised most skips d target predictor i l t p out shown r el n et ep c =
+    record {
+      leaf = rw (n, el, et, ep) at (c .chosen .leaf);
+      erring = rw (n, el, et, ep) at (c .chosen .erring);
+    }
+
+module _ (h : Svq1Half) (book codebook raised : List ℕ) (most : ℕ) (skips : Bool) (d : ℕ) (target predictor : List ℕ) where
+  pub leaf-ready : (i : ℕ) → PlanReady h book codebook raised most skips d target predictor → BlockReady d i
+      → LeafReady (length raised) most d (length target) (length predictor) i
+  leaf-ready i p b =
+      record {
+        copied = ap length (p .copy) ∙ raised-length codebook;
+        few = p .few;
+        five = p .five;
+        target-long = p .target-long;
+        predictor-long = p .predictor-long;
+        here = b;
+      }
+
+  -- what a plan may assume
+  pub plan-ready : (lambda : ℕ) → PlanReady h book codebook raised most skips d target predictor → Bytes target → Bytes predictor
+      → claim.Planned (planningIn h book codebook most skips lambda d target predictor)
+  plan-ready lambda p bt bp =
+      record {
+        tables = good-tables book (p .good) h;
+        sized = vectors-sized codebook h;
+        few = p .few;
+        inter = p .inter;
+        five = p .five;
+        target-long = p .target-long;
+        predictor-long = p .predictor-long;
+        target-bytes = bt;
+        predictor-bytes = bp;
+      }
+
+  module _ (i : ℕ) (r : LeafChoice) (p : PlanReady h book codebook raised most skips d target predictor) (here : BlockReady d i) (bytes : Bytes codebook)
+      (l : BlockLeaf h raised most skips d target predictor i r) where
+    abbrev blockIn : List ℕ → List ℕ
+    blockIn = blockOf (width d) (level i) i
+
+    -- a leaf by the raised copy is one by the codebook
+    pub leaf-by : LeafFound codebook h (level i) most skips (blockIn target) (blockIn predictor) (r .code) (r .stages) (r .error)
+        (leafShown (vectorsIn raised (pageStart h (level i)) (area (level i))) (blockIn predictor) (leafOf (r .code) (r .stages)))
+    leaf-by =
+        let size : length (blockIn target) ≡ area (level i) =
+        length-block (width d) (level i) i target (rw (p .target-long) (in-plane d i (p .five) (here .block) (here .under))) in
+        leaf-found codebook bytes h (level i) most skips (blockIn target) (blockIn predictor) (r .code) (r .stages) (r .error) _ (p .few) size
+        (rw (← p .copy, size) (record { leaf = l .leaf; erring = l .erring; shown = ap (leafShown (vectorsIn raised (pageStart h (level i)) (area (level i))) (blockIn predictor)) (l .leaf) }))
+
+    pub leaf-at : (n : ℕ) → n ≡ length (leafBits (tablesOf book h) (level i) (leafOf (r .code) (r .stages)))
+        → LeafAt (planningIn h book codebook most skips 0 d target predictor) i (leafRecord (r .code) (r .stages) n (r .error))
+    unfolding leafAt weightAt shownAt
+    leaf-at n e =
+        let f = leaf-by in
+        record {
+          leaf = f .leaf;
+          whole = refl;
+          weighs = rw (e, f .erring, f .leaf);
+        }
+
+-- lambda plays no part in a leaf
+pub leaf-any : (h : Svq1Half) (book codebook : List ℕ) (most : ℕ) (skips : Bool) (lambda d : ℕ) (target predictor : List ℕ) (i : ℕ) (b : PlannedBlock)
+    → LeafAt (planningIn h book codebook most skips 0 d target predictor) i b → LeafAt (planningIn h book codebook most skips lambda d target predictor) i b
+unfolding leafAt weightAt shownAt
+leaf-any h book codebook most skips lambda d target predictor i b l = record { leaf = l .leaf; whole = l .whole; weighs = l .weighs }
+
+-- ---- the tree
+-- the first i nodes of what the planned blocks make stand in the array t
+pub record Growing (r : ℕ) (choose : ℕ → Node) (t : List Block) (i : ℕ) : Type 0 where
+  pub upto : i ≤ blockCount
+  pub front : treeOf t ≡ grow r choose i ++ replicate (blockCount - i) Off
+
+module _ (r : ℕ) (choose : ℕ → Node) where
+  pub grow-begins : (t : List Block) → treeOf t ≡ replicate blockCount Off → Growing r choose t 0
+  unfolding grow
+  grow-begins t e = record { upto = omega arith; front = e }
+
+  pub grow-ends : (t : List Block) (i : ℕ) → Growing r choose t i → blockCount ≤ i → treeOf t ≡ grow r choose blockCount
+  grow-ends t i g h =
+      let z : i ≡ blockCount = omega (arith, g .upto) in
+      let none : blockCount - i ≡ 0 = omega arith in
+      g .front ∙ ap (λ (n : ℕ). grow r choose i ++ replicate n Off) none ∙ append-nil (grow r choose i) ∙ ap (grow r choose) z
+
+  pub grow-moved : (t u : List Block) (i : ℕ) → u ≡ t → Growing r choose t i → Growing r choose u i
+  grow-moved t u i e g = rw e g
+
+  module _ (t : List Block) (i : ℕ) (g : Growing r choose t i) (h : i < blockCount) where
+    one-less : blockCount - i ≡ suc (blockCount - (i + 1))
+    one-less = omega arith
+
+    front-less : treeOf t ≡ grow r choose i ++ (Off ∷ replicate (blockCount - (i + 1)) Off)
+    front-less = g .front ∙ ap (λ (n : ℕ). grow r choose i ++ replicate n Off) one-less
+
+    same-reached : reached r (treeOf t) i ≡ reached r (grow r choose i) i
+    same-reached =
+        ap (λ (l : List Node). reached r l i) (g .front)
+        ∙ reached-front r (grow r choose i) (replicate (blockCount - i) Off) i (omega (arith, length-grow r choose i))
+
+    longer : (x : Node) → pick (reached r (treeOf t) i) (choose i) Off ≡ x → grow r choose (i + 1) ≡ grow r choose i ++ (x ∷ [])
+    unfolding grow
+    longer x e =
+        let s : i + 1 ≡ suc i = omega arith in
+        ap (grow r choose) s ∙ ap (λ (b : Bool). grow r choose i ++ (pick b (choose i) Off ∷ [])) (sym same-reached) ∙ ap (λ (y : Node). grow r choose i ++ (y ∷ [])) e
+
+    pub grow-passed : reached r (treeOf t) i ≡ false → Growing r choose t (i + 1)
+    grow-passed f =
+        record {
+          upto = omega arith;
+          front = front-less ∙ sym (rw (longer Off (rw f)) (append-snoc (grow r choose i) Off (replicate (blockCount - (i + 1)) Off)));
+        }
+
+    pub grow-taken : (b : Block) → reached r (treeOf t) i ≡ true → nodeOf b ≡ choose i → Growing r choose (set t i b) (i + 1)
+    grow-taken b f e =
+        record {
+          upto = omega arith;
+          front = tree-set t i b ∙ rw (front-less, longer (nodeOf b) (rw f (sym e)))
+              (set-at (grow r choose i) Off (replicate (blockCount - (i + 1)) Off) (nodeOf b) i (length-grow r choose i) ∙ sym (append-snoc (grow r choose i) (nodeOf b) (replicate (blockCount - (i + 1)) Off)));
+        }
+
+-- ---- every block, the last first
+-- the blocks from i on are planned
+pub record Filling (g : Planning) (a : List PlannedBlock) (i : ℕ) : Type 0 where
+  pub upto : i ≤ blockCount
+  pub long : length a ≡ blockCount
+  pub done : Done g a i
+
+module _ (g : Planning) where
+  pub fill-begins : (a : List PlannedBlock) → length a ≡ blockCount → Filling g a blockCount
+  fill-begins a e = record { upto = omega arith; long = e; done = λ k l u t. absurd (omega arith) }
+
+  module _ (a : List PlannedBlock) (j i : ℕ) (f : Filling g a j) (e : j ≡ i + 1) where
+    pub fill-behind : Done g a (i + 1)
+    fill-behind = rw (← e) (f .done)
+
+    pub fill-passed : inTree (g .level) i ≡ false → Filling g a i
+    fill-passed n = record { upto = omega (arith, f .upto); long = f .long; done = no-block g a i n fill-behind }
+
+    pub fill-taken : (b : PlannedBlock) → PlannedAt g i b → Filling g (set a i b) i
+    fill-taken b q =
+        record {
+          upto = omega (arith, f .upto);
+          long = length-set a i b ∙ f .long;
+          done = one-block g a i b (omega (arith, f .upto, f .long)) fill-behind q;
+        }
+
+  pub fill-ends : (a : List PlannedBlock) (i : ℕ) → Filling g a i → i ≤ 0 → Done g a 0
+  fill-ends a i f h k l = f .done k (omega arith)
+
+  -- ---- one block, where those behind it are planned
+  module _ (p : claim.Planned g) (i : ℕ) (here : BlockReady (g .level) i) (a : List PlannedBlock) (done : Done g a (i + 1)) (low : i < 31) where
+    abbrev first-part : PlannedBlock
+    first-part = getD a (2 * i + 1) blank
+
+    abbrev second-part : PlannedBlock
+    second-part = getD a (2 * i + 2) blank
+
+    parts-in : (inTree (g .level) (left i) ≡ true) × (inTree (g .level) (right i) ≡ true)
+    parts-in = tree-parts (g .level) i (p .five) low (here .under)
+
+    first-planned : PlannedAt g (left i) first-part
+    first-planned = done (left i) (omega arith) (omega arith) (parts-in .0)
+
+    second-planned : PlannedAt g (right i) second-part
+    second-planned = done (right i) (omega arith) (omega arith) (parts-in .1)
+
+    pub parts-light : (l : PlannedBlock) → LeafAt g i l → Light l × Light first-part × Light second-part
+    parts-light l q = (
+      leaf-light g p i l (here .block) (here .under) q,
+      planned-light g p (left i) first-part (omega arith) (parts-in .0) first-planned,
+      planned-light g p (right i) second-part (omega arith) (parts-in .1) second-planned,
+    )
+
+    pub block-planned : (l : PlannedBlock) → LeafAt g i l → PlannedAt g i (decided (g .lambda) l first-part second-part)
+    block-planned l q = parts-planned g i l first-part second-part low q first-planned second-planned
+
+-- ---- the planned blocks make the plan's tree
+module _ (d : ℕ) (five : d ≤ 5) where
+  part-of : (j : ℕ) → j < 62 → inTree d (j / 2) ≡ true → inTree d (suc j) ≡ true
+  part-of j h t = go (ℕ-discrete (suc j) (left (j / 2)))
+    where
+      both : (inTree d (left (j / 2)) ≡ true) × (inTree d (right (j / 2)) ≡ true)
+      both = tree-parts d (j / 2) five (omega arith) t
+
+      go : Dec (suc j ≡ left (j / 2)) → inTree d (suc j) ≡ true
+      go (yes e) = rw e (both .0)
+      go (no e) =
+          let q : suc j ≡ right (j / 2) = omega (arith, e) in
+          rw q (both .1)
+
+  either : (x y : Bool) → x || y ≡ true → (x ≡ true) ⊎ (y ≡ true)
+  either true y e = inl refl
+  either false y e = inr e
+
+  was-reached : (f : Bool) (x : Node) → isSplit (pick f x Off) ≡ true → f ≡ true
+  was-reached true x e = refl
+  was-reached false x e = absurd (true≢false (sym e))
+
+  module _ (choose : ℕ → Node) (n : ℕ) (n-most : n ≤ blockCount) where
+    abbrev t : List Node
+    t = grow (first d) choose n
+
+    -- a block reached from one that lies under the root lies under it
+    step : (j : ℕ) → suc j ≤ n → suc j < blockCount → (reached (first d) t (j / 2) ≡ true → inTree d (j / 2) ≡ true) → reached (first d) t (suc j) ≡ true → inTree d (suc j) ≡ true
+    step j b h up e = ⊎-elim at-root below-root (either (eqb (suc j) (first d)) (isSplit (getD t (j / 2) Off)) e)
+      where
+        at-root : eqb (suc j) (first d) ≡ true → inTree d (suc j) ≡ true
+        at-root q = rw (eqb-true (suc j) (first d) q) (tree-root d five)
+
+        below-root : isSplit (getD t (j / 2) Off) ≡ true → inTree d (suc j) ≡ true
+        below-root q =
+            part-of j (omega arith) (up (was-reached (reached (first d) t (j / 2)) (choose (j / 2)) (rw (grown (first d) choose n (j / 2) (omega arith)) at q)))
+
+    -- what is reached lies under the root; f is above i
+    under-root : (f i : ℕ) → i < f → i ≤ n → i < blockCount → reached (first d) t i ≡ true → inTree d i ≡ true
+    under-root zero i a b h e = absurd (omega arith)
+    under-root (suc f) zero a b h e = rw (eqb-true zero (first d) e) (tree-root d five)
+    under-root (suc f) (suc j) a b h e = step j b h (under-root f (j / 2) (omega arith) (omega arith) (omega arith)) e
+
+  same-pick : (f : Bool) (x y : Node) → (f ≡ true → x ≡ y) → pick f x Off ≡ pick f y Off
+  same-pick true x y e = e refl
+  same-pick false x y e = refl
+
+  grow-same : (c u : ℕ → Node) → ((i : ℕ) → i < blockCount → inTree d i ≡ true → c i ≡ u i) → (n : ℕ) → n ≤ blockCount → grow (first d) c n ≡ grow (first d) u n
+  unfolding grow
+  grow-same c u e zero h = refl
+  grow-same c u e (suc n) h =
+      let before = grow-same c u e n (omega arith) in
+      rw before
+      (ap (λ (x : Node). grow (first d) u n ++ (x ∷ []))
+      (same-pick (reached (first d) (grow (first d) u n) n) (c n) (u n) (λ q. e n (omega arith) (under-root u n (omega arith) (suc n) n (omega arith) (omega arith) (omega arith) q))))
+
+pub plan-found : (g : Planning) → g .level ≤ 5 → (a : List PlannedBlock) → Done g a 0 → (r : ℕ) → r ≡ first (g .level) → (bs : List Block)
+    → treeOf bs ≡ grow r (λ i. plannedNode (getD a i blank)) blockCount
+    → PlanFound g (record { bits = getD a r blank .bits; error = getD a r blank .error; blocks = bs })
+unfolding planTree planWeight
+plan-found g five a done r is-root bs e =
+    let q = done (first (g .level)) (omega arith) (at-first (g .level) five .1) (tree-root (g .level) five) in
+    record {
+      tree = e ∙ ap (λ (k : ℕ). grow k (λ i. plannedNode (getD a i blank)) blockCount) is-root
+          ∙ grow-same (g .level) five (λ i. plannedNode (getD a i blank)) (λ i. pick (planSplits g i) Split (Ends (leafAt g i))) same-node blockCount (omega arith);
+      weighs = ap (λ (k : ℕ). weigh (getD a k blank)) is-root ∙ rw (at-first (g .level) five .0) at (q .weighs);
+    }
+  where
+    same-node : (i : ℕ) → i < blockCount → inTree (g .level) i ≡ true → plannedNode (getD a i blank) ≡ pick (planSplits g i) Split (Ends (leafAt g i))
+    same-node i h u = let w = done i (omega arith) h u in rw (w .split, w .leaf)

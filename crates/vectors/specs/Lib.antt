@@ -1,0 +1,14 @@
+-- The definitions that the contracts of this crate cite; the laws that callers cite stand in the files named `..Laws`.
+pub mod Canvas
+pub mod CanvasLaws
+pub mod Vectors
+pub mod VectorsLaws
+pub mod ClipLaws
+pub mod RaisedLaws
+pub mod Grid
+pub mod GridLaws
+pub mod PutLaws
+pub mod Neighbours
+pub mod NeighboursLaws
+pub mod Cache
+pub mod CacheLaws
