@@ -1,13 +1,14 @@
 -- Laws of the words that every crate's definitions share.
-use Prim.Native.Nat.{ℕ, zero, suc, _+_, _<_}
+use Prim.Native.Nat.{ℕ, zero, suc, _+_, _-_, _≤_, _<_}
 use mathlib.Core.Path.{_≡_, refl, sym, ap, _∙_}
 use mathlib.Core.Bool.{Bool, true, false, _&&_, _||_, true≢false}
-use mathlib.Core.List.{[], _∷_, _++_}
+use mathlib.Core.List.{List, [], _∷_, _++_}
 use native.Mathlib.Nat.{add-zero, not-suc-le-zero, le-of-suc-le-suc}
 use native.Mathlib.Omega.{arith}
 use native.Mathlib.Decide.{ℕ-discrete}
 use lib.Dec.{eqb}
-use lib.ListN.{length, getD}
+use lib.ListN.{length, getD, take, drop, length-append, length-drop}
+use lib.Seq.{take-all}
 use borrow.Author.Tests.{eq-eqb, ne-eqb, eqb-true, eqb-false}
 use Rattle.bits.specs.Basics.{orElse, unless, valuesFrom}
 
@@ -80,3 +81,18 @@ below-at f zero i e h = absurd (omega arith)
 below-at f (suc n) i e h =
     let two = both-true (f n) (below f n) e in
     elim (ℕ-discrete i n) [ yes q ↦ rw q (two .0) | no q ↦ below-at f n i (two .1) (omega arith) ]
+
+-- ---- parts of a slice
+-- the part from element k on, as a slice has it
+abbrev pub partFrom : ℕ → List ℕ → List ℕ
+partFrom k t = take (length t - k) (drop k t)
+
+pub part-from : (k : ℕ) (t : List ℕ) → partFrom k t ≡ drop k t
+part-from k t = take-all (length t - k) (drop k t) (omega (arith, length-drop k t))
+
+pub length-part : (k : ℕ) (t : List ℕ) → length (partFrom k t) ≡ length t - k
+length-part k t = rw (part-from k t) (length-drop k t)
+
+-- a slice whose first n elements are replaced keeps its length
+pub front-size : (new old : List ℕ) (n : ℕ) → length new ≡ n → n ≤ length old → length (new ++ drop n old) ≡ length old
+front-size new old n e h = simp (length-append, length-drop) (omega arith)

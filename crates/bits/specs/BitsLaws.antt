@@ -195,12 +195,7 @@ put-last bs at w l v h =
     rw (z, k, d)
 
 -- ---- what stands in the bits once xs are put at bit `at`
--- the bits before stay
-pub take-put : (bs xs : List ℕ) (at : ℕ) → at ≤ length bs → take at (putBits bs at xs) ≡ take at bs
-unfolding putBits
-take-put bs xs at h = take-at (take at bs) _ at (length-take-le at bs h)
-
--- then come xs
+-- from there on come xs
 pub drop-put : (bs xs : List ℕ) (at : ℕ) → at ≤ length bs → drop at (putBits bs at xs) ≡ xs ++ afterBits bs at xs
 unfolding putBits
 drop-put bs xs at h = drop-at (take at bs) _ at (length-take-le at bs h)

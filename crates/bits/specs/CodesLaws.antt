@@ -16,7 +16,7 @@ use Rattle.bits.specs.BasicsLaws.{both-true, is-false}
 use Rattle.bits.specs.Bits.{msb, valOf}
 use Rattle.bits.specs.BitsLaws.{msb-split, length-msb}
 use Rattle.bits.specs.ReadLaws.{valOf-msb}
-use Rattle.bits.specs.Codes.{begins, clash, apart, prefixFree, code, codesOf, codeVal, codeLen, goodEntry, goodTable}
+use Rattle.bits.specs.Codes.{begins, clash, apart, code, codesOf, codeVal, codeLen, goodEntry, goodTable}
 
 pub begins-append : (c bs : List ℕ) → begins c (c ++ bs) ≡ true
 unfolding begins
@@ -134,25 +134,6 @@ apart-at c [] k h e = absurd (not-suc-le-zero h)
 apart-at c (d ∷ cs) zero h e = not-true (clash c d) (both-true (not (clash c d)) (apart c cs) e .0)
 apart-at c (d ∷ cs) (suc k) h e = apart-at c cs k (le-of-suc-le-suc h) (both-true (not (clash c d)) (apart c cs) e .1)
 
--- ---- the tests, one code behind the other
-pub apart-step : (c : List ℕ) (cs : List (List ℕ)) (j : ℕ) → j < length cs
-    → apart c (drop j cs) ≡ (not (clash c (code cs j)) && apart c (drop (j + 1) cs))
-unfolding apart
-apart-step c cs j h = rw add-one (ap (apart c) (drop-cons cs j [] h))
-
-pub free-step : (cs : List (List ℕ)) (i : ℕ) → i < length cs
-    → prefixFree (drop i cs) ≡ (apart (code cs i) (drop (i + 1) cs) && prefixFree (drop (i + 1) cs))
-unfolding prefixFree
-free-step cs i h = rw add-one (ap prefixFree (drop-cons cs i [] h))
-
-pub apart-end : (c : List ℕ) (cs : List (List ℕ)) (j : ℕ) → length cs ≤ j → apart c (drop j cs) ≡ true
-unfolding apart
-apart-end c cs j h = rw (drop-of-length-le cs h)
-
-pub free-end : (cs : List (List ℕ)) (j : ℕ) → length cs ≤ j → prefixFree (drop j cs) ≡ true
-unfolding prefixFree
-free-end cs j h = rw (drop-of-length-le cs h)
-
 -- ---- good tables
 -- what goodTable says of each entry: a length of 1 to 32 bits, and a value below 2 to the length
 pub record GoodTable (t : List ℕ) : Type 0 where
@@ -198,14 +179,6 @@ good-step t i h =
 pub good-end : (t : List ℕ) (i : ℕ) → length t % 3 ≡ 0 → length t / 3 ≤ i → goodTable (drop (3 * i) t) ≡ true
 unfolding goodTable
 good-end t i w h = rw (drop-of-length-le t {i = 3 * i} (omega arith))
-
--- a good table has whole entries only
-pub good-whole : (t : List ℕ) → goodTable t ≡ true → length t % 3 ≡ 0
-unfolding goodTable
-good-whole [] e = refl
-good-whole (h ∷ []) e = absurd (true≢false (sym e))
-good-whole (h ∷ l ∷ []) e = absurd (true≢false (sym e))
-good-whole (h ∷ l ∷ n ∷ t) e = omega (arith, good-whole t (both-true (goodEntry (h * 256 + l) n) (goodTable t) e .1))
 
 -- none of its codes is longer than 32 bits
 pub code-fits : (t : List ℕ) → goodTable t ≡ true → (k : ℕ) → k < length (codesOf t) → length (code (codesOf t) k) ≤ 32

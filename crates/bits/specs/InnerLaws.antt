@@ -4,9 +4,9 @@ use mathlib.Core.Path.{_≡_, sym, ap, _∙_}
 use mathlib.Core.List.{List, [], _++_}
 use native.Mathlib.Nat.{add-zero}
 use native.Mathlib.Omega.{arith}
-use lib.ListN.{length, drop, length-append}
-use Rattle.bits.specs.Bits.{bitsOf, afterBits}
-use Rattle.bits.specs.BitsLaws.{put-nil, put-put, put-length, drop-put, bits-whole, length-bitsOf}
+use lib.ListN.{length, length-append}
+use Rattle.bits.specs.Bits.{bitsOf}
+use Rattle.bits.specs.BitsLaws.{put-nil, put-put, put-length, bits-whole, length-bitsOf}
 use Rattle.bits.specs.Inner.{Wrote}
 
 pub wrote-none : (out : List ℕ) (at : ℕ) → Wrote out at [] at out
@@ -27,10 +27,3 @@ wrote-size {out} {left} {at} {next} {xs} h w =
     let fits : at + length xs ≤ length (bitsOf out) = rw length-bitsOf h in
     let same : length (bitsOf left) ≡ length (bitsOf out) = ap length (w .bits) ∙ put-length (bitsOf out) xs at (bits-whole out) fits in
     omega (arith, same, length-bitsOf left, length-bitsOf out)
-
--- from bit `at` on the bits stand there
-pub wrote-there : {out left : List ℕ} {at next : ℕ} {xs : List ℕ} → at ≤ 8 * length out → Wrote out at xs next left
-    → drop at (bitsOf left) ≡ xs ++ afterBits (bitsOf out) at xs
-wrote-there {out} {left} {at} {next} {xs} h w =
-    let room : at ≤ length (bitsOf out) = rw length-bitsOf h in
-    ap (drop at) (w .bits) ∙ drop-put (bitsOf out) xs at room

@@ -1,6 +1,7 @@
 -- The definitions that the contracts of this crate cite; the laws that callers cite stand in the files named `..Laws`.
 pub mod Basics
 pub mod BasicsLaws
+pub mod FillLaws
 pub mod Bits
 pub mod BitsLaws
 pub mod ReadLaws
@@ -11,3 +12,5 @@ pub mod Inner
 pub mod InnerLaws
 pub mod Calls
 pub mod CallsLaws
+pub mod Ranges
+pub mod RangesLaws

@@ -4,10 +4,12 @@ ghost use mathlib.Core.Path.{_≡_};
 ghost use mathlib.Core.Bool.{true};
 ghost use Prim.Native.Nat.{_+_, _*_, _/_, _%_, _-_, _^_, _<_, _≤_, min};
 ghost use lib.ListN.{length, take, drop};
+ghost use Rattle.bits.specs.Basics.{pick};
 ghost use Rattle.bits.specs.Bits.{msb, valOf, bitsOf, putBits};
 ghost use Rattle.bits.specs.Inner.{Fits, GoodEntry, Wrote, FirstThatBegins};
 ghost use Rattle.bits.specs.Calls.{startRefusal, roomRefusal, bitsRefusal};
-ghost use Rattle.bits.specs.Codes.{begins, clash, code, codesOf, codeLen, codeVal, anyStart, readCode, apart, prefixFree, goodEntry, goodTable};
+ghost use Rattle.bits.specs.Ranges.{rangeEnd, rangeEnds, meet, meetings, rangesApart};
+ghost use Rattle.bits.specs.Codes.{begins, code, codesOf, codeLen, codeVal, anyStart, readCode, prefixFree, goodEntry, goodTable};
 use super::svq1_vlc::CodeRead;
 
 // The byte b with its low k bits replaced by v shifted up by z.
@@ -181,53 +183,89 @@ pub fn put_code(out: &mut [u8], at: usize, table: &[u8], k: usize) -> usize
     put_bits(out, at, len, val)
 }
 
-// Whether one of two runs of bits begins the other: only the shorter can.
-fn clash_bits(x: u64, a: u32, y: u64, b: u32) -> bool
-    requires { ⌜ (a ≤ 32) × (b ≤ 32) × (x < 2 ^ a) × (y < 2 ^ b) ⌝ }
-    ensures { λ r. ⌜ r ≡ clash (msb a x) (msb b y) ⌝ }
+fn power_of_two(m: u32) -> u64
+    requires { ⌜ m ≤ 32 ⌝ }
+    ensures { λ r. ⌜ (r ≡ 2 ^ m) × (1 ≤ r) ⌝ }
 {
-    if a <= b {
-        begins_bits(x, a, y, b)
-    } else {
-        begins_bits(y, b, x, a)
-    }
+    1u64 << m
 }
 
-// Whether code i begins no later code, and no later code begins it.
-fn apart_from(table: &[u8], i: usize) -> bool
-    requires { ⌜ (i < length (now table) / 3) × (goodTable (now table) ≡ true) ⌝ }
-    ensures { λ r. ⌜ r ≡ apart (code (codesOf (now (table .entry))) i) (drop (i + 1) (codesOf (now (table .entry)))) ⌝ }
+// An end of the range of 32-bit numbers that begin with the n bits of v: the least for e = 0, the greatest for e = 1.
+fn range_end(e: u64, v: u64, n: u32) -> u32
+    requires { ⌜ (e ≤ 1) × (1 ≤ n) × (n ≤ 32) × (v < 2 ^ n) ⌝ }
+    ensures { λ r. ⌜ r ≡ rangeEnd e v n ⌝ }
 {
-    let n = table.len() / 3;
-    let x = entry_val(table, i);
-    let a = entry_len(table, i);
-    let mut j = i + 1;
-    while j < n {
-        let y = entry_val(table, j);
-        let b = entry_len(table, j);
-        if clash_bits(x, a, y, b) {
-            return false;
-        }
-        j += 1;
-    }
-    true
+    let size = power_of_two(32 - n);
+    (v * size + e * (size - 1)) as u32
 }
 
-// Whether no code of the table begins another or equals it.
-pub fn prefix_free(table: &[u8]) -> bool
-    requires { ⌜ goodTable (now table) ≡ true ⌝ }
-    ensures { λ r. ⌜ r ≡ prefixFree (codesOf (now (table .entry))) ⌝ }
+// These ends for every code of a table.
+fn range_ends(table: &[u8], e: u64, out: &mut [u32])
+    requires { ⌜ (e ≤ 1) × (goodTable (now table) ≡ true) × (length (now out) ≡ length (now table) / 3) ⌝ }
+    ensures { λ _. ⌜ now (out .exit) ≡ rangeEnds e (now (table .entry)) ⌝ }
 {
-    let n = table.len() / 3;
+    let n = out.len();
     let mut i = 0;
     while i < n {
-        if apart_from(table, i) {
+        out[i] = range_end(e, entry_val(table, i), entry_len(table, i));
+        i += 1;
+    }
+}
+
+// 1 where two ranges meet, else 0.
+fn meets(low: u32, high: u32, other_low: u32, other_high: u32) -> u32
+    ensures { λ r. ⌜ (r ≡ pick (meet low high «other_low» «other_high») 1 0) × (r ≤ 1) ⌝ }
+{
+    if low <= other_high {
+        if other_low <= high {
+            return 1;
+        }
+        return 0;
+    }
+    0
+}
+
+// How many ranges meet the one from `low` to `high`. No early end, so that several are compared at once.
+fn count_meetings(low: u32, high: u32, lows: &[u32], highs: &[u32]) -> u32
+    requires { ⌜ (length (now lows) ≡ length (now highs)) × (length (now lows) ≤ 65536) ⌝ }
+    ensures { λ r. ⌜ r ≡ meetings low high (now (lows .entry)) (now (highs .entry)) ⌝ }
+{
+    let n = lows.len();
+    let mut k = 0;
+    let mut met = 0;
+    while k < n {
+        met += meets(low, high, lows[k], highs[k]);
+        k += 1;
+    }
+    met
+}
+
+// Whether no two ranges meet.
+fn ranges_apart(lows: &[u32], highs: &[u32]) -> bool
+    requires { ⌜ (length (now lows) ≡ length (now highs)) × (length (now lows) ≤ 65536) ⌝ }
+    ensures { λ r. ⌜ r ≡ rangesApart (now (lows .entry)) (now (highs .entry)) ⌝ }
+{
+    let n = lows.len();
+    let mut i = 0;
+    while i < n {
+        let behind = i + 1;
+        if count_meetings(lows[i], highs[i], &lows[behind..], &highs[behind..]) == 0 {
             i += 1;
         } else {
             return false;
         }
     }
     true
+}
+
+// Whether no code of the table begins another or equals it: their ranges, for which there is room in `lows` and `highs`, do not meet.
+pub fn prefix_free(table: &[u8], lows: &mut [u32], highs: &mut [u32]) -> bool
+    requires { ⌜ (goodTable (now table) ≡ true) × (length (now lows) ≡ length (now table) / 3) × (length (now highs) ≡ length (now table) / 3) × (length (now lows) ≤ 65536) ⌝ }
+    ensures { λ r. ⌜ r ≡ prefixFree (codesOf (now (table .entry))) ⌝ }
+{
+    range_ends(table, 0, lows);
+    range_ends(table, 1, highs);
+    ranges_apart(lows, highs)
 }
 
 // Whether a code of this value and length can stand in a table.

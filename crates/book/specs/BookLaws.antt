@@ -78,6 +78,16 @@ stage-size : (i : ℕ) → i < 12 → getD codeTableSizes (4 + i) 0 ≡ 8
 unfolding firstFour
 stage-size i h = getD-append-add firstFour (replicate 12 8) i 0 ∙ getD-replicate 12 i 8 0 h
 
+-- none of the tables has more than 512 entries
+pub size-le : (i : ℕ) → i < 16 → getD codeTableSizes i 0 ≤ 512
+size-le zero h = omega arith
+size-le (suc zero) h = omega arith
+size-le (suc (suc zero)) h = omega arith
+size-le (suc (suc (suc zero))) h = omega arith
+size-le (suc (suc (suc (suc i)))) h =
+    let e : getD codeTableSizes (suc (suc (suc (suc i)))) 0 ≡ 8 = getD-replicate 12 i 8 0 (omega arith) in
+    omega (arith, e)
+
 -- ---- a part of a part
 drop-take : (a k : ℕ) (l : List ℕ) → drop a (take (a + k) l) ≡ take k (drop a l)
 drop-take zero k l = rw zero-add

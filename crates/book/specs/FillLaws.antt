@@ -1,21 +1,10 @@
--- Laws of filling a slice, byte by byte.
-use Prim.Native.Nat.{ℕ, _+_, _≤_, _<_}
-use mathlib.Core.Path.{_≡_, sym, _∙_}
+-- Laws of the calls that fill a slice.
+use Prim.Native.Nat.{ℕ}
+use mathlib.Core.Path.{_≡_}
 use mathlib.Core.List.{List}
-use native.Mathlib.Numerals.{add-one}
-use native.Mathlib.Omega.{arith}
-use lib.ListN.{length, take, getD, set}
-use lib.Seq.{take-all, take-suc, take-suc-set}
+use lib.ListN.{length}
 use borrow.Author.Tests.{eq-eqb, ne-eqb}
 use Rattle.book.specs.Calls.{Filled}
-
--- the first i bytes are there, and byte i is stored
-pub fill-step : (whole out : List ℕ) (i v : ℕ) → i < length out → i < length whole → take i out ≡ take i whole → v ≡ getD whole i 0
-    → take (i + 1) (set out i v) ≡ take (i + 1) whole
-fill-step whole out i v h k e b = rw (add-one, take-suc-set out i v h, take-suc whole i 0 k, e, b)
-
-pub fill-end : (whole out : List ℕ) (i : ℕ) → length out ≡ length whole → length whole ≤ i → take i out ≡ take i whole → out ≡ whole
-fill-end whole out i n h e = sym (take-all i out (omega arith)) ∙ e ∙ take-all i whole h
 
 -- what a call that fills answers and leaves
 pub fill-refused : (size : ℕ) (whole out : List ℕ) → (length out ≡ size → ⊥) → Filled size whole out 5 out

@@ -17,9 +17,9 @@ fn code_table_size(i: usize) -> usize
     CODE_TABLE_SIZES[i]
 }
 
-// Whether each of the sixteen tables is prefix-free.
-fn each_prefix_free(book: &[u8]) -> bool
-    requires { ⌜ (length (now book) ≡ bookBytes) × (goodTable (now book) ≡ true) ⌝ }
+// Whether each of the sixteen tables is prefix-free, with room for the ranges of a table's codes.
+fn each_prefix_free_in(book: &[u8], lows: &mut [u32], highs: &mut [u32]) -> bool
+    requires { ⌜ (length (now book) ≡ bookBytes) × (goodTable (now book) ≡ true) × (length (now lows) ≡ 512) × (length (now highs) ≡ 512) ⌝ }
     ensures { λ r. ⌜ r ≡ eachPrefixFree codeTableSizes (now (book .entry)) ⌝ }
 {
     let mut i = 0;
@@ -28,7 +28,7 @@ fn each_prefix_free(book: &[u8]) -> bool
         let size = code_table_size(i);
         let from = 3 * before;
         let to = from + 3 * size;
-        if inner::prefix_free(&book[from..to]) {
+        if inner::prefix_free(&book[from..to], &mut lows[..size], &mut highs[..size]) {
             before += size;
             i += 1;
         } else {
@@ -36,6 +36,16 @@ fn each_prefix_free(book: &[u8]) -> bool
         }
     }
     true
+}
+
+// The same, with room of its own.
+fn each_prefix_free(book: &[u8]) -> bool
+    requires { ⌜ (length (now book) ≡ bookBytes) × (goodTable (now book) ≡ true) ⌝ }
+    ensures { λ r. ⌜ r ≡ eachPrefixFree codeTableSizes (now (book .entry)) ⌝ }
+{
+    let mut lows = [0u32; 512];
+    let mut highs = [0u32; 512];
+    each_prefix_free_in(book, &mut lows, &mut highs)
 }
 
 // 5, 6 or 7 of a lent book, or 0.

@@ -191,7 +191,7 @@ unfolding linesRead
 lines-fit [] ls q = let w : [] ≡ ls = cc in rw (← w) tt
 lines-fit (t ∷ ts) ls q = onto-fits (lineRead (fieldsOf t)) (linesRead ts) ls (λ l e. line-fits (fieldsOf t) l e) (λ ms e. lines-fit ts ms e) q
 
-file-fits : (file : List ℕ) (ls : List Line) → fileLines file ≡ some ls → All LineFits ls
+pub file-fits : (file : List ℕ) (ls : List Line) → fileLines file ≡ some ls → All LineFits ls
 unfolding fileLines
 file-fits file ls = go (linesOf file)
   where

@@ -1,5 +1,5 @@
 -- Laws of reading a book file line after line. Assumes nothing.
-use Prim.Native.Nat.{ℕ, _+_, _-_, _≤_, _<_}
+use Prim.Native.Nat.{ℕ, _+_, _≤_, _<_}
 use mathlib.Core.Path.{_≡_, refl, sym, _∙_}
 use mathlib.Core.Bool.{Bool, true, false, _&&_}
 use mathlib.Core.List.{List, [], _∷_}
@@ -8,9 +8,10 @@ use native.Mathlib.Numerals.{add-one}
 use native.Mathlib.Omega.{arith}
 use lib.Dec.{eqb, ltb, lit≤}
 use lib.ListN.{length, take, drop, getD, set, length-drop, drop-of-length-le}
-use lib.Seq.{take-all, drop-cons, drop-drop}
+use lib.Seq.{drop-cons, drop-drop}
 use borrow.Author.Tests.{ltb-true}
 use Rattle.bits.specs.Basics.{pick, every, All}
+use Rattle.bits.specs.BasicsLaws.{partFrom, part-from}
 use Rattle.bits.specs.Codes.{goodEntry}
 use Rattle.text.specs.Text.{comma, lineFeed, fieldsOf, linesOf, same}
 use Rattle.text.specs.Reading.{countBefore, lineBefore}
@@ -20,16 +21,6 @@ use Rattle.book_file.specs.BookFile.{Table, Line, fileTables, entryNamed
 use Rattle.book_file.specs.Scan.{Held, codeAt, placeAt, withEntry, kept, scanLines, scanned}
 
 -- ---- a line's fields from the front
--- the part of a text from byte k on, as a slice has it
-abbrev pub partFrom : ℕ → List ℕ → List ℕ
-partFrom k t = take (length t - k) (drop k t)
-
-pub part-from : (k : ℕ) (t : List ℕ) → partFrom k t ≡ drop k t
-part-from k t = take-all (length t - k) (drop k t) (omega (arith, length-drop k t))
-
-pub length-part : (k : ℕ) (t : List ℕ) → length (partFrom k t) ≡ length t - k
-length-part k t = rw (part-from k t) (length-drop k t)
-
 line-place : (t : List ℕ) (fs : List (List ℕ)) → lineRead (t ∷ fs) ≡ placeAt t fs
 unfolding lineRead placeAt codeAt
 line-place t [] = refl

@@ -2,13 +2,13 @@
 -- Assumes nothing.
 use mathlib.Core.Path.{_≡_, refl, sym}
 use mathlib.Core.Bool.{true, false, true≢false}
-use Prim.Native.Nat.{ℕ, suc, _<_}
+use Prim.Native.Nat.{_<_}
 use native.Mathlib.Omega.{arith}
 use borrow.Author.Tests.{ltb-true, ltb-false}
 use lib.Dec.{T}
-use lib.IntN.{ℤ, pos, negsuc, negℤ, natAbs}
+use lib.IntN.{ℤ, pos, negsuc, natAbs}
 use lib.Signed.{ltZ, nonNeg}
-use Rattle.leaf.specs.Mean.{rounded, saturate}
+use Rattle.leaf.specs.Mean.{saturate}
 
 -- a sum below 0 shows 0, one above 255 shows 255, any other itself
 pub saturate-below : (z : ℤ) → ltZ z (pos 0) ≡ true → 0 ≡ saturate z
@@ -30,8 +30,3 @@ pub saturate-within : (z : ℤ) → ltZ z (pos 0) ≡ false → ltZ (pos 255) z 
 unfolding saturate
 saturate-within (pos n) l h = record { natural = tt; small = omega (arith, ltb-false 255 n h); itself = omega (arith, ltb-false 255 n h) }
 saturate-within (negsuc n) l h = absurd (true≢false l)
-
--- half away from zero: a negative sum is rounded as its opposite is
-pub rounded-opposite : (s n : ℕ) → rounded (negsuc s) n ≡ negℤ (rounded (pos (suc s)) n)
-unfolding rounded
-rounded-opposite s n = refl

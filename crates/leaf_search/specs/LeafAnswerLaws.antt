@@ -3,11 +3,11 @@
 use Prim.Native.Nat.{ℕ, zero, suc, _-_, _≤_, _<_}
 use mathlib.Core.Path.{_≡_, refl, sym, ap, _∙_}
 use mathlib.Core.Bool.{Bool, true, false, not, _&&_}
-use mathlib.Core.List.{List, [], _++_}
+use mathlib.Core.List.{List, []}
 use native.Mathlib.Omega.{arith}
 use native.Mathlib.Decide.{decLt}
 use lib.Dec.{eqb, leb, ltb}
-use lib.ListN.{length, take, drop, replicate, length-append, length-drop}
+use lib.ListN.{length, take, drop, replicate}
 use borrow.Author.Tests.{lt-ltb, le-ltb, eq-eqb, ne-eqb, le-leb, lt-leb, ltb-true, leb-true, eqb-true}
 use Rattle.bits.specs.Basics.{unless, Bytes}
 use Rattle.bits.specs.BasicsLaws.{both-true, or-none, or-first, or-next, unless-none}
@@ -187,7 +187,3 @@ half-inter (suc h) e = refl
 
 pub cap-small : (d cap : ℕ) → cap ≤ 6 → capAt d cap ≤ 6
 cap-small d cap h = elim (decLt d 4) [ yes a ↦ rw (lt-ltb d 4 a) h | no a ↦ rw (le-ltb d 4 (omega arith)) (omega arith) ]
-
--- a front put into a list keeps its length
-pub front-size : (new old : List ℕ) (n : ℕ) → length new ≡ n → n ≤ length old → length (new ++ drop n old) ≡ length old
-front-size new old n e h = simp (length-append, length-drop) (omega arith)

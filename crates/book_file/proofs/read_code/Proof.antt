@@ -10,7 +10,8 @@ use lib.Seq.{length-take-le}
 use Rattle.text.specs.Text.{fieldsOf}
 use Rattle.book_file.specs.BookFile.{lineAt, lineNumber}
 use Rattle.book_file.specs.Scan.{codeAt}
-use Rattle.book_file.specs.ScanLaws.{partFrom, code-short, code-long, code-two}
+use Rattle.bits.specs.BasicsLaws.{partFrom}
+use Rattle.book_file.specs.ScanLaws.{code-short, code-long, code-two}
 use Rattle.book_file.proofs.read_code.Statement.{statement}
 use Rattle.book_file.proofs.read_code.Tie as tie
 

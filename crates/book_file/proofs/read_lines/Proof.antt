@@ -10,11 +10,12 @@ use denote.Ref.{now}
 use lib.Dec.{eqb}
 use lib.ListN.{length, take, drop, getD, length-set}
 use Rattle.bits.specs.Basics.{pick}
+use Rattle.bits.specs.BasicsLaws.{partFrom, length-part}
 use lib.Seq.{length-take-le}
 use Rattle.text.specs.Text.{fieldsOf}
 use Rattle.book_file.specs.BookFile.{Line, lineRead, fileLines}
 use Rattle.book_file.specs.Scan.{Held, begun, lineTold, scanLines, scanned, kept}
-use Rattle.book_file.specs.ScanLaws.{partFrom, LineFits, line-fits, file-end, file-open, file-bad, file-line, scan-step, kept-is, length-part}
+use Rattle.book_file.specs.ScanLaws.{LineFits, line-fits, file-end, file-open, file-bad, file-line, scan-step, kept-is}
 use Rattle.book_file.proofs.read_lines.Statement.{statement}
 use Rattle.book_file.proofs.read_lines.Tie as tie
 

@@ -6,7 +6,7 @@ use native.Mathlib.Omega.{arith}
 use denote.Ref.{now}
 use lib.ListN.{length, take, length-set}
 use borrow.Author.Needs.{needs}
-use Rattle.book.specs.FillLaws.{fill-step, fill-end}
+use Rattle.bits.specs.FillLaws.{fill-step, fill-end}
 use Rattle.book.proofs.house.copy_in.Statement.{statement}
 use Rattle.book.proofs.house.copy_in.Tie as tie
 

@@ -9,7 +9,8 @@ use borrow.Author.Needs.{needs}
 use Rattle.book.specs.Book.{codebookBytes}
 use Rattle.book.specs.House.{houseCodebook}
 use Rattle.book.specs.HouseLaws.{length-house-codebook, house-sample-at}
-use Rattle.book.specs.FillLaws.{fill-step, fill-end, fill-refused, fill-done}
+use Rattle.bits.specs.FillLaws.{fill-step, fill-end}
+use Rattle.book.specs.FillLaws.{fill-refused, fill-done}
 use Rattle.book.proofs.house.fill_house_codebook.Statement.{statement}
 use Rattle.book.proofs.house.fill_house_codebook.Tie as tie
 

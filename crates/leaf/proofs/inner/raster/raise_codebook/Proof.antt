@@ -2,7 +2,7 @@
 use mathlib.Core.Path.{_≡_, refl, _∙_, sym, ap}
 use Prim.Native.Nat.{ℕ, _≤_, _-_, _+_, _%_}
 use lib.ListN.{length, take, getD, length-set}
-use Rattle.book.specs.FillLaws.{fill-step, fill-end}
+use Rattle.bits.specs.FillLaws.{fill-step, fill-end}
 use Rattle.leaf.specs.Raised.{raisedCodebook}
 use Rattle.leaf.specs.RasterLaws.{raised-length, raised-at}
 use native.Mathlib.Omega.{arith}

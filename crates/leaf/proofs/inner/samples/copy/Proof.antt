@@ -2,7 +2,7 @@
 use mathlib.Core.Path.{_≡_, refl}
 use Prim.Native.Nat.{_≤_, _-_}
 use lib.ListN.{length, take, length-set}
-use Rattle.book.specs.FillLaws.{fill-step, fill-end}
+use Rattle.bits.specs.FillLaws.{fill-step, fill-end}
 use native.Mathlib.Omega.{arith}
 use borrow.Author.Needs.{needs}
 use Rattle.leaf.proofs.inner.samples.copy.Statement.{statement}

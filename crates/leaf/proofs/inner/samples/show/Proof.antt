@@ -2,7 +2,7 @@
 use mathlib.Core.Path.{_≡_, refl, _∙_, sym}
 use Prim.Native.Nat.{_≤_, _-_}
 use lib.ListN.{length, take, length-set}
-use Rattle.book.specs.FillLaws.{fill-step, fill-end}
+use Rattle.bits.specs.FillLaws.{fill-step, fill-end}
 use Rattle.leaf.specs.Leaf.{samples}
 use Rattle.leaf.specs.Raised.{less}
 use Rattle.leaf.specs.RaisedLaws.{samples-at, length-shown-sums}
