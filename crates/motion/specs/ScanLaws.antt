@@ -15,7 +15,7 @@ use Rattle.motion.specs.declared.inner.search.Spot.{Spot}
 use Rattle.motion.specs.declared.inner.search.Candidate.{Candidate}
 use Rattle.motion.specs.declared.inner.search.Span.{Span}
 use Rattle.motion.specs.Search.{Search, Best, nothing, consider, rowTo, rowsTo, fullAt, fullSearch, aroundTo, searchBest}
-use Rattle.motion.specs.Candidates.{lowered, loweredMv, spotSearch, codableUp, shown, Held, fullUp, Spans, Clipped, refined}
+use Rattle.motion.specs.Candidates.{lowered, loweredMv, spotSearch, codableUp, axisUp, shown, Held, fullUp, Spans, Clipped, refined}
 use Rattle.motion.specs.CandidatesLaws.{full-is, near-is, not-x, not-y, centre-is}
 
 -- ---- steps that change nothing, over any of the scans: f after the first n steps of a scan
@@ -94,10 +94,10 @@ module _ (t ref : List ℕ) (p : Spot) (small : p .radius ≤ 255) (px : 992 ≤
     pub row-end : rowTo g (lowered uy) f (s .to) ≡ rowTo g (lowered uy) f (2 * p .radius + 1)
     row-end = idle-end (rowTo g (lowered uy) f) _ (skip-x uy f) (s .to) (2 * p .radius + 1) (q .last) (q .after)
 
-  -- a row that is not codable changes nothing
-  row-none : (uy : ℕ) (f : Best) (n : ℕ) → codableUp (p .py) uy ≡ false → rowTo g (lowered uy) f n ≡ f
+  -- a row that is not allowed changes nothing
+  pub row-none : (uy : ℕ) (f : Best) (n : ℕ) → axisUp (p .side) (p .y) (p .height) (p .py) uy ≡ false → rowTo g (lowered uy) f n ≡ f
   row-none uy f zero e = sym (row-zero (lowered uy) f)
-  row-none uy f (suc n) e = row-next (lowered uy) f n ∙ sym (not-y t ref p (fullUp (p .px) (p .radius) n) uy _ (simp e)) ∙ row-none uy f n e
+  row-none uy f (suc n) e = row-next (lowered uy) f n ∙ sym (not-y t ref p (fullUp (p .px) (p .radius) n) uy _ e) ∙ row-none uy f n e
 
   rows-next : (f : Best) (k : ℕ) → rowsTo g f (suc k) ≡ rowTo g (lowered (fullUp (p .py) (p .radius) k)) (rowsTo g f k) (2 * p .radius + 1)
   unfolding rowsTo spotSearch
@@ -109,7 +109,7 @@ module _ (t ref : List ℕ) (p : Spot) (small : p .radius ≤ 255) (px : 992 ≤
       rw add-one (q ∙ ap (λ (h : Best). rowTo g (lowered (fullUp (p .py) (p .radius) k)) h (2 * p .radius + 1)) e ∙ sym (rows-next f k))
 
   skip-y : (f : Best) (k : ℕ) → codableUp (p .py) (fullUp (p .py) (p .radius) k) ≡ false → rowsTo g f (suc k) ≡ rowsTo g f k
-  skip-y f k e = rows-next f k ∙ row-none (fullUp (p .py) (p .radius) k) (rowsTo g f k) (2 * p .radius + 1) e
+  skip-y f k e = rows-next f k ∙ row-none (fullUp (p .py) (p .radius) k) (rowsTo g f k) (2 * p .radius + 1) (simp e)
 
   rows-zero : (f : Best) → f ≡ rowsTo g f 0
   unfolding rowsTo

@@ -227,6 +227,26 @@ fn rows_full(
     }
 }
 
+// The same with the side as a constant in each call, so that each loop has a known length.
+pub fn full_error(
+    t: &[u8],
+    reference: &[u8],
+    x0: usize,
+    y0: usize,
+    stride: usize,
+    rows: usize,
+    n: usize,
+    limit: u64,
+) -> Taken
+    requires { ⌜ ReadIn (now t) (record { samples = now reference; stride = stride; rows = rows }) n 0 0 x0 y0 ⌝ }
+    ensures { λ r. ⌜ Summed (now (t .entry)) (record { samples = now (reference .entry); stride = stride; rows = rows }) n 0 0 x0 y0 limit r ⌝ }
+{
+    if n == 16 {
+        return rows_full(t, reference, x0, y0, stride, rows, 16, limit);
+    }
+    rows_full(t, reference, x0, y0, stride, rows, 8, limit)
+}
+
 // The absolute error of the block of n by n samples read from x0, y0, all inside the canvas. It ends after the first row in which it
 // reaches the limit: such a vector cannot replace the best found.
 pub fn block_error(
@@ -247,8 +267,5 @@ pub fn block_error(
     if 0 < ox + oy {
         return rows_between(t, reference, x0, y0, stride, rows, n, ox, oy, limit);
     }
-    if n == 16 {
-        return rows_full(t, reference, x0, y0, stride, rows, 16, limit);
-    }
-    rows_full(t, reference, x0, y0, stride, rows, 8, limit)
+    full_error(t, reference, x0, y0, stride, rows, n, limit)
 }

@@ -1,8 +1,10 @@
 ghost use mathlib.Core.Path.{_≡_};
+ghost use mathlib.Core.Bool.{true};
 ghost use Prim.Native.Nat.{_+_, _-_, _*_, _/_, _%_, _<_, _≤_, min};
 ghost use Rattle.motion.specs.Search.{consider, rowTo, rowsTo, searchBest};
 ghost use Rattle.motion.specs.Candidates.{raisedEnd, spotSearch, Ready, lowered, loweredMv, axisUp, shown, Held, Spans, Clipped, refined};
 use super::error::block_error;
+use super::error::full_error;
 
 // A block's place, the visible size, the canvas, the block's side, the predicted vector, raised by 1024, and the radius.
 pub struct Spot {
@@ -149,6 +151,41 @@ fn span_of(p: usize, radius: usize) -> Span
     clip(radius, (p - 31) / 2, p / 2, 527)
 }
 
+// One full-sample candidate of a row that is allowed.
+fn full_tried(
+    target: &[u8],
+    reference: &[u8],
+    p: Spot,
+    ux: usize,
+    uy: usize,
+    best: Candidate,
+) -> Candidate
+    requires { ⌜ Ready (now target) (now reference) p × Held best × (ux < raisedEnd) × (ux % 2 ≡ 0) × (uy % 2 ≡ 0) × (axisUp (p .side) (p .y) (p .height) (p .py) uy ≡ true) ⌝ }
+    ensures { λ r. ⌜ (shown r ≡ consider (spotSearch (now (target .entry)) (now (reference .entry)) p) (loweredMv ux uy) (shown best)) × Held r ⌝ }
+{
+    if !axis_ok(p.side, p.x, p.width, p.px, ux) {
+        return best;
+    }
+    let taken = full_error(
+        target,
+        reference,
+        p.x + ux / 2 - 512,
+        p.y + uy / 2 - 512,
+        p.stride,
+        p.rows,
+        p.side,
+        best.error,
+    );
+    if taken.error < best.error {
+        return Candidate {
+            ux: ux,
+            uy: uy,
+            error: taken.error,
+        };
+    }
+    best
+}
+
 // The full-sample candidates of one row.
 fn row_best(
     target: &[u8],
@@ -158,14 +195,17 @@ fn row_best(
     uy: usize,
     first: Candidate,
 ) -> Candidate
-    requires { ⌜ Ready (now target) (now reference) p × Held first × Spans (p .px) (p .radius) s × (uy < raisedEnd) ⌝ }
+    requires { ⌜ Ready (now target) (now reference) p × Held first × Spans (p .px) (p .radius) s × (uy < raisedEnd) × (uy % 2 ≡ 0) ⌝ }
     ensures { λ r. ⌜ (shown r ≡ rowTo (spotSearch (now (target .entry)) (now (reference .entry)) p) (lowered uy) (shown first) (2 * p .radius + 1)) × Held r ⌝ }
 {
+    if !axis_ok(p.side, p.y, p.height, p.py, uy) {
+        return first;
+    }
     let to = s.to;
     let mut best = first;
     let mut k = s.from;
     while k < to {
-        best = tried(
+        best = full_tried(
             target,
             reference,
             p,

@@ -1,4 +1,5 @@
--- A full-sample place is the case in which both offsets are 0; the side is then named, so that each loop has a known length.
+-- A full-sample place is the case in which both offsets are 0.
+use mathlib.Core.Path.{refl}
 use native.Mathlib.Omega.{arith}
 use Rattle.vectors.specs.Canvas.{Canvas}
 use Rattle.motion.specs.RowsLaws.{read-full, summed-full}
@@ -15,38 +16,19 @@ rows-between-requires c κs = search needs
 returns : tie.Need-returns
 returns c = search needs
 
-rows-full-requires : tie.Need-rows-full-requires
-rows-full-requires c κs =
-    let a = c .before .before .before .before .args in
+full-error-requires : tie.Need-full-error-requires
+full-error-requires c κs =
+    let s = c .before .before .before in
+    let a = s .args in
     let v : Canvas = record { samples = a .reference .now; stride = a .stride; rows = a .rows } in
-    read-full (a .t .now) v (a .n) 16 (a .ox) (a .oy) (a .x0) (a .y0) (c .if2 .taken) (omega (arith, c .before .if1 .left)) (c .before .before .before .before .pre)
+    read-full (a .t .now) v (a .n) (a .n) (a .ox) (a .oy) (a .x0) (a .y0) refl (omega (arith, c .if1 .left)) (s .pre)
 
 returns-2 : tie.Need-returns-2
 returns-2 c =
-    let a = c .before .before .before .before .before .args in
+    let s = c .before .before .before .before in
+    let a = s .args in
     let v : Canvas = record { samples = a .reference .now; stride = a .stride; rows = a .rows } in
-    summed-full (a .t .now) v (a .n) 16 (a .ox) (a .oy) (a .x0) (a .y0) (c .before .if2 .taken) (omega (arith, c .before .before .if1 .left)) (a .limit) _ (c .rows-full .ensures)
-
-rows-full-requires-2 : tie.Need-rows-full-requires-2
-rows-full-requires-2 c κs =
-    let a = c .before .before .before .before .args in
-    let v : Canvas = record { samples = a .reference .now; stride = a .stride; rows = a .rows } in
-    read-full (a .t .now) v (a .n) 8 (a .ox) (a .oy) (a .x0) (a .y0) (omega (arith, c .if2 .left, c .before .before .before .before .pre .side)) (omega (arith, c .before .if1 .left)) (c .before .before .before .before .pre)
-
-returns-3 : tie.Need-returns-3
-returns-3 c =
-    let a = c .before .before .before .before .before .args in
-    let v : Canvas = record { samples = a .reference .now; stride = a .stride; rows = a .rows } in
-    summed-full (a .t .now) v (a .n) 8 (a .ox) (a .oy) (a .x0) (a .y0) (omega (arith, c .before .if2 .left, c .before .before .before .before .before .pre .side)) (omega (arith, c .before .before .if1 .left)) (a .limit) _ (c .rows-full2 .ensures)
+    summed-full (a .t .now) v (a .n) (a .n) (a .ox) (a .oy) (a .x0) (a .y0) refl (omega (arith, c .before .if1 .left)) (a .limit) _ (c .full-error .ensures)
 
 pub block-error-spec : {M : Type 1} → statement M
-block-error-spec =
-    tie.close
-    (tie.spec
-    add-if1
-    rows-between-requires
-    returns
-    rows-full-requires
-    returns-2
-    rows-full-requires-2
-    returns-3)
+block-error-spec = tie.close (tie.spec add-if1 rows-between-requires returns full-error-requires returns-2)

@@ -59,7 +59,7 @@ row-best-requires c κs =
     let a = s .args in
     let r = s .pre in
     let q = c .before .before .before .before .span-of2 .ensures in
-    (r .0, c .before .before .before .loop .inv .2, c .before .before .before .before .before .span-of .ensures, omega (arith, r .0 .py-low, r .0 .py-high, r .0 .radius-most, q .last))
+    (r .0, c .before .before .before .loop .inv .2, c .before .before .before .before .before .span-of .ensures, omega (arith, r .0 .py-low, r .0 .py-high, r .0 .radius-most, q .last), omega arith)
 
 add-k : tie.Need-add-k Inv-loop μ-loop
 add-k c =
