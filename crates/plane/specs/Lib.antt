@@ -5,11 +5,13 @@ pub mod Plane
 pub mod Calls
 pub mod Reader
 pub mod Writer
+pub mod Stated
 pub mod Claim
 pub mod SumLaws
 pub mod SlicesLaws
 pub mod ReaderLaws
 pub mod WriterLaws
+pub mod StatedLaws
 pub mod ClaimLaws
 pub mod RoundTrip
 pub mod RoundTripLaws

@@ -2,6 +2,7 @@
 ghost use Rattle.macroblock_enc.specs.Chosen.{taskBy};
 ghost use Rattle.macroblock.specs.Inner.{givenBy};
 ghost use Rattle.plane.specs.Calls.{PlaneWritten};
+ghost use Rattle.plane.specs.Stated.{PlaneStated};
 ghost use Rattle.plane.specs.Writer.{endOf};
 use super::inner::writing::write_accepted;
 use super::inner::writing::write_refusal;
@@ -36,6 +37,45 @@ pub fn encode_inter_plane(
     vy: &mut [u8],
 ) -> WriteEnd
     ensures { λ r. ⌜ PlaneWritten (givenBy canvas (now (reference .entry)) (now (book .entry)) (now (codebook .entry))) (taskBy (now (source .entry)) lambda radius four) (now (out .entry)) start (record { recon = now (recon .entry); vx = now (vx .entry); vy = now (vy .entry) }) (endOf r) (now (out .exit)) (now (recon .exit)) (now (vx .exit)) (now (vy .exit)) ⌝ }
+{
+    let mut none = [0u32; 1];
+    encode_inter_plane_stated(
+        canvas,
+        source,
+        reference,
+        book,
+        codebook,
+        lambda,
+        radius,
+        four,
+        out,
+        start,
+        recon,
+        vx,
+        vy,
+        &mut none,
+    )
+}
+
+// The same, and told in `stated` for each macroblock done: its mode's position in the mode table, its bits and its error, three numbers a macroblock, as far as
+// there is room for all three.
+pub fn encode_inter_plane_stated(
+    canvas: Svq1PlaneCanvas,
+    source: &[u8],
+    reference: &[u8],
+    book: &[u8],
+    codebook: &[u8],
+    lambda: u64,
+    radius: u8,
+    four: bool,
+    out: &mut [u8],
+    start: usize,
+    recon: &mut [u8],
+    vx: &mut [u8],
+    vy: &mut [u8],
+    stated: &mut [u32],
+) -> WriteEnd
+    ensures { λ r. ⌜ PlaneStated (givenBy canvas (now (reference .entry)) (now (book .entry)) (now (codebook .entry))) (taskBy (now (source .entry)) lambda radius four) (now (out .entry)) start (record { recon = now (recon .entry); vx = now (vx .entry); vy = now (vy .entry) }) (now (stated .entry)) (endOf r) (now (out .exit)) (now (recon .exit)) (now (vx .exit)) (now (vy .exit)) (now (stated .exit)) ⌝ }
 {
     let refused = write_refusal(
         canvas,
@@ -72,5 +112,6 @@ pub fn encode_inter_plane(
         recon,
         vx,
         vy,
+        stated,
     )
 }

@@ -24,7 +24,8 @@ fn side_ok(n: usize) -> bool
     n <= 1024
 }
 
-fn size_refusal(width: usize, height: usize) -> u8
+// Refusal 1: a width or height of 0 or above the largest; 0 for none.
+pub fn size_refusal(width: usize, height: usize) -> u8
     ensures { λ r. ⌜ r ≡ sizeRefusal width height ⌝ }
 {
     if !side_ok(width) {

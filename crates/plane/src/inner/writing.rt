@@ -1,15 +1,19 @@
 // A plane, written: its refusals, and its macroblocks one behind the other.
 ghost use mathlib.Core.Path.{_≡_};
+ghost use mathlib.Core.List.{[], _∷_};
 ghost use Prim.Native.Nat.{_*_};
 ghost use lib.ListN.{length};
 ghost use Rattle.book.specs.Book.{codebookBytes};
 ghost use Rattle.macroblock_enc.specs.Chosen.{taskBy};
 ghost use Rattle.macroblock.specs.Inner.{givenBy};
+ghost use Rattle.macroblock.specs.Mode.{modePosition};
 ghost use Rattle.plane.specs.Reader.{PlaneReady, PlaneAccepted};
-ghost use Rattle.plane.specs.Writer.{writeRefusalBy, WrittenThrough};
+ghost use Rattle.plane.specs.Stated.{told, ToldThrough};
+ghost use Rattle.plane.specs.Writer.{writeRefusalBy};
 use super::super::svq1_enc_inter::WriteEnd;
 use super::read_refusal;
 use leaf::inner::raster::raise_codebook;
+use macroblock::svq1_enc_inter::Svq1MbMode;
 use macroblock_enc::inner::writing::write_macroblock;
 use vectors::svq1_plane::Svq1PlaneCanvas;
 use vectors::svq1_plane::plane_refusal;
@@ -52,7 +56,21 @@ pub fn write_refusal(
     )
 }
 
-// A plane that no refusal meets, written from bit `start` on, macroblock by macroblock. `raised` is the raised codebook.
+// A macroblock's mode, bits and error at its place, where the slice has room for all three.
+fn tell(stated: &mut [u32], k: usize, mode: Svq1MbMode, bits: u32, error: u32)
+    ensures { λ _. ⌜ now (stated .exit) ≡ told (now (stated .entry)) k (modePosition mode ∷ bits ∷ error ∷ []) ⌝ }
+{
+    let position = mode.position();
+    if stated.len() / 3 <= k {
+        return;
+    }
+    let at = 3 * k;
+    stated[at] = position as u32;
+    stated[at + 1] = bits;
+    stated[at + 2] = error;
+}
+
+// A plane that no refusal meets, written from bit `start` on, macroblock by macroblock, each told in `stated`. `raised` is the raised codebook.
 fn write_blocks(
     canvas: Svq1PlaneCanvas,
     source: &[u8],
@@ -68,9 +86,10 @@ fn write_blocks(
     recon: &mut [u8],
     vx: &mut [u8],
     vy: &mut [u8],
+    stated: &mut [u32],
 ) -> WriteEnd
     requires { ⌜ PlaneReady (givenBy canvas (now reference) (now book) (now codebook)) (now raised) (record { recon = now recon; vx = now vx; vy = now vy }) (length (now out)) start × (length (now source) ≡ canvas .width * canvas .height) ⌝ }
-    ensures { λ r. ⌜ WrittenThrough (givenBy canvas (now (reference .entry)) (now (book .entry)) (now (codebook .entry))) (taskBy (now (source .entry)) lambda radius four) (now (out .entry)) start (record { recon = now (recon .entry); vx = now (vx .entry); vy = now (vy .entry) }) r (now (out .exit)) (record { recon = now (recon .exit); vx = now (vx .exit); vy = now (vy .exit) }) ⌝ }
+    ensures { λ r. ⌜ ToldThrough (givenBy canvas (now (reference .entry)) (now (book .entry)) (now (codebook .entry))) (taskBy (now (source .entry)) lambda radius four) (now (out .entry)) start (record { recon = now (recon .entry); vx = now (vx .entry); vy = now (vy .entry) }) (now (stated .entry)) r (now (out .exit)) (record { recon = now (recon .exit); vx = now (vx .exit); vy = now (vy .exit) }) (now (stated .exit)) ⌝ }
 {
     let count = canvas.rows / 16 * (canvas.stride / 16);
     let mut k = 0;
@@ -104,6 +123,8 @@ fn write_blocks(
                 error,
             };
         }
+        let mode = r.mode;
+        tell(stated, k, mode, r.bits, r.error);
         at = r.next;
         bits += r.bits as u64;
         error += r.error as u64;
@@ -133,10 +154,11 @@ fn write_raised(
     recon: &mut [u8],
     vx: &mut [u8],
     vy: &mut [u8],
+    stated: &mut [u32],
     raised: &mut [u8],
 ) -> WriteEnd
     requires { ⌜ PlaneAccepted (givenBy canvas (now reference) (now book) (now codebook)) (record { recon = now recon; vx = now vx; vy = now vy }) (length (now out)) start × (length (now source) ≡ canvas .width * canvas .height) × (length (now raised) ≡ codebookBytes) ⌝ }
-    ensures { λ r. ⌜ WrittenThrough (givenBy canvas (now (reference .entry)) (now (book .entry)) (now (codebook .entry))) (taskBy (now (source .entry)) lambda radius four) (now (out .entry)) start (record { recon = now (recon .entry); vx = now (vx .entry); vy = now (vy .entry) }) r (now (out .exit)) (record { recon = now (recon .exit); vx = now (vx .exit); vy = now (vy .exit) }) ⌝ }
+    ensures { λ r. ⌜ ToldThrough (givenBy canvas (now (reference .entry)) (now (book .entry)) (now (codebook .entry))) (taskBy (now (source .entry)) lambda radius four) (now (out .entry)) start (record { recon = now (recon .entry); vx = now (vx .entry); vy = now (vy .entry) }) (now (stated .entry)) r (now (out .exit)) (record { recon = now (recon .exit); vx = now (vx .exit); vy = now (vy .exit) }) (now (stated .exit)) ⌝ }
 {
     raise_codebook(codebook, raised);
     write_blocks(
@@ -154,6 +176,7 @@ fn write_raised(
         recon,
         vx,
         vy,
+        stated,
     )
 }
 
@@ -172,9 +195,10 @@ pub fn write_accepted(
     recon: &mut [u8],
     vx: &mut [u8],
     vy: &mut [u8],
+    stated: &mut [u32],
 ) -> WriteEnd
     requires { ⌜ PlaneAccepted (givenBy canvas (now reference) (now book) (now codebook)) (record { recon = now recon; vx = now vx; vy = now vy }) (length (now out)) start × (length (now source) ≡ canvas .width * canvas .height) ⌝ }
-    ensures { λ r. ⌜ WrittenThrough (givenBy canvas (now (reference .entry)) (now (book .entry)) (now (codebook .entry))) (taskBy (now (source .entry)) lambda radius four) (now (out .entry)) start (record { recon = now (recon .entry); vx = now (vx .entry); vy = now (vy .entry) }) r (now (out .exit)) (record { recon = now (recon .exit); vx = now (vx .exit); vy = now (vy .exit) }) ⌝ }
+    ensures { λ r. ⌜ ToldThrough (givenBy canvas (now (reference .entry)) (now (book .entry)) (now (codebook .entry))) (taskBy (now (source .entry)) lambda radius four) (now (out .entry)) start (record { recon = now (recon .entry); vx = now (vx .entry); vy = now (vy .entry) }) (now (stated .entry)) r (now (out .exit)) (record { recon = now (recon .exit); vx = now (vx .exit); vy = now (vy .exit) }) (now (stated .exit)) ⌝ }
 {
     let mut raised = [0u8; 23040];
     write_raised(
@@ -191,6 +215,7 @@ pub fn write_accepted(
         recon,
         vx,
         vy,
+        stated,
         &mut raised,
     )
 }

@@ -5,13 +5,13 @@ use Rattle.plane.proofs.inner.writing.write_raised.Statement.{statement
 use Rattle.plane.proofs.inner.writing.write_raised.Tie as tie
 
 raise-codebook-requires : tie.Need-raise-codebook-requires
-raise-codebook-requires c κs = let s = c .before .before .before .before .before .before .before .before .before .before in (data-passes _ _ (s .pre .0 .tables) .0, s .pre .2)
+raise-codebook-requires c κs = let s = c .before .before .before .before .before .before .before .before .before .before .before in (data-passes _ _ (s .pre .0 .tables) .0, s .pre .2)
 
 write-blocks-requires : tie.Need-write-blocks-requires
 write-blocks-requires c κs =
-    let s = c .before .before .before .before .before .before .before .before .before .before .before .before .before .before .before .before .before .before in
+    let s = c .before .before .before .before .before .before .before .before .before .before .before .before .before .before .before .before .before .before .before .before in
     let p = s .pre .0 in
-    (record { ok = record { size = p .size; canvas = p .canvas; tables = p .tables; copy = c .before .before .before .before .before .before .before .raise-codebook .ensures }; held = p .held; from = p .from }, s .pre .1)
+    (record { ok = record { size = p .size; canvas = p .canvas; tables = p .tables; copy = c .before .before .before .before .before .before .before .before .raise-codebook .ensures }; held = p .held; from = p .from }, s .pre .1)
 
 same-length : tie.Need-same-length
 same-length c = search needs
@@ -28,8 +28,11 @@ same-length-4 c = search needs
 same-length-5 : tie.Need-same-length-5
 same-length-5 c = search needs
 
+same-length-6 : tie.Need-same-length-6
+same-length-6 c = search needs
+
 returns : tie.Need-returns
-returns c = search needs
+returns c = c .before .before .before .before .before .before .before .before .before .before .write-blocks .ensures
 
 pub write-raised-spec : {M : Type 1} → statement M
 write-raised-spec =
@@ -42,4 +45,5 @@ write-raised-spec =
     same-length-3
     same-length-4
     same-length-5
+    same-length-6
     returns)
