@@ -127,11 +127,13 @@ impl Trial<'_> {
         let vectors = 4 * self.wanted.count();
         let (more_x, more_y) = (self.random.below(4), self.random.below(4));
         let kind = self.random.byte();
+        let told = self.random.below(3 * self.wanted.count() + 4);
         Lent {
             out,
             recon: pattern(kind, self.wanted.job.reference.len()),
             vx: pattern(kind ^ 85, vectors + more_x),
             vy: pattern(kind ^ 170, vectors + more_y),
+            stated: vec![u32::from(kind) * 0x0101_0101; told],
         }
     }
 
@@ -144,11 +146,13 @@ impl Trial<'_> {
         let got = self.call.write(&mut left, start);
         equal(&format!("{what}: answer"), &want, &got)?;
         let out = self.wanted.left_out(&before.out, start, want.done);
-        let wanted = self.wanted.left(&before, out, want.done);
+        let mut wanted = self.wanted.left(&before, out, want.done);
+        self.wanted.put_stated(&mut wanted.stated, want.done);
         equal(&format!("{what}: bits left"), &wanted.out, &left.out)?;
         equal(&format!("{what}: samples left"), &wanted.recon, &left.recon)?;
         equal(&format!("{what}: x left"), &wanted.vx, &left.vx)?;
         equal(&format!("{what}: y left"), &wanted.vy, &left.vy)?;
+        equal(&format!("{what}: stated"), &wanted.stated, &left.stated)?;
         self.check_modes(&left.out, start, want.done, what)?;
         self.tally.one(match want.refused {
             0 => "plane calls, written whole",

@@ -1,7 +1,6 @@
 //! The proved plane writer and plane reader, linked from the static library
-//! of the crate `parts`.
+//! of the crate `host`, as a C program meets them.
 
-#[repr(C)]
 #[derive(Clone, Copy, Debug, PartialEq, Eq)]
 pub struct Written {
     pub refused: u8,
@@ -11,7 +10,6 @@ pub struct Written {
     pub error: u64,
 }
 
-#[repr(C)]
 #[derive(Clone, Copy, Debug, PartialEq, Eq)]
 pub struct Read {
     pub refused: u8,
@@ -19,8 +17,33 @@ pub struct Read {
     pub next: usize,
 }
 
+/// The boundary's answer, as `include/cabunlis.h` has it.
+#[repr(C)]
+#[derive(Clone, Copy)]
+struct HostAnswer {
+    refusal: u32,
+    macroblock: usize,
+    done: usize,
+    next: usize,
+    bits: u64,
+    error: u64,
+}
+
+impl HostAnswer {
+    /// The index says nothing of its own: the macroblocks done where a
+    /// refusal came in the middle of a plane, else 0.
+    fn refused(&self) -> u8 {
+        let index = match self.refusal {
+            10 | 11 | 22 | 24 => self.done,
+            _ => 0,
+        };
+        assert_eq!(self.macroblock, index, "the macroblock's index");
+        u8::try_from(self.refusal).expect("a refusal's number")
+    }
+}
+
 unsafe extern "C" {
-    fn parts_encode_inter_plane(
+    fn cabunlis_encode_inter_plane(
         width: usize,
         height: usize,
         stride: usize,
@@ -45,9 +68,11 @@ unsafe extern "C" {
         vx_length: usize,
         vy: *mut u8,
         vy_length: usize,
-    ) -> Written;
+        stated: *mut u32,
+        stated_length: usize,
+    ) -> HostAnswer;
 
-    fn parts_decode_inter_plane(
+    fn cabunlis_decode_inter_plane(
         width: usize,
         height: usize,
         stride: usize,
@@ -67,7 +92,7 @@ unsafe extern "C" {
         vx_length: usize,
         vy: *mut u8,
         vy_length: usize,
-    ) -> Read;
+    ) -> HostAnswer;
 }
 
 /// What a plane call is asked, right or wrong.
@@ -93,14 +118,15 @@ pub struct Lent {
     pub recon: Vec<u8>,
     pub vx: Vec<u8>,
     pub vy: Vec<u8>,
+    pub stated: Vec<u32>,
 }
 
 impl PlaneCall {
     pub fn write(&self, lent: &mut Lent, start: usize) -> Written {
         // Safety: each pointer is a slice's, with that slice's length, no
         // two of those written overlap, and the function takes any numbers.
-        unsafe {
-            parts_encode_inter_plane(
+        let answer = unsafe {
+            cabunlis_encode_inter_plane(
                 self.width,
                 self.height,
                 self.stride,
@@ -125,14 +151,23 @@ impl PlaneCall {
                 lent.vx.len(),
                 lent.vy.as_mut_ptr(),
                 lent.vy.len(),
+                lent.stated.as_mut_ptr(),
+                lent.stated.len(),
             )
+        };
+        Written {
+            refused: answer.refused(),
+            done: answer.done,
+            next: answer.next,
+            bits: answer.bits,
+            error: answer.error,
         }
     }
 
     pub fn read(&self, lent: &mut Lent, start: usize) -> Read {
         // Safety: as above.
-        unsafe {
-            parts_decode_inter_plane(
+        let answer = unsafe {
+            cabunlis_decode_inter_plane(
                 self.width,
                 self.height,
                 self.stride,
@@ -153,6 +188,12 @@ impl PlaneCall {
                 lent.vy.as_mut_ptr(),
                 lent.vy.len(),
             )
+        };
+        assert_eq!((answer.bits, answer.error), (0, 0), "the reader's totals");
+        Read {
+            refused: answer.refused(),
+            done: answer.done,
+            next: answer.next,
         }
     }
 }

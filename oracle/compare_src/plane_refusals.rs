@@ -91,6 +91,7 @@ fn good_plane() -> Asked {
         recon: vec![7; 512],
         vx: vec![8; 8],
         vy: vec![9; 8],
+        stated: vec![10; 6],
     };
     Asked {
         call,

@@ -105,6 +105,15 @@ impl Wanted<'_> {
         left
     }
 
+    /// What the writer tells of each macroblock done: its mode, bits and
+    /// error, as far as there is room for all three.
+    pub fn put_stated(&self, stated: &mut [u32], done: usize) {
+        let blocks = &self.answer.blocks[..done];
+        for (three, block) in stated.chunks_exact_mut(3).zip(blocks) {
+            three.copy_from_slice(&[u32::from(block.mode), block.bits, block.error]);
+        }
+    }
+
     fn put_samples(&self, recon: &mut [u8], index: usize) {
         let columns = self.job.columns();
         let first = index / columns * 16 * self.job.stride() + index % columns * 16;

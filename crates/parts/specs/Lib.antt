@@ -5,5 +5,4 @@ pub mod Node
 pub mod NodeLaws
 pub mod Plan
 pub mod PlanLaws
-pub mod Plane
 pub mod Vector

@@ -2,5 +2,4 @@
 pub mod inner;
 pub mod leaf_part;
 pub mod plan_part;
-pub mod plane_part;
 pub mod vector_part;

@@ -1,0 +1,32 @@
+// Book files and the built-in tables.
+ghost use Rattle.book.specs.Book.{bookBytes, codebookBytes};
+ghost use Rattle.book.specs.Calls.{Filled};
+ghost use Rattle.book.specs.House.{houseBook, houseCodebook};
+ghost use Rattle.book_file.specs.Scan.{BookFileRead};
+use book::house::fill_house_book;
+use book::house::fill_house_codebook;
+use book_file::read_book_file;
+
+// Reads a book file into a lent book; 0, or the refusal with the book as it was.
+#[no_mangle]
+pub extern "C" fn cabunlis_read_book_file(file: &[u8], book: &mut [u8]) -> u32
+    ensures { λ r. ⌜ BookFileRead (now (file .entry)) (now (book .entry)) r (now (book .exit)) ⌝ }
+{
+    read_book_file(file, book) as u32
+}
+
+// Fills a lent book with the built-in one; 0, or 5 where it has another size.
+#[no_mangle]
+pub extern "C" fn cabunlis_house_book(book: &mut [u8]) -> u32
+    ensures { λ r. ⌜ Filled bookBytes houseBook (now (book .entry)) r (now (book .exit)) ⌝ }
+{
+    fill_house_book(book) as u32
+}
+
+// The same for the codebook.
+#[no_mangle]
+pub extern "C" fn cabunlis_house_codebook(codebook: &mut [u8]) -> u32
+    ensures { λ r. ⌜ Filled codebookBytes houseCodebook (now (codebook .entry)) r (now (codebook .exit)) ⌝ }
+{
+    fill_house_codebook(codebook) as u32
+}

@@ -1,0 +1,178 @@
+/*
+ * Cabunlis: SVQ1 inter planes, written and read back.
+ *
+ * Link: rt staticlib host, then
+ *     cc program.c -Iinclude target/staticlib/libhost.a
+ * No other library is needed. C99 and later, C++98 and later.
+ *
+ * What every function here has in common
+ *
+ * - A slice is a pointer and a length in elements. A pointer is never NULL, not even that of a slice of length 0.
+ * - A slice that a function writes (out, recon, vx, vy, stated, book, codebook) overlaps no other slice of the same call, and
+ *   nobody else reads or writes it during the call. Slices that are only read may overlap each other.
+ * - Nothing is kept between calls and nothing is allocated. Calls on slices of their own may run on any number of threads at once.
+ * - Every call ends, touches nothing outside the slices, and refuses what it cannot take by a number (below). A refused call
+ *   leaves every slice as it was, except where the number says that it came in the middle of a plane.
+ * - Stack: at most CABUNLIS_STACK_BYTES a call.
+ *
+ * Words
+ *
+ * A plane of width x height samples is written against a reference: a canvas of stride x rows samples, row by row, where stride
+ * and rows are width and height rounded up to a multiple of 16. It is divided into 16 x 16 macroblocks, row by row, so there are
+ * (stride / 16) * (rows / 16). An 8 x 8 block (row r, column c) has its motion vector, in half samples, at r * (stride / 8) + c of
+ * vx and vy, a two's complement byte each. A bit string is bytes, the highest bit of a byte first.
+ */
+#ifndef CABUNLIS_H
+#define CABUNLIS_H
+
+#include <stddef.h>
+#include <stdint.h>
+
+#ifdef __cplusplus
+extern "C" {
+#endif
+
+/* The largest width and the largest height. */
+#define CABUNLIS_LARGEST_SIDE 1024
+
+/*
+ * A book: 932 entries of three bytes, the code's high byte, its low byte and its length in bits. In order: 4 modes (INTER,
+ * INTER_4MV, INTRA, SKIP), 64 vector differences (-32 to 31), 256 intra means, 512 inter means (-256 to 255), then 48 entries of
+ * the intra stages and 48 of the inter stages (eight for each level, 0 to 5: skip, then 0 to 6 stages).
+ */
+#define CABUNLIS_BOOK_BYTES 2796
+
+/* A codebook: signed bytes, the pages in the order of document 01. */
+#define CABUNLIS_CODEBOOK_BYTES 23040
+
+/* The longest bit string, in bytes. */
+#define CABUNLIS_MOST_BYTES ((size_t)1 << 28)
+
+/* Stack that a call may take, in bytes. Measured (host/stack.c): writer 44,416, reader 44,096, a book file 8,104,
+ * a room under a book 4,296, the others next to nothing. */
+#define CABUNLIS_STACK_BYTES 49152
+
+/* The refusals that a C host can meet. */
+enum cabunlis_refusal {
+    CABUNLIS_OK = 0,
+    /* width or height 0 or above 1,024 */
+    CABUNLIS_SIZE = 1,
+    /* source length not width x height */
+    CABUNLIS_SOURCE = 2,
+    /* stride or rows not the size rounded up to 16 */
+    CABUNLIS_STRIDE = 3,
+    /* reference length not stride x rows */
+    CABUNLIS_REFERENCE = 4,
+    /* book or codebook of another size; a line of a book file malformed, missing or doubled */
+    CABUNLIS_TABLES = 5,
+    /* a code's length outside 1..32, or its value not below 2^length */
+    CABUNLIS_CODE = 6,
+    /* in one of the sixteen tables a code begins another or equals it */
+    CABUNLIS_PREFIX = 7,
+    /* reader: the bits left neither begin with a code nor are the start of one */
+    CABUNLIS_NO_CODE = 10,
+    /* reader: an intra leaf that skips, or stages at level 4 or 5 */
+    CABUNLIS_LEAF = 11,
+    /* vx or vy shorter than four bytes a macroblock, or recon length not stride x rows */
+    CABUNLIS_RESULTS = 20,
+    /* bit string longer than CABUNLIS_MOST_BYTES, or start bit beyond its end */
+    CABUNLIS_BITS = 21,
+    /* writer: the next macroblock does not fit */
+    CABUNLIS_FULL = 22,
+    /* reader: the bits end before the last macroblock is whole */
+    CABUNLIS_CUT = 24
+};
+
+/*
+ * What a plane call answers. Where refusal is 10, 11, 22 or 24 the call came to the macroblock of index `macroblock`: those before
+ * it are done, with their bits, samples and vectors, and the rest is untouched. With any other refusal nothing is done and every
+ * other field is 0. The lowest number that applies is answered, 20 and 21 behind 1 to 7.
+ */
+struct cabunlis_answer {
+    uint32_t refusal;
+    size_t macroblock; /* its index with 10, 11, 22 and 24, else 0 */
+    size_t done;       /* macroblocks done */
+    size_t next;       /* the bit behind them */
+    uint64_t bits;     /* writer: their bits; reader: 0 */
+    uint64_t error;    /* writer: their squared error against the source, its last column and row repeated; reader: 0 */
+};
+
+/* What the writer says of one macroblock, three numbers in `stated`. */
+enum cabunlis_mode {
+    CABUNLIS_INTER = 0,
+    CABUNLIS_INTER_4MV = 1,
+    CABUNLIS_INTRA = 2,
+    CABUNLIS_SKIP = 3
+};
+
+/*
+ * Writes a plane from bit `start` of `out` on.
+ *
+ * lambda weighs bits against squared error (any 64-bit number); radius is the search's, in whole samples; four vectors a
+ * macroblock are tried unless `four` is 0.
+ *
+ * Leaves: in `out` the bits of the macroblocks done, zeros behind them to the end of their last byte, everything else as it was; in
+ * `recon` their samples as a reader shows them; in `vx` and `vy` their vectors; in `stated` three numbers for each macroblock done,
+ * as far as it has room for all three: its mode (enum cabunlis_mode), its bits, its squared error. `stated` may be empty.
+ *
+ * Refusals: 1 to 7, 20, 21; 22 with the macroblock that does not fit.
+ */
+struct cabunlis_answer cabunlis_encode_inter_plane(
+    size_t width, size_t height, size_t stride, size_t rows,
+    const uint8_t *source, size_t source_length,
+    const uint8_t *reference, size_t reference_length,
+    const uint8_t *book, size_t book_length,
+    const uint8_t *codebook, size_t codebook_length,
+    uint64_t lambda, uint8_t radius, uint8_t four,
+    uint8_t *out, size_t out_length, size_t start,
+    uint8_t *recon, size_t recon_length,
+    uint8_t *vx, size_t vx_length,
+    uint8_t *vy, size_t vy_length,
+    uint32_t *stated, size_t stated_length);
+
+/*
+ * Reads a plane from bit `start` of `bytes` on. Leaves the samples of the macroblocks done in `recon`, their vectors in `vx` and
+ * `vy`, and everything else as it was.
+ *
+ * Refusals: 1, 3 to 7, 20, 21; 10, 11 and 24 with the macroblock met.
+ */
+struct cabunlis_answer cabunlis_decode_inter_plane(
+    size_t width, size_t height, size_t stride, size_t rows,
+    const uint8_t *reference, size_t reference_length,
+    const uint8_t *book, size_t book_length,
+    const uint8_t *codebook, size_t codebook_length,
+    const uint8_t *bytes, size_t bytes_length, size_t start,
+    uint8_t *recon, size_t recon_length,
+    uint8_t *vx, size_t vx_length,
+    uint8_t *vy, size_t vy_length);
+
+/* What a room call answers: 0 and the bytes, or a refusal and 0. */
+struct cabunlis_room {
+    uint32_t refusal;
+    size_t bytes;
+};
+
+/*
+ * How many bytes a plane of this size takes at most under any good book. With that many bytes behind its start bit (start + 8 *
+ * bytes <= 8 * out_length) a plane that is not refused is written to its last macroblock: 22 cannot come. Refusal: 1.
+ */
+struct cabunlis_room cabunlis_plane_room(size_t width, size_t height);
+
+/* The same under this book: usually much less. Refusals: 1, 5, 6, 7. */
+struct cabunlis_room cabunlis_plane_room_under(size_t width, size_t height, const uint8_t *book, size_t book_length);
+
+/*
+ * Reads a book file (932 lines `table,position,length,code`, in any order, each entry once) into `book`, which is written whole, or
+ * not at all where the file is refused. Answers 0 or a refusal: 5 (also where `book` has another length), 6, 7.
+ */
+uint32_t cabunlis_read_book_file(const uint8_t *file, size_t file_length, uint8_t *book, size_t book_length);
+
+/* Fill `book` and `codebook` with the built-in ones. Answer 0, or 5 where the slice has another length. */
+uint32_t cabunlis_house_book(uint8_t *book, size_t book_length);
+uint32_t cabunlis_house_codebook(uint8_t *codebook, size_t codebook_length);
+
+#ifdef __cplusplus
+}
+#endif
+
+#endif
