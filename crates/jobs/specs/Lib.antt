@@ -1,3 +1,14 @@
--- The definitions that the contracts of this crate cite.
+-- The definitions that the contracts of this crate cite; the laws that callers cite stand in the files named `..Laws`.
+pub mod Cut
+pub mod CutLaws
+pub mod FilesLaws
 pub mod Job
+pub mod JobReading
+pub mod JobLaws
+pub mod LengthLaws
+pub mod Lines
+pub mod LinesLaws
+pub mod Listed
+pub mod ListedLaws
 pub mod Listing
+pub mod RoomLaws

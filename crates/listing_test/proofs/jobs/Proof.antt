@@ -1,0 +1,71 @@
+-- Each turn goes behind two bars. Assumes nothing.
+use Prim.Native.Nat.{_-_, _≤_}
+use lib.ListN.{length}
+use borrow.Author.Needs.{needs}
+use Rattle.listing_test.proofs.jobs.Statement.{statement}
+use Rattle.listing_test.proofs.jobs.Tie as tie
+
+abbrev Inv-loop : tie.InvT-loop
+Inv-loop cases book codebook source reference at₀ at = at ≤ length cases
+
+abbrev μ-loop : tie.MeasureT-loop
+μ-loop cases book codebook source reference at₀ at = length cases - at
+
+loop-holds : tie.Need-loop-holds Inv-loop μ-loop
+loop-holds c = search needs
+
+bar-requires : tie.Need-bar-requires Inv-loop μ-loop
+bar-requires c κs = search needs
+
+returns : tie.Need-returns Inv-loop μ-loop
+returns c = search needs
+
+add-from : tie.Need-add-from Inv-loop μ-loop
+add-from c = search needs
+
+bar-requires-2 : tie.Need-bar-requires-2 Inv-loop μ-loop
+bar-requires-2 c κs = search needs
+
+returns-2 : tie.Need-returns-2 Inv-loop μ-loop
+returns-2 c = search needs
+
+part-requires : tie.Need-part-requires Inv-loop μ-loop
+part-requires c κs = search needs
+
+part-requires-2 : tie.Need-part-requires-2 Inv-loop μ-loop
+part-requires-2 c κs = search needs
+
+show-requires : tie.Need-show-requires Inv-loop μ-loop
+show-requires c κs = search needs
+
+add-at : tie.Need-add-at Inv-loop μ-loop
+add-at c = search needs
+
+loop-less : tie.Need-loop-less Inv-loop μ-loop
+loop-less c = search needs
+
+loop-again : tie.Need-loop-again Inv-loop μ-loop
+loop-again c = search needs
+
+returns-3 : tie.Need-returns-3 Inv-loop μ-loop
+returns-3 c = search needs
+
+pub jobs-spec : {M : Type 1} → statement M
+jobs-spec =
+    tie.close
+    (tie.spec
+    Inv-loop
+    μ-loop
+    loop-holds
+    bar-requires
+    returns
+    add-from
+    bar-requires-2
+    returns-2
+    part-requires
+    part-requires-2
+    show-requires
+    add-at
+    loop-less
+    loop-again
+    returns-3)
