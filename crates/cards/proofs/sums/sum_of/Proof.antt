@@ -1,0 +1,63 @@
+-- The sum so far and the sum of the rest make the whole; 256 samples keep it at 65,280. Assumes nothing.
+use Prim.Native.Nat.{_≤_, _*_, _-_, _+_}
+use mathlib.Core.Path.{_≡_}
+use native.Mathlib.Omega.{arith}
+use lib.Seq.{drop-length}
+use lib.ListN.{length, drop}
+use borrow.Author.Needs.{needs}
+use Rattle.leaf.specs.RaisedLaws.{total-step}
+use Rattle.leaf.specs.Raised.{total}
+use Rattle.cards.proofs.sums.sum_of.Statement.{statement}
+use Rattle.cards.proofs.sums.sum_of.Tie as tie
+
+abbrev Inv-loop : tie.InvT-loop
+Inv-loop s sum₀ i₀ sum i = (i ≤ length s) × (sum ≤ 255 * i) × (sum + total (drop i s) ≡ total s)
+
+abbrev μ-loop : tie.MeasureT-loop
+μ-loop s sum₀ i₀ sum i = length s - i
+
+loop-holds : tie.Need-loop-holds Inv-loop μ-loop
+loop-holds c = search needs
+
+shared-slice-read-wide : tie.Need-shared-slice-read-wide Inv-loop μ-loop
+shared-slice-read-wide c = search needs
+
+wide-requires : tie.Need-wide-requires Inv-loop μ-loop
+wide-requires c κs = search needs
+
+add-sum : tie.Need-add-sum Inv-loop μ-loop
+add-sum c = search needs
+
+add-i : tie.Need-add-i Inv-loop μ-loop
+add-i c = search needs
+
+loop-less : tie.Need-loop-less Inv-loop μ-loop
+loop-less c = search needs
+
+loop-again : tie.Need-loop-again Inv-loop μ-loop
+loop-again c =
+    let l = c .before .before .before .loop in
+    let a = c .before .before .before .before .before .args in
+    omega (arith, total-step (a .s .now) (l .i) (search needs))
+
+returns : tie.Need-returns Inv-loop μ-loop
+unfolding total
+returns c =
+    let l = c .before .loop in
+    let e : l .i ≡ length (c .before .before .before .args .s .now) = omega arith in
+    omega (arith, rw (e, drop-length) at (l .inv .2))
+
+pub sum-of-spec : {M : Type 1} → statement M
+sum-of-spec =
+    tie.close
+    (tie.spec
+    Inv-loop
+    μ-loop
+    loop-holds
+    shared-slice-read-wide
+    wide-requires
+    add-sum
+    add-i
+    loop-less
+    loop-again
+    returns)

@@ -1,0 +1,48 @@
+// Runs the bench cards of document 01 on the library's calls and prints a line for each: what was asked, a colon, what came out.
+mod leaf_cards;
+mod line;
+mod mode;
+mod plane_text;
+mod sample_cards;
+mod small_planes;
+mod sums;
+mod vector_cards;
+mod wide_planes;
+
+ghost use Prim.Native.Nat.{_≤_};
+use book::house::fill_house_book;
+use book::house::fill_house_codebook;
+
+// The cards of planes, and those of parts that can be called alone; the answer is how many were printed.
+fn print_planes(line: &mut [u8], book: &[u8], codebook: &[u8]) -> usize
+    ensures { λ r. ⌜ r ≤ 6 ⌝ }
+{
+    let small = small_planes::print_planes(line, book, codebook);
+    small + wide_planes::print_planes(line, book, codebook)
+}
+
+fn print_parts(line: &mut [u8], book: &[u8], codebook: &[u8]) -> usize
+    ensures { λ r. ⌜ r ≤ 12 ⌝ }
+{
+    let means = leaf_cards::print_means(line, book, codebook);
+    let predictors = vector_cards::print_predictors(line);
+    let searches = vector_cards::print_searches(line);
+    means + predictors + searches + sample_cards::print_samples(line)
+}
+
+// All cards. Reading the first one back is no card, and is counted by itself.
+fn print_cards(line: &mut [u8], book: &[u8], codebook: &[u8]) {
+    let planes = print_planes(line, book, codebook);
+    let back = small_planes::print_read_back(line, book, codebook);
+    let parts = print_parts(line, book, codebook);
+    line::print_counts(line, planes + parts, back);
+}
+
+fn main() {
+    let mut book = [0u8; 2796];
+    fill_house_book(&mut book);
+    let mut codebook = [0u8; 23040];
+    fill_house_codebook(&mut codebook);
+    let mut line = [0u8; 256];
+    print_cards(&mut line, &book, &codebook);
+}
