@@ -1,0 +1,47 @@
+//! The original and the proved library on the same pictures, in one run.
+//! README.md beside this folder says what each command prints.
+
+// The harness around the original serves other commands too.
+#![allow(dead_code)]
+
+include!("modules.rs");
+
+mod clock;
+mod growth;
+mod library;
+mod pictures;
+mod reading;
+mod scenes;
+
+use std::process::ExitCode;
+
+const USAGE: &str = "usage:
+  bench pictures            both writers on each scene, in processor time
+  bench growth              the writer against macroblocks and against the radius
+  bench reading             the reader, and what the refusal checks of a call take
+  bench one ours|original SCENE SIZE RADIUS
+                            one luma plane and nothing else, for counting instructions
+  bench scenes              the words for SCENE, SIZE and RADIUS, one case a line
+  bench raw SCENE SIZE N    N pictures as planar samples (4:1:0) on standard output";
+
+fn main() -> ExitCode {
+    let arguments: Vec<String> = std::env::args().skip(1).collect();
+    let words: Vec<&str> = arguments.iter().map(String::as_str).collect();
+    tables::load(&book::Book::house(), &book::house_codebook());
+    let done = match *words {
+        ["pictures"] => pictures::table(),
+        ["growth"] => growth::table(),
+        ["reading"] => reading::table(),
+        ["one", whose, scene, size, radius] => pictures::one(whose, scene, size, radius),
+        ["scenes"] => scenes::list(),
+        ["raw", scene, size, count] => scenes::raw(scene, size, count),
+        _ => Err(USAGE.into()),
+    };
+    match done {
+        Ok(()) => ExitCode::SUCCESS,
+        Err(message) => {
+            eprintln!("bench: {message}");
+            ExitCode::FAILURE
+        }
+    }
+}
