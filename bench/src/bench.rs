@@ -16,7 +16,8 @@ mod scenes;
 use std::process::ExitCode;
 
 const USAGE: &str = "usage:
-  bench pictures            both writers on each scene, in processor time
+  bench pictures [COUNTS]   both writers on each scene, in processor time; COUNTS
+                            names a file of counted instructions
   bench growth              the writer against macroblocks and against the radius
   bench reading             the reader, and what the refusal checks of a call take
   bench one ours|original SCENE SIZE RADIUS
@@ -29,7 +30,8 @@ fn main() -> ExitCode {
     let words: Vec<&str> = arguments.iter().map(String::as_str).collect();
     tables::load(&book::Book::house(), &book::house_codebook());
     let done = match *words {
-        ["pictures"] => pictures::table(),
+        ["pictures"] => pictures::table(None),
+        ["pictures", counts] => pictures::table(Some(counts)),
         ["growth"] => growth::table(),
         ["reading"] => reading::table(),
         ["one", whose, scene, size, radius] => pictures::one(whose, scene, size, radius),

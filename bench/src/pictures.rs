@@ -51,18 +51,53 @@ struct Sums {
     ours: f64,
 }
 
-pub fn table() -> Result<(), String> {
+/// Instructions of one luma plane by both, in millions, for a case; from a
+/// file with a line for each: scene, size, radius, the original's, ours.
+fn instructions(counts: &str, case: &Case) -> Result<String, String> {
+    let key = format!("{} {} {} ", case.scene, case.size(), case.radius);
+    let line = counts.lines().find_map(|line| line.strip_prefix(&key));
+    let numbers: Vec<f64> = line
+        .unwrap_or_default()
+        .split(' ')
+        .filter_map(|word| word.parse().ok())
+        .collect();
+    match numbers[..] {
+        [original, ours] => Ok(format!(
+            " {:.0} | {:.1} | {:.1} |",
+            original / 1e6,
+            ours / 1e6,
+            original / ours
+        )),
+        _ => Err(format!("no instructions counted for {key}")),
+    }
+}
+
+/// Both writers on every case; with counted instructions beside the times
+/// where there is a file of them.
+pub fn table(counts: Option<&str>) -> Result<(), String> {
+    let counts = match counts {
+        Some(name) => Some(std::fs::read_to_string(name).map_err(|error| error.to_string())?),
+        None => None,
+    };
     println!("processor seconds, {PICTURES} pictures of three planes (luma, and two of a quarter of each side), lambda 32, four vectors");
     println!("bits, reconstruction and vectors are the same in both\n");
-    println!("| scene | luma | radius | bits a picture | luma dB | original: planes/s | pictures/s | ours: planes/s | pictures/s | ratio |");
-    println!("|---|---|---|---|---|---|---|---|---|---|");
+    let (more, rule) = match counts {
+        Some(_) => (" original: million instructions a luma plane | ours | ratio |", "---|---|---|"),
+        None => ("", ""),
+    };
+    println!("| scene | luma | radius | bits a picture | luma dB | original: planes/s | pictures/s | ours: planes/s | pictures/s | ratio |{more}");
+    println!("|---|---|---|---|---|---|---|---|---|---|{rule}");
     for case in cases() {
-        row(&case)?;
+        let counted = match &counts {
+            Some(counts) => instructions(counts, &case)?,
+            None => String::new(),
+        };
+        row(&case, &counted)?;
     }
     Ok(())
 }
 
-fn row(case: &Case) -> Result<(), String> {
+fn row(case: &Case, counted: &str) -> Result<(), String> {
     let mut sums = Sums::default();
     let mut references: [Option<Vec<u8>>; PLANES] = [None, None, None];
     for picture in 0..=PICTURES {
@@ -82,7 +117,7 @@ fn row(case: &Case) -> Result<(), String> {
     let planes = f64::from(sums.planes);
     let mean = sums.error as f64 / sums.samples as f64;
     println!(
-        "| {} | {} | {} | {:.0} | {:.2} | {:.2} | {:.2} | {:.1} | {:.1} | {:.1} |",
+        "| {} | {} | {} | {:.0} | {:.2} | {:.2} | {:.2} | {:.1} | {:.1} | {:.1} |{counted}",
         case.scene,
         case.size(),
         case.radius,
