@@ -28,11 +28,16 @@ fn microseconds(case: &Case) -> (usize, f64) {
             lent.write(&job);
         }
     });
-    (macroblocks, 1e6 * time / f64::from(TURNS) / macroblocks as f64)
+    (
+        macroblocks,
+        1e6 * time / f64::from(TURNS) / macroblocks as f64,
+    )
 }
 
 pub fn table() -> Result<(), String> {
-    println!("the turning scene's luma plane, lambda 32, four vectors: microseconds of processor time a macroblock\n");
+    println!(
+        "the turning scene's luma plane, lambda 32, four vectors: microseconds of processor time a macroblock\n"
+    );
     println!("| size | macroblocks | radius | µs a macroblock |");
     println!("|---|---|---|---|");
     for side in [64, 128, 256, 512, 1024] {

@@ -79,13 +79,20 @@ pub fn table(counts: Option<&str>) -> Result<(), String> {
         Some(name) => Some(std::fs::read_to_string(name).map_err(|error| error.to_string())?),
         None => None,
     };
-    println!("processor seconds, {PICTURES} pictures of three planes (luma, and two of a quarter of each side), lambda 32, four vectors");
+    println!(
+        "processor seconds, {PICTURES} pictures of three planes (luma, and two of a quarter of each side), lambda 32, four vectors"
+    );
     println!("bits, reconstruction and vectors are the same in both\n");
     let (more, rule) = match counts {
-        Some(_) => (" original: million instructions a luma plane | ours | ratio |", "---|---|---|"),
+        Some(_) => (
+            " original: million instructions a luma plane | ours | ratio |",
+            "---|---|---|",
+        ),
         None => ("", ""),
     };
-    println!("| scene | luma | radius | bits a picture | luma dB | original: planes/s | pictures/s | ours: planes/s | pictures/s | ratio |{more}");
+    println!(
+        "| scene | luma | radius | bits a picture | luma dB | original: planes/s | pictures/s | ours: planes/s | pictures/s | ratio |{more}"
+    );
     println!("|---|---|---|---|---|---|---|---|---|---|{rule}");
     for case in cases() {
         let counted = match &counts {
@@ -175,7 +182,12 @@ pub fn one(whose: &str, scene: &str, size: &str, radius: &str) -> Result<(), Str
     // same, and no plane is written before the one that is counted.
     let mut job = case.job(0, 1, None);
     let before = case.draw(0, 0);
-    for (into, from) in job.reference.chunks_mut(job.width).zip(before.chunks(job.width)) {
+    let stride = job.stride();
+    for (into, from) in job
+        .reference
+        .chunks_mut(stride)
+        .zip(before.chunks(job.width))
+    {
         into[..from.len()].copy_from_slice(from);
     }
     let bits = match whose {

@@ -7,7 +7,9 @@ use crate::scenes::{PLANES, cases};
 const TURNS: u32 = 20;
 
 pub fn table() -> Result<(), String> {
-    println!("pictures read a processor second (the second picture of each scene, three planes); a call's checks: a call with an empty bit string, which passes all refusals but 24\n");
+    println!(
+        "pictures read a processor second (the second picture of each scene, three planes); a call's checks: a call with an empty bit string, which passes all refusals but 24\n"
+    );
     println!("| scene | luma | pictures/s | checks, µs a call |");
     println!("|---|---|---|---|");
     for case in cases().into_iter().filter(|case| case.radius == 8) {
@@ -19,7 +21,11 @@ pub fn table() -> Result<(), String> {
             let job = case.job(plane, 1, Some(lent.recon.clone()));
             let written = lent.write(&job);
             let bytes = written.next.div_ceil(8);
-            let (ends, time) = seconds(|| (0..TURNS).map(|_| lent.read(&job, bytes).next).sum::<usize>());
+            let (ends, time) = seconds(|| {
+                (0..TURNS)
+                    .map(|_| lent.read(&job, bytes).next)
+                    .sum::<usize>()
+            });
             if ends != written.next * TURNS as usize {
                 return Err("the reader ends elsewhere".into());
             }

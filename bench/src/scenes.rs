@@ -6,7 +6,14 @@ use std::io::Write;
 use crate::job::Job;
 
 unsafe extern "C" {
-    fn scene_draw(samples: *mut u8, width: usize, height: usize, plane: i32, eye: i32, picture: u32);
+    fn scene_draw(
+        samples: *mut u8,
+        width: usize,
+        height: usize,
+        plane: i32,
+        eye: i32,
+        picture: u32,
+    );
 }
 
 #[derive(Clone, Copy)]

@@ -1,5 +1,5 @@
 -- Laws of levels and of their parts of a stage family.
-use Prim.Native.Nat.{ℕ, suc, _+_, _-_, _*_}
+use Prim.Native.Nat.{ℕ, suc, _+_, _-_, _*_, _≤_}
 use mathlib.Core.Path.{_≡_, ap}
 use mathlib.Core.List.{List, []}
 use native.Mathlib.Omega.{arith}
@@ -14,6 +14,15 @@ use Rattle.book.specs.Calls.{subdivision, lentFamily, familyBytes, famil
 use Rattle.book.specs.declared.svq1_blocktree.Svq1Level.{Svq1Level}
 use Rattle.book.specs.declared.svq1_blocktree.Svq1Level.the-variants.{L0, L1, L2, L3, L4, L5}
 use Rattle.book.specs.declared.svq1_blocktree.Subdivision.the-variants.{Parts}
+
+-- a level is one of six
+pub level-most : (l : Svq1Level) → levelNumber l ≤ 5
+level-most L0 = omega arith
+level-most L1 = omega arith
+level-most L2 = omega arith
+level-most L3 = omega arith
+level-most L4 = omega arith
+level-most L5 = omega arith
 
 -- a block's parts are one level down
 pub parts-level : (l p : Svq1Level) → subdivision l ≡ Parts p → levelNumber l ≡ suc (levelNumber p)

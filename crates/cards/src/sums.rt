@@ -3,9 +3,8 @@ ghost use mathlib.Core.Path.{_≡_};
 ghost use Prim.Native.Nat.{_≤_};
 ghost use lib.ListN.{length};
 ghost use Rattle.leaf.specs.Mean.{residual};
-ghost use Rattle.leaf.specs.Raised.{total};
 ghost use Rattle.cards.specs.Numbers.{oneIf, countOf};
-use leaf::inner::samples::wide;
+use leaf_search::inner::sum_of;
 
 fn one_if(a: u8, b: u8) -> usize
     ensures { λ r. ⌜ (r ≡ oneIf a b) × (r ≤ 1) ⌝ }
@@ -24,20 +23,6 @@ pub fn count_of(s: &[u8], v: u8) -> usize
         i += 1;
     }
     n
-}
-
-// The sum of a block's samples.
-fn sum_of(s: &[u8]) -> u16
-    requires { ⌜ length (now s) ≤ 256 ⌝ }
-    ensures { λ r. ⌜ r ≡ total (now (s .entry)) ⌝ }
-{
-    let mut sum: u16 = 0;
-    let mut i = 0;
-    while i < s.len() {
-        sum += wide(s[i]);
-        i += 1;
-    }
-    sum
 }
 
 // The sum of the residuals, target less predictor.

@@ -1,4 +1,4 @@
--- What writing and reading a leaf by two lent tables asks, and what it leaves: the stage table of the leaf's level and the mean table of its half.
+-- What writing and reading a leaf by two lent tables asks, and what it leaves: the stage table of the leaf's level and the mean table of its half (document 01, "Reading", refusals 10, 11, 24).
 use Prim.Native.Nat.{ℕ, zero, suc, _+_, _-_, _*_, _≤_, _<_}
 use mathlib.Core.Path.{_≡_}
 use mathlib.Core.Bool.{true}

@@ -15,9 +15,6 @@ use Rattle.bits.specs.Codes.{code, codesOf, codeLen, goodTable}
 use Rattle.bits.specs.CodesLaws.{code-length, good-is}
 use Rattle.bits.specs.Inner.{Fits, GoodEntry, Wrote}
 use Rattle.bits.specs.InnerLaws.{wrote-none, wrote-more, wrote-size}
-use Rattle.book.specs.Level.{levelNumber}
-use Rattle.book.specs.declared.svq1_blocktree.Svq1Level.{Svq1Level}
-use Rattle.book.specs.declared.svq1_blocktree.Svq1Level.the-variants.{L0, L1, L2, L3, L4, L5}
 use Rattle.book.specs.Book.{Tables, tablesOf, stageTable, stageFamily, meanTable, bookRefusal}
 use Rattle.book.specs.BookLaws.{means, good-book}
 use Rattle.book.specs.declared.svq1_vlc.Svq1Half.{Svq1Half}
@@ -135,12 +132,3 @@ module _ (h : Svq1Half) (stage mean js : List ℕ) (t : LentTables h stage mean)
   pub skip-wrote : (out left : List ℕ) (at r : ℕ) → Wrote out at (code (codesOf stage) 0) r left → Wrote out at (lentBits h stage mean (leafOf Skip js)) r left
   unfolding leafBits
   skip-wrote out left at r w = w
-
--- a level is one of six
-pub level-most : (l : Svq1Level) → levelNumber l ≤ 5
-level-most L0 = omega arith
-level-most L1 = omega arith
-level-most L2 = omega arith
-level-most L3 = omega arith
-level-most L4 = omega arith
-level-most L5 = omega arith

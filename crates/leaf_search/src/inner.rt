@@ -108,7 +108,7 @@ fn best_vector(t: &[u8], a: &[u16], book: &[u8], base: usize, bias: u16) -> Best
 }
 
 // The sum of a block's samples.
-fn sum_of(t: &[u8]) -> u32
+pub fn sum_of(t: &[u8]) -> u32
     requires { ⌜ length (now t) ≤ 256 ⌝ }
     ensures { λ r. ⌜ r ≡ total (now (t .entry)) ⌝ }
     ensures { λ r. ⌜ r ≤ 65280 ⌝ }

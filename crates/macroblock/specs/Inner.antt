@@ -1,4 +1,4 @@
--- What the functions of `inner` are lent, as the refusals of a plane call leave it.
+-- What the functions of `inner` are lent, as the refusals of a plane call leave it (document 01, refusals 1 to 7 and 20).
 use mathlib.Core.List.{List}
 use mathlib.Core.Path.{_≡_}
 use Prim.Native.Nat.{ℕ, _*_, _≤_}

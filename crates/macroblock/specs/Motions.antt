@@ -1,4 +1,4 @@
--- The motion of the code as the definitions' motion.
+-- The motion of the code as the definitions' motion (document 01, `svq1_enc_inter.rs`: `MbMotion`).
 use mathlib.Core.List.{List}
 use lib.ListN.{getD}
 use Rattle.vectors.specs.declared.svq1_motion_predictor.Svq1Mv.{Svq1Mv}

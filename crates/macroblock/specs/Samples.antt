@@ -1,4 +1,4 @@
--- A macroblock's 256 samples in a plane, and its quarters moved each by a vector of its own.
+-- A macroblock's 256 samples in a plane, and its quarters moved each by a vector of its own (document 01, `svq1_enc_inter.rs`).
 use mathlib.Core.List.{List, map}
 use mathlib.Core.Path.{_≡_}
 use Prim.Native.Nat.{ℕ, suc, _*_, _/_, _%_, _≤_, _<_}

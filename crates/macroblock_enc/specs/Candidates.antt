@@ -1,4 +1,4 @@
--- The candidates of the code as the definitions' choices, and what they state.
+-- The candidates of the code as the definitions' choices, what they state, and which of two is kept (document 01, `svq1_enc_inter.rs`).
 use mathlib.Core.Path.{_≡_}
 use mathlib.Core.Bool.{Bool, true, false, _&&_, _||_}
 use mathlib.Core.List.{List, map}

@@ -1,4 +1,4 @@
--- What choosing how a macroblock is coded asks and finds.
+-- What choosing how a macroblock is coded asks and finds (document 01, `svq1_enc_inter.rs`).
 use mathlib.Core.Path.{_≡_}
 use mathlib.Core.Bool.{Bool}
 use mathlib.Core.List.{List, []}

@@ -1,4 +1,4 @@
--- The bits of a vector's component, and what counting bits answers.
+-- The bits of a vector's component, and what counting bits answers (document 01, "The book").
 use mathlib.Core.Path.{_≡_}
 use mathlib.Core.List.{List}
 use Prim.Native.Nat.{ℕ, _≤_}

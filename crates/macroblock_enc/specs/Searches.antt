@@ -1,4 +1,4 @@
--- The searches for a macroblock by its samples, and the motions that they leave to try.
+-- The searches for a macroblock by its samples, and the motions that they leave to try (document 01, `svq1_enc_inter.rs`).
 use mathlib.Core.Path.{_≡_}
 use mathlib.Core.Bool.{true, false}
 use mathlib.Core.List.{List, [], _∷_}

@@ -1,4 +1,4 @@
--- What writing a macroblock asks and leaves.
+-- What writing a macroblock asks and leaves (document 01, `svq1_enc_inter.rs`, refusal 22).
 use mathlib.Core.Path.{_≡_}
 use mathlib.Core.Bool.{Bool}
 use mathlib.Core.List.{List, _++_}

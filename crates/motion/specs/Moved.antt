@@ -1,4 +1,4 @@
--- Parts of a macroblock's 256 samples, moved by a vector, as the code writes them, and the numbers it raises places by.
+-- Parts of a macroblock's 256 samples, moved by a vector, as the code writes them, and the numbers it raises places by (document 01, `svq1_enc_inter.rs`, over the definitions of Compensation).
 use Prim.Native.Nat.{ℕ, zero, suc, _+_, _-_, _*_, _/_, _%_, _<_, _≤_}
 use mathlib.Core.Path.{_≡_}
 use mathlib.Core.Bool.{Bool, _&&_}

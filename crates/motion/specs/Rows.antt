@@ -1,4 +1,4 @@
--- Rows of a block as the code reads them where every read lies in the canvas, and a sum that ends early. What they amount to is in `RowsLaws`.
+-- Rows of a block as the code reads them where every read lies in the canvas, and a sum that ends early (document 01, `svq1_enc_inter.rs`, over the definitions of Compensation). What they amount to is in `RowsLaws`.
 use Prim.Native.Nat.{ℕ, zero, suc, _+_, _*_, _%_, _≤_, _<_}
 use mathlib.Core.Path.{_≡_}
 use mathlib.Core.List.{List}

@@ -1,4 +1,4 @@
--- The records of the plan's code, and the plan's array.
+-- The records of the plan's code and the array that holds them, with their saturating costs (document 01, `svq1_enc_tree.rs`).
 use mathlib.Core.Path.{_≡_, sym}
 use mathlib.Core.Bool.{Bool, true, false}
 use Prim.Native.Nat.{ℕ, _^_, _≤_, _<_}

@@ -1,4 +1,4 @@
--- What the functions of `planning` ask and find.
+-- What the functions of `inner` ask and find when they plan a block (document 01, `svq1_enc_tree.rs`, over the definitions of tree/specs/Plan).
 use mathlib.Core.Path.{_≡_}
 use mathlib.Core.Bool.{Bool, true, false}
 use mathlib.Core.List.{List}

@@ -1,4 +1,4 @@
--- What the calls of this crate answer, and what a host may do with it.
+-- What the calls of this crate answer, and what a host may do with it (beyond document 01; refusals 1, 5, 6 and 7 as it has them).
 use Prim.Native.Nat.{ℕ, _*_}
 use mathlib.Core.List.{List}
 use mathlib.Core.Path.{_≡_}

@@ -1,4 +1,4 @@
-// The plane's ground: sizes and canvases, motion vectors, their predictors and neighbours.
+// Sizes and canvases of planes, motion vectors, their predictors and neighbours.
 pub mod inner;
 pub mod svq1_motion_predictor;
 pub mod svq1_mv_cache;

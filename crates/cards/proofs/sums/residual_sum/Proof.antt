@@ -27,7 +27,7 @@ returns : tie.Need-returns
 returns c =
     let a = c .before .before .before .before .args in
     let d = less (c .before .sum-of .result) (c .sum-of2 .result) (omega arith) (omega arith) .same in
-    rw (d, c .before .sum-of .ensures, c .sum-of2 .ensures) (sym (residual-sums (now (a .target)) (now (a .predictor)) (omega arith)))
+    rw (d, c .before .sum-of .ensures .0, c .sum-of2 .ensures .0) (sym (residual-sums (now (a .target)) (now (a .predictor)) (omega arith)))
 
 pub residual-sum-spec : {M : Type 1} → statement M
 residual-sum-spec =

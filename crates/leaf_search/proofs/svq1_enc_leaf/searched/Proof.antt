@@ -3,7 +3,7 @@ use mathlib.Core.Path.{refl, _∙_}
 use native.Mathlib.Omega.{arith}
 use Rattle.bits.specs.Basics.{Bytes}
 use Rattle.book.specs.Level.{levelNumber}
-use Rattle.leaf.specs.LentLaws.{level-most}
+use Rattle.book.specs.LevelLaws.{level-most}
 use Rattle.leaf_search.specs.LeafAnswerLaws.{found-level, found-fits}
 use borrow.Author.Needs.{needs}
 use Rattle.leaf_search.proofs.svq1_enc_leaf.searched.Statement.{statement}

@@ -1,7 +1,7 @@
 -- By a book's two tables. Assumes nothing.
 use Rattle.book.specs.Level.{levelNumber}
 use Rattle.leaf.specs.Raised.{leafOf}
-use Rattle.leaf.specs.LentLaws.{level-most}
+use Rattle.book.specs.LevelLaws.{level-most}
 use mathlib.Core.Path.{_∙_, ap}
 use lib.ListN.{length}
 use Rattle.book.specs.BookLaws.{good-book}
