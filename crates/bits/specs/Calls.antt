@@ -1,21 +1,16 @@
--- What the public calls on bits answer and leave (document 01, refusals 5, 6, 10, 21, 22, 24).
-use Prim.Native.Nat.{ℕ, _+_, _-_, _*_, _/_, _%_, _^_}
+-- What the public calls on bits answer and leave (document 01, refusals 6, 21, 22, 24).
+use Prim.Native.Nat.{ℕ, _+_, _-_, _*_, _^_}
 use mathlib.Core.Path.{_≡_}
 use mathlib.Core.Bool.{_&&_}
 use mathlib.Core.List.{List}
-use lib.Dec.{eqb, leb, ltb}
+use lib.Dec.{eqb, leb}
 use lib.ListN.{length, take, drop}
 use Rattle.bits.specs.Basics.{pick, orElse, unless}
 use Rattle.bits.specs.Bits.{valOf, bitsOf, putBits}
-use Rattle.bits.specs.Codes.{codeVal, codeLen, codesOf, goodEntry, goodTable, readCode}
 use Rattle.bits.specs.declared.svq1_enc.Pushed.{Pushed}
 use Rattle.bits.specs.declared.svq1_enc.Pushed.the-variants as pushed
-use Rattle.bits.specs.declared.svq1_vlc.CodeRead.{CodeRead}
-use Rattle.bits.specs.declared.svq1_vlc.CodeRead.the-variants.{Code, NoCode, Ends}
 use Rattle.bits.specs.declared.svq1_vlc.BitsRead.{BitsRead}
 use Rattle.bits.specs.declared.svq1_vlc.BitsRead.the-variants as bits-read
-use Rattle.bits.specs.declared.svq1_vlc.CodeAnswer.{CodeAnswer}
-use Rattle.bits.specs.declared.svq1_vlc.CodeAnswer.the-variants as code-answer
 
 -- ---- answers
 -- what a call gives: its value, or the number of document 01's refusal
@@ -41,16 +36,6 @@ abbrev pub bitsAnswer : BitsRead → Answer Read
 bitsAnswer (bits-read.Bits v next) = done (record { value = v; next = next })
 bitsAnswer (bits-read.Refused n) = refused n
 
-abbrev pub codeAnswer : CodeAnswer → Answer Read
-codeAnswer (code-answer.Code k next) = done (record { value = k; next = next })
-codeAnswer (code-answer.Refused n) = refused n
-
--- 10 where there is no code, 24 where the bits end inside one
-abbrev pub readAnswer : CodeRead → Answer Read
-readAnswer (Code k next) = done (record { value = k; next = next })
-readAnswer NoCode = refused 10
-readAnswer Ends = refused 24
-
 -- ---- refusals, by the bytes of the bit string, the start bit and the width
 -- 21: more than 2^28 bytes, or the start bit lies beyond them
 abbrev pub startRefusal : ℕ → ℕ → ℕ
@@ -64,18 +49,6 @@ roomRefusal bytes at w short = orElse (startRefusal bytes at) (unless (leb w (8 
 unfoldable pub bitsRefusal : ℕ → ℕ → ℕ → ℕ → ℕ
 bitsRefusal bytes at w short = orElse (unless (leb w 32) 6) (roomRefusal bytes at w short)
 
--- 5 where the table has no whole entry at position k, 6 where its length or its value is bad
-unfoldable pub entryRefusal : List ℕ → ℕ → ℕ
-entryRefusal t k = orElse (unless (eqb (length t % 3) 0 && ltb k (length t / 3)) 5) (unless (goodEntry (codeVal t k) (codeLen t k)) 6)
-
--- of a code to be written
-unfoldable pub codeRefusal : ℕ → ℕ → List ℕ → ℕ → ℕ
-codeRefusal bytes at t k = orElse (entryRefusal t k) (roomRefusal bytes at (codeLen t k) 22)
-
--- of a table to be read from: 5 where bytes are left over behind its last entry, 6 where an entry is bad
-unfoldable pub tableRefusal : List ℕ → ℕ
-tableRefusal t = orElse (unless (eqb (length t % 3) 0) 5) (unless (goodTable t) 6)
-
 -- ---- the calls
 -- the bits xs put at bit `at` of `out`, unless refused: the answer is the bit behind them; `left` is what the slice holds at the end
 pub record Put (refusal : ℕ) (out : List ℕ) (at : ℕ) (xs : List ℕ) (r : Pushed) (left : List ℕ) : Type 0 where
@@ -86,7 +59,3 @@ pub record Put (refusal : ℕ) (out : List ℕ) (at : ℕ) (xs : List ℕ) (r : 
 -- the number that the w bits from bit `at` on stand for
 unfoldable pub bitsAt : List ℕ → ℕ → ℕ → Answer Read
 bitsAt s at w = unlessRefused (bitsRefusal (length s) at w 24) (done (record { value = valOf (take w (drop at (bitsOf s))); next = at + w }))
-
--- the code that stands at bit `at`
-unfoldable pub codeAt : List ℕ → ℕ → List ℕ → Answer Read
-codeAt s at t = unlessRefused (orElse (tableRefusal t) (startRefusal (length s) at)) (readAnswer (readCode (codesOf t) (bitsOf s) at))

@@ -1,18 +1,17 @@
 -- Laws of the public calls' refusals: what holds where none is met, and what is answered.
-use Prim.Native.Nat.{ℕ, _+_, _-_, _*_, _/_, _%_, _^_, _≤_, _<_}
+use Prim.Native.Nat.{ℕ, _+_, _-_, _*_, _^_, _≤_, _<_}
 use mathlib.Core.Path.{_≡_, refl}
 use mathlib.Core.Bool.{Bool, true, false, _&&_}
 use mathlib.Core.List.{List}
 use native.Mathlib.Omega.{arith}
-use lib.Dec.{eqb, leb, ltb}
+use lib.Dec.{leb}
 use lib.ListN.{length}
-use borrow.Author.Tests.{eq-eqb, ne-eqb, leb-true, ltb-true, le-leb}
+use borrow.Author.Tests.{eq-eqb, ne-eqb, leb-true, le-leb}
 use Rattle.bits.specs.Basics.{unless}
 use Rattle.bits.specs.BasicsLaws.{both-true, or-none, unless-none}
 use Rattle.bits.specs.Bits.{bitsOf, putBits}
-use Rattle.bits.specs.Codes.{codeVal, codeLen, goodEntry, goodTable}
-use Rattle.bits.specs.Inner.{Fits, GoodEntry}
-use Rattle.bits.specs.Calls.{Answer, done, refused, unlessRefused, startRefusal, roomRefusal, bitsRefusal, entryRefusal, codeRefusal, tableRefusal, Put}
+use Rattle.bits.specs.Inner.{Fits}
+use Rattle.bits.specs.Calls.{Answer, done, refused, unlessRefused, startRefusal, roomRefusal, bitsRefusal, Put}
 use Rattle.bits.specs.declared.svq1_enc.Pushed.the-variants.{Next, Refused}
 
 -- ---- no refusal
@@ -35,28 +34,6 @@ unfolding bitsRefusal
 bits-passes bytes at w short p e =
     let two = or-none (unless (leb w 32) 6) (roomRefusal bytes at w short) e in
     (leb-true w 32 (unless-none (leb w 32) 6 (omega arith) (two .0)), room-passes bytes at w short p (two .1))
-
-pub entry-passes : (t : List ℕ) (k : ℕ) → entryRefusal t k ≡ 0 → GoodEntry t k
-unfolding entryRefusal
-entry-passes t k e =
-    let two = or-none (unless (eqb (length t % 3) 0 && ltb k (length t / 3)) 5) (unless (goodEntry (codeVal t k) (codeLen t k)) 6) e in
-    let whole = both-true (eqb (length t % 3) 0) (ltb k (length t / 3)) (unless-none (eqb (length t % 3) 0 && ltb k (length t / 3)) 5 (omega arith) (two .0)) in
-    let good = unless-none (goodEntry (codeVal t k) (codeLen t k)) 6 (omega arith) (two .1) in
-    let lengths = both-true (leb 1 (codeLen t k) && leb (codeLen t k) 32) (ltb (codeVal t k) (2 ^ codeLen t k)) good .0 in
-    record {
-      there = ltb-true k (length t / 3) (whole .1);
-      long = leb-true (codeLen t k) 32 (both-true (leb 1 (codeLen t k)) (leb (codeLen t k) 32) lengths .1);
-    }
-
-pub code-passes : (bytes at : ℕ) (t : List ℕ) (k : ℕ) → codeRefusal bytes at t k ≡ 0 → GoodEntry t k × Fits bytes at (codeLen t k)
-unfolding codeRefusal
-code-passes bytes at t k e =
-    let two = or-none (entryRefusal t k) (roomRefusal bytes at (codeLen t k) 22) e in
-    (entry-passes t k (two .0), room-passes bytes at (codeLen t k) 22 (omega arith) (two .1))
-
-pub table-passes : (t : List ℕ) → tableRefusal t ≡ 0 → goodTable t ≡ true
-unfolding tableRefusal
-table-passes t e = unless-none (goodTable t) 6 (omega arith) (or-none (unless (eqb (length t % 3) 0) 5) (unless (goodTable t) 6) e .1)
 
 -- ---- the tests, one behind the other
 pub start-is : (bytes at : ℕ) → bytes ≤ 2 ^ 28 → at ≤ 8 * bytes → startRefusal bytes at ≡ 0

@@ -1,4 +1,4 @@
-// A lent byte slice as a string of bits: writing codes into it and reading them.
+// A lent byte slice as a string of bits: numbers written into it and read.
 pub mod inner;
 pub mod svq1_enc;
 pub mod svq1_vlc;

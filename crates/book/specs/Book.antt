@@ -5,7 +5,7 @@ use mathlib.Core.List.{List, [], _∷_}
 use lib.Dec.{eqb}
 use lib.ListN.{length, take, drop}
 use Rattle.bits.specs.Basics.{orElse, unless}
-use Rattle.bits.specs.Codes.{codesOf, goodTable, prefixFree}
+use Rattle.code_tables.specs.Codes.{codesOf, goodTable, prefixFree}
 use Rattle.book.specs.declared.svq1_vlc.Svq1Half.{Svq1Half}
 use Rattle.book.specs.declared.svq1_vlc.Svq1Half.the-variants.{Intra, Inter}
 

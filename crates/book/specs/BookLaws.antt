@@ -12,9 +12,9 @@ use lib.Seq.{take-nil, take-append-add, getD-append-add, take-take, drop-drop, d
 use borrow.Author.Tests.{eqb-true}
 use Rattle.bits.specs.Basics.{unless}
 use Rattle.bits.specs.BasicsLaws.{both-true, or-none, unless-none}
-use Rattle.bits.specs.Codes.{code, codesOf, goodTable, prefixFree}
-use Rattle.bits.specs.Inner.{GoodEntry}
-use Rattle.bits.specs.CodesLaws.{length-codesOf, code-most, good-is, good-take, good-drop}
+use Rattle.code_tables.specs.Codes.{code, codesOf, goodTable, prefixFree}
+use Rattle.code_tables.specs.Inner.{GoodEntry}
+use Rattle.code_tables.specs.CodesLaws.{length-codesOf, code-most, good-is, good-take, good-drop}
 use Rattle.book.specs.Book.{bookBytes, codebookBytes, entries, modeTable, vectorTable, meanTable, stageFamily, stageTable, Tables, tablesOf, codeTableSizes, eachPrefixFree, codesRefusal, bookRefusal, dataRefusal}
 use Rattle.book.specs.declared.svq1_vlc.Svq1Half.{Svq1Half}
 use Rattle.book.specs.declared.svq1_vlc.Svq1Half.the-variants.{Intra, Inter}

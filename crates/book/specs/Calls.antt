@@ -1,10 +1,9 @@
 -- What this crate's calls answer and leave: a level's parts, a part of a lent stage family, a filled slice (document 01, "The shape of some places", refusal 5).
 use Prim.Native.Nat.{ℕ}
-use mathlib.Core.Path.{_≡_}
 use mathlib.Core.List.{List, []}
 use lib.Dec.{eqb}
 use lib.ListN.{length}
-use Rattle.bits.specs.Basics.{pick, unless}
+use Rattle.bits.specs.Basics.{pick}
 use Rattle.book.specs.Book.{stageTable}
 use Rattle.book.specs.declared.svq1_blocktree.Svq1Level.{Svq1Level}
 use Rattle.book.specs.declared.svq1_blocktree.Svq1Level.the-variants.{L0, L1, L2, L3, L4, L5}
@@ -34,8 +33,3 @@ familyBytes = 144
 -- level d's eight entries of a lent family; nothing of one that has another size
 unfoldable pub familyPart : ℕ → List ℕ → List ℕ
 familyPart d family = pick (eqb (length family) familyBytes) (stageTable d family) []
-
--- a slice of `size` bytes holds `whole` at the end; any other is refused with 5 and stays
-pub record Filled (size : ℕ) (whole out : List ℕ) (r : ℕ) (left : List ℕ) : Type 0 where
-  pub answer : r ≡ unless (eqb (length out) size) 5
-  pub bytes : left ≡ pick (eqb (length out) size) whole out

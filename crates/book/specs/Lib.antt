@@ -4,7 +4,3 @@ pub mod Book
 pub mod BookLaws
 pub mod Calls
 pub mod LevelLaws
-pub mod House
-pub mod Trie
-pub mod HouseLaws
-pub mod FillLaws

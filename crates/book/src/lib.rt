@@ -1,5 +1,3 @@
-// The book of code tables: its parts, its refusals, and the house book.
-pub mod book;
-pub mod house;
+// The book of code tables: where its tables stand, the levels of blocks, and the halves.
 pub mod svq1_blocktree;
 pub mod svq1_vlc;

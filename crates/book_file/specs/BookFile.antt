@@ -5,7 +5,7 @@ use mathlib.Core.List.{List, [], _∷_}
 use mathlib.Core.Option.{Option, none, some}
 use lib.Dec.{eqb, ltb}
 use Rattle.bits.specs.Basics.{pick, every, orElse, unless}
-use Rattle.bits.specs.Codes.{goodEntry}
+use Rattle.code_tables.specs.Codes.{goodEntry}
 use Rattle.text.specs.Text.{numberUpTo, linesOf, fieldsOf, same}
 use Rattle.book.specs.Book.{bookEntries, codeTableSizes, eachPrefixFree}
 

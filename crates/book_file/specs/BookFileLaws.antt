@@ -11,8 +11,8 @@ use lib.Seq.{drop-drop, getD-drop}
 use borrow.Author.Tests.{eqb-true, eq-eqb, ne-eqb, ltb-true, ltb-false}
 use Rattle.bits.specs.Basics.{pick, every, All, orElse, unless}
 use Rattle.bits.specs.BasicsLaws.{or-none, unless-none}
-use Rattle.bits.specs.Codes.{goodTable}
-use Rattle.bits.specs.CodesLaws.{good-at}
+use Rattle.code_tables.specs.Codes.{goodTable}
+use Rattle.code_tables.specs.CodesLaws.{good-at}
 use Rattle.text.specs.Text.{fieldsOf, linesOf}
 use Rattle.text.specs.TextLaws.{none-some}
 use Rattle.book.specs.BookLaws.{good-book}

@@ -12,7 +12,7 @@ use lib.ListN.{length, drop, getD, set, length-set, drop-of-length-le}
 use lib.Seq.{drop-cons, getD-set-same, getD-set-other}
 use borrow.Author.Tests.{eqb-true, eqb-false, leb-true}
 use Rattle.bits.specs.Basics.{pick, every}
-use Rattle.bits.specs.Codes.{goodEntry, goodTable}
+use Rattle.code_tables.specs.Codes.{goodEntry, goodTable}
 use Rattle.bits.specs.BasicsLaws.{both-true}
 use Rattle.book_file.specs.BookFile.{Line, mentions, bytesAt, bytesFrom}
 use Rattle.book_file.specs.Scan.{Held, withEntry, kept, scanLines}

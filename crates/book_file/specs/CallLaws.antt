@@ -8,7 +8,7 @@ use native.Mathlib.Omega.{arith}
 use lib.ListN.{length, getD, replicate, length-replicate}
 use borrow.Author.Tests.{eq-eqb, ne-eqb}
 use Rattle.bits.specs.Basics.{every, orElse, unless}
-use Rattle.bits.specs.Codes.{goodTable}
+use Rattle.code_tables.specs.Codes.{goodTable}
 use Rattle.text.specs.TextLaws.{none-some}
 use Rattle.book.specs.Book.{bookEntries, bookBytes, codeTableSizes, eachPrefixFree, codesRefusal, bookRefusal}
 use Rattle.book_file.specs.BookFile.{Line, mentions, onceEach, bookOf, linesRefusal, refusalRead, bookRead, fileLines, fileRefusal, fileBook}

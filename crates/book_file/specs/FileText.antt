@@ -5,7 +5,7 @@ use mathlib.Core.Bool.{true}
 use mathlib.Core.List.{List, [], _∷_, _++_}
 use lib.Dec.{ltb}
 use Rattle.bits.specs.Basics.{pick, All}
-use Rattle.bits.specs.Codes.{codeLen, codeVal}
+use Rattle.code_tables.specs.Codes.{codeLen, codeVal}
 use Rattle.text.specs.Text.{decimal, lineOf}
 use Rattle.book.specs.Book.{bookEntries}
 use Rattle.book_file.specs.BookFile.{Table, Line, fileTables, onceEach}

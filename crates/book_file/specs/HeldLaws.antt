@@ -10,7 +10,7 @@ use lib.ListN.{length, getD, set, length-set, List·getD-eq-default}
 use lib.Seq.{getD-set-same, getD-set-other}
 use borrow.Author.Tests.{eqb-true, eqb-false, eq-eqb, ltb-true, ltb-false}
 use Rattle.bits.specs.Basics.{pick, every}
-use Rattle.bits.specs.Codes.{goodEntry}
+use Rattle.code_tables.specs.Codes.{goodEntry}
 use Rattle.bits.specs.BasicsLaws.{both-true}
 use Rattle.text.specs.TextLaws.{none-some}
 use Rattle.book_file.specs.BookFile.{Line, mentions, onceEach}

@@ -7,7 +7,7 @@ use mathlib.Core.Option.{Option, none, some}
 use lib.Dec.{eqb}
 use lib.ListN.{length, getD, set}
 use Rattle.bits.specs.Basics.{pick, every, orElse, unless}
-use Rattle.bits.specs.Codes.{goodEntry}
+use Rattle.code_tables.specs.Codes.{goodEntry}
 use Rattle.book.specs.Book.{bookEntries, bookBytes}
 use Rattle.book_file.specs.BookFile.{Line, lineNumber, lineAt, entryField, fileRefusal, fileBook}
 use Rattle.book_file.specs.declared.EntryRead.{EntryRead}

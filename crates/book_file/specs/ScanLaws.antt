@@ -12,7 +12,7 @@ use lib.Seq.{drop-cons, drop-drop}
 use borrow.Author.Tests.{ltb-true}
 use Rattle.bits.specs.Basics.{pick, every, All}
 use Rattle.bits.specs.BasicsLaws.{partFrom, part-from}
-use Rattle.bits.specs.Codes.{goodEntry}
+use Rattle.code_tables.specs.Codes.{goodEntry}
 use Rattle.text.specs.Text.{comma, lineFeed, fieldsOf, linesOf, same}
 use Rattle.text.specs.Reading.{countBefore, lineBefore}
 use Rattle.text.specs.TextLaws.{none-some, number-le, count-le, some-piece, pieces-last, pieces-next, lines-none, lines-open, lines-next}

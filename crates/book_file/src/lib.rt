@@ -10,7 +10,7 @@ ghost use Rattle.text.specs.Text.{fieldsOf};
 ghost use Rattle.book.specs.Book.{bookEntries, bookBytes};
 ghost use Rattle.book_file.specs.BookFile.{fileTables, entryNamed, lineRead, fileLines};
 ghost use Rattle.book_file.specs.Scan.{Unmet, begun, FileHeld, BookFileRead, entryTold, lineTold, heldTold, codeAt, withEntry, scanned, allMet};
-use bits::inner;
+use code_tables::inner;
 use text::NumberRead;
 
 // Where a table's position stands in a book.
@@ -184,7 +184,7 @@ fn read_into(file: &[u8], book: &mut [u8], met: &mut [u8]) -> u8
     };
     if all_met(met) {
         if good {
-            return book::book::book_refusal(book);
+            return book_check::book_refusal(book);
         }
         return 6;
     }

@@ -4,7 +4,8 @@ use mathlib.Core.List.{List, [], _∷_}
 use lib.Dec.{eqb, ltb}
 use lib.ListN.{length, getD, take}
 use Rattle.bits.specs.Basics.{pick, sum}
-use Rattle.bits.specs.Calls.{Answer, done, refused, Read, codeAt}
+use Rattle.bits.specs.Calls.{Answer, done, refused, Read}
+use Rattle.code_tables.specs.Calls.{codeAt}
 
 -- the byte of a hexadecimal digit: `0` to `9`, then `a` to `f`
 abbrev pub hexDigit : ℕ → ℕ

@@ -11,7 +11,7 @@ use Rattle.macroblock.specs.Macroblock.{Given}
 use Rattle.macroblock.specs.Choice.{Task}
 use Rattle.macroblock.specs.Slices.{Slices}
 use Rattle.macroblock.specs.Inner.{givenBy}
-use Rattle.macroblock_enc.specs.Chosen.{taskBy}
+use Rattle.macroblock_choice.specs.Chosen.{taskBy}
 use Rattle.plane.specs.Calls.{PlaneAnswer, writeAnswer, writeOut, readPlaneAnswer, readSlices}
 
 -- 16×16, source 100, reference 0, radius 8, four vectors; the vector slices 0 before

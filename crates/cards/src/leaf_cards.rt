@@ -5,7 +5,7 @@ use super::line::put_number;
 use super::line::put_signed;
 use super::sums::residual_sum;
 use leaf::svq1_enc_leaf::LeafCode;
-use leaf_search::svq1_enc_leaf::search_leaf;
+use leaf_call::svq1_enc_leaf::search_leaf;
 use text::put_text;
 
 fn put_coded(line: &mut [u8], at: usize, mean: i16) -> usize {

@@ -10,8 +10,8 @@ mod vector_cards;
 mod wide_planes;
 
 ghost use Prim.Native.Nat.{_≤_};
-use book::house::fill_house_book;
-use book::house::fill_house_codebook;
+use house::fill_house_book;
+use house::fill_house_codebook;
 
 // The cards of planes, and those of parts that can be called alone; the answer is how many were printed.
 fn print_planes(line: &mut [u8], book: &[u8], codebook: &[u8]) -> usize

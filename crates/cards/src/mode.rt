@@ -1,8 +1,8 @@
 // The mode of a macroblock, read off the bits.
 ghost use mathlib.Core.Path.{_≡_};
 ghost use Rattle.cards.specs.Numbers.{modeRead};
-use bits::svq1_vlc::CodeAnswer;
-use bits::svq1_vlc::read_code;
+use code_tables::svq1_vlc::CodeAnswer;
+use code_tables::svq1_vlc::read_code;
 use text::put_text;
 
 // The position in the book's first table, that of the modes, of the code that stands at a bit; 4 where there is none.

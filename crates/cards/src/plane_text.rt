@@ -1,7 +1,7 @@
 // The lines of plane cards: what was asked of the writer, what it and the reader answered.
 use super::line::put_bytes;
 use super::line::put_number;
-use plane::svq1_enc_inter::WriteEnd;
+use plane_enc::svq1_enc_inter::WriteEnd;
 use text::put_text;
 
 // What the plane cards have in common, beside four vectors, which all of them allow; one card has another lambda.

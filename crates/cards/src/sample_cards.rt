@@ -3,10 +3,10 @@ ghost use Prim.Native.Nat.{_≤_};
 use super::line::print_line;
 use super::line::put_number;
 use book::svq1_blocktree::Svq1Level;
-use leaf::svq1_codebook::Place;
-use leaf::svq1_codebook::vector_byte_to_raster;
-use motion::inner::error::mean2;
-use motion::inner::error::mean4;
+use codebook::svq1_codebook::Place;
+use codebook::svq1_codebook::vector_byte_to_raster;
+use compensation::inner::error::mean2;
+use compensation::inner::error::mean4;
 use text::put_text;
 
 fn put_place(line: &mut [u8], at: usize, place: Place) -> usize {

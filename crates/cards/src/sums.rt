@@ -2,7 +2,7 @@
 ghost use mathlib.Core.Path.{_≡_};
 ghost use Prim.Native.Nat.{_≤_};
 ghost use lib.ListN.{length};
-ghost use Rattle.leaf.specs.Mean.{residual};
+ghost use Rattle.codebook.specs.Mean.{residual};
 ghost use Rattle.cards.specs.Numbers.{oneIf, countOf};
 use leaf_search::inner::sum_of;
 

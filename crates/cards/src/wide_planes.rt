@@ -2,8 +2,8 @@
 ghost use mathlib.Core.Bool.{true};
 ghost use Prim.Native.Nat.{_≤_};
 ghost use Rattle.macroblock.specs.Inner.{givenBy};
-ghost use Rattle.macroblock_enc.specs.Chosen.{taskBy};
-ghost use Rattle.plane.specs.Writer.{endOf};
+ghost use Rattle.macroblock_choice.specs.Chosen.{taskBy};
+ghost use Rattle.plane_enc.specs.Writer.{endOf};
 ghost use Rattle.cards.specs.Planes.{wideSlices, Wrote};
 use super::line::print_line;
 use super::plane_text::LAMBDA;
@@ -11,8 +11,8 @@ use super::plane_text::RADIUS;
 use super::plane_text::put_asked;
 use super::plane_text::put_flat;
 use super::plane_text::put_written;
-use plane::svq1_enc_inter::WriteEnd;
-use plane::svq1_enc_inter::encode_inter_plane;
+use plane_enc::svq1_enc_inter::WriteEnd;
+use plane_enc::svq1_enc_inter::encode_inter_plane;
 use vectors::svq1_plane::Svq1PlaneCanvas;
 
 const SAMPLE: u8 = 100;

@@ -9,7 +9,7 @@ use Rattle.macroblock.specs.Macroblock.{Given}
 use Rattle.macroblock.specs.Choice.{Task}
 use Rattle.macroblock.specs.Slices.{Slices}
 use Rattle.plane.specs.Calls.{PlaneAnswer, writeAnswer, readPlaneAnswer, PlaneRead}
-use Rattle.plane.specs.Stated.{PlaneStated}
+use Rattle.plane_enc.specs.Stated.{PlaneStated}
 use Rattle.room.specs.declared.Room.{Room}
 use Rattle.host.specs.declared.planes.HostAnswer.{HostAnswer}
 use Rattle.host.specs.declared.rooms.HostRoom.{HostRoom}

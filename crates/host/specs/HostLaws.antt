@@ -10,7 +10,7 @@ use Rattle.macroblock.specs.Macroblock.{Given}
 use Rattle.macroblock.specs.Choice.{Task}
 use Rattle.macroblock.specs.Slices.{Slices}
 use Rattle.plane.specs.Calls.{PlaneAnswer, PlaneRead}
-use Rattle.plane.specs.Stated.{PlaneStated}
+use Rattle.plane_enc.specs.Stated.{PlaneStated}
 use Rattle.host.specs.declared.planes.HostAnswer.{HostAnswer}
 use Rattle.host.specs.Host.{midPlane, hostAnswer, HostWritten, HostRead}
 

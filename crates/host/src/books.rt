@@ -1,11 +1,11 @@
 // Book files and the built-in tables.
 ghost use Rattle.book.specs.Book.{bookBytes, codebookBytes};
-ghost use Rattle.book.specs.Calls.{Filled};
-ghost use Rattle.book.specs.House.{houseBook, houseCodebook};
+ghost use Rattle.house.specs.Fill.{Filled};
+ghost use Rattle.house.specs.House.{houseBook, houseCodebook};
 ghost use Rattle.book_file.specs.Scan.{BookFileRead};
-use book::house::fill_house_book;
-use book::house::fill_house_codebook;
 use book_file::read_book_file;
+use house::fill_house_book;
+use house::fill_house_codebook;
 
 // Reads a book file into a lent book; 0, or the refusal with the book as it was.
 #[no_mangle]

@@ -2,7 +2,7 @@
 use Prim.Native.Nat.{ℕ, _+_, _*_}
 use lib.ListN.{take}
 use Rattle.book.specs.Book.{codebookBytes}
-use Rattle.jobs.specs.Job.{mostWidth, mostHeight}
+use Rattle.job_file.specs.Job.{mostWidth, mostHeight}
 use Rattle.jobs.specs.Listing.{Files}
 
 -- `176,144,18446744073709551615,255,1` and its line feed

@@ -16,8 +16,8 @@ use Rattle.bits.specs.BasicsLaws.{or-none}
 use Rattle.book.specs.Book.{codebookBytes}
 use Rattle.book_file.specs.BookFile.{fileRefusal}
 use Rattle.vectors.specs.Canvas.{padded16, sizeRefusal, canvasRefusal}
-use Rattle.jobs.specs.Job.{Job, mostWidth, mostHeight, jobIn}
-use Rattle.jobs.specs.JobLaws.{job-small}
+use Rattle.job_file.specs.Job.{Job, mostWidth, mostHeight, jobIn}
+use Rattle.job_file.specs.JobLaws.{job-small}
 use Rattle.jobs.specs.Listing.{Files, filesRefusal, jobText, listing}
 use Rattle.jobs.specs.Listed.{filesBy}
 use Rattle.jobs.specs.FilesLaws.{area-small, text-by}

@@ -16,14 +16,13 @@ use Rattle.book.specs.Book.{bookBytes, codebookBytes, bookRefusal, dataRefusal}
 use Rattle.book_file.specs.BookFile.{fileRefusal, fileBook}
 use Rattle.book_file.specs.BookFileLaws.{accepted}
 use Rattle.book_file.specs.Scan.{BookFileRead, readFileRefusal, readFileBook}
-use Rattle.vectors.specs.Canvas.{Canvas}
-use Rattle.vectors.specs.Canvas.{largestSide, sideOk, padded16, sizeRefusal, canvasRefusal}
+use Rattle.vectors.specs.Canvas.{Canvas, largestSide, sideOk, padded16, sizeRefusal, canvasRefusal}
 use Rattle.vectors.specs.CanvasLaws.{size-passes}
 use Rattle.macroblock.specs.Macroblock.{Given}
 use Rattle.macroblock.specs.Choice.{Task}
 use Rattle.plane.specs.Plane.{count}
 use Rattle.plane.specs.Calls.{sourceRefusal, slicesRefusal, writeRefusal}
-use Rattle.jobs.specs.Job.{Job, mostWidth, mostHeight}
+use Rattle.job_file.specs.Job.{Job, mostWidth, mostHeight}
 use Rattle.jobs.specs.Listing.{Files, givenOf, taskOf, filesRefusal, noSlices, planeText, refusedText, jobText}
 use Rattle.jobs.specs.Lines.{Put}
 use Rattle.jobs.specs.Listed.{listingRoom, mostBlocks, filesBy, filesRefusalBy, FilesChecked, Listable}

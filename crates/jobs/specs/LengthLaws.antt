@@ -10,7 +10,7 @@ use lib.Dec.{eqb, ltb, lit<, lit≤}
 use lib.ListN.{length, length-append}
 use borrow.Author.Tests.{ne-eqb, eqb-true, eqb-false, ltb-false}
 use Rattle.bits.specs.Basics.{pick, All, every, sum, orElse, unless}
-use Rattle.bits.specs.Codes.{goodEntry}
+use Rattle.code_tables.specs.Codes.{goodEntry}
 use Rattle.text.specs.Text.{numberUpTo, linesOf, fieldsOf, digitsBefore, decimal, joined, lineOf}
 use Rattle.text.specs.TextLaws.{none-some, number-le}
 use Rattle.text.specs.WritingLaws.{tenth-below}
@@ -22,9 +22,9 @@ use Rattle.book_file.specs.ScanLaws.{LineFits}
 use Rattle.book_file.specs.CallLaws.{one-line}
 use Rattle.book_file.specs.OneFileLaws.{file-text}
 use Rattle.book_file.specs.BookFileLaws.{file-fits}
-use Rattle.plane.specs.SumLaws.{sum-ext}
+use Rattle.bits.specs.SumLaws.{sum-same}
 use Rattle.jobs.specs.Cut.{longestJob, longestBook}
-use Rattle.jobs.specs.Job.{Job, mostWidth, mostHeight, jobOf, jobRead, oneLine, jobIn}
+use Rattle.job_file.specs.Job.{Job, mostWidth, mostHeight, jobOf, jobRead, oneLine, jobIn}
 
 -- ---- a number below 10^k has at most k digits
 digits-few : (g f n : ℕ) (t : List ℕ) → n < 10 ^ f → 1 ≤ f → length (digitsBefore g n t) ≤ f + length t
@@ -139,7 +139,7 @@ lines-short : (ls : List Line) → All LineFits ls → onceEach bookEntries 0 ls
 lines-short ls fit once =
     let counted = each-counted lineMost ls bookEntries (entries-below ls fit) in
     let all : sum (λ e. mentions e ls * lineMost e) bookEntries ≡ sum lineMost bookEntries =
-    sum-ext (λ e. mentions e ls * lineMost e) lineMost bookEntries (λ i h. rw (one-line ls once i h) (omega arith)) in
+    sum-same (λ e. mentions e ls * lineMost e) lineMost bookEntries (λ i h. rw (one-line ls once i h) (omega arith)) in
     omega (arith, file-long ls fit, counted, all, all-lines)
 
 -- a file that is longer is refused by 5

@@ -2,9 +2,6 @@
 pub mod Cut
 pub mod CutLaws
 pub mod FilesLaws
-pub mod Job
-pub mod JobReading
-pub mod JobLaws
 pub mod LengthLaws
 pub mod Lines
 pub mod LinesLaws

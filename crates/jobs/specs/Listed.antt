@@ -7,14 +7,13 @@ use lib.ListN.{length, take, drop, replicate}
 use Rattle.bits.specs.Basics.{pick, orElse, unless}
 use Rattle.book.specs.Book.{codebookBytes}
 use Rattle.book_file.specs.BookFile.{fileRefusal, fileBook}
-use Rattle.vectors.specs.Canvas.{Canvas}
-use Rattle.vectors.specs.Canvas.{padded16, sizeRefusal, canvasRefusal}
+use Rattle.vectors.specs.Canvas.{Canvas, padded16, sizeRefusal, canvasRefusal}
 use Rattle.vectors.specs.declared.svq1_plane.Svq1PlaneCanvas.{Svq1PlaneCanvas}
 use Rattle.macroblock.specs.Macroblock.{Given}
 use Rattle.macroblock.specs.Choice.{Task}
-use Rattle.plane.specs.declared.svq1_enc_inter.WriteEnd.{WriteEnd}
+use Rattle.plane_enc.specs.declared.svq1_enc_inter.WriteEnd.{WriteEnd}
 use Rattle.plane.specs.Calls.{writeRefusal}
-use Rattle.jobs.specs.Job.{mostWidth, mostHeight}
+use Rattle.job_file.specs.Job.{mostWidth, mostHeight}
 use Rattle.jobs.specs.Listing.{Files, outputBytes, noSlices, totalLine, refusedText, listing}
 use Rattle.jobs.specs.Lines.{linesFrom}
 

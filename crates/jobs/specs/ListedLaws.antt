@@ -23,14 +23,14 @@ use Rattle.macroblock.specs.Mode.{modePosition}
 use Rattle.macroblock.specs.Macroblock.{Given, cols, rows}
 use Rattle.macroblock.specs.Choice.{Task}
 use Rattle.macroblock.specs.Slices.{Slices}
-use Rattle.plane.specs.declared.svq1_enc_inter.WriteEnd.{WriteEnd}
+use Rattle.plane_enc.specs.declared.svq1_enc_inter.WriteEnd.{WriteEnd}
 use Rattle.plane.specs.Run.{End, after}
 use Rattle.plane.specs.RunLaws.{Stands, run-stands}
 use Rattle.plane.specs.Plane.{count, Writing, stepStated, fits, written, toWrite, writePlane, writingAt}
 use Rattle.plane.specs.Calls.{PlaneAnswer, PlaneWritten, sourceRefusal, slicesRefusal, writtenAnswer, writeRefusal, writeAnswer}
-use Rattle.plane.specs.Writer.{endOf}
-use Rattle.plane.specs.Stated.{threeOf, statedTo, statedIn, PlaneStated}
-use Rattle.jobs.specs.Job.{mostWidth, mostHeight}
+use Rattle.plane_enc.specs.Writer.{endOf}
+use Rattle.plane_enc.specs.Stated.{threeOf, statedTo, statedIn, PlaneStated}
+use Rattle.job_file.specs.Job.{mostWidth, mostHeight}
 use Rattle.jobs.specs.Listing.{outputBytes, modeName, noSlices, macroblockLine, linesTo, totalLine, refusedText, textInto, planeText}
 use Rattle.jobs.specs.Lines.{Put, nameAt, lineText, lineAt, linesFrom}
 use Rattle.jobs.specs.LinesLaws.{put-two}

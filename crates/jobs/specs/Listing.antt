@@ -17,7 +17,7 @@ use Rattle.macroblock.specs.Choice.{Task}
 use Rattle.macroblock.specs.Slices.{Slices}
 use Rattle.plane.specs.Plane.{count, Writing, stepStated, writePlane, writingAt}
 use Rattle.plane.specs.Calls.{sourceRefusal}
-use Rattle.jobs.specs.Job.{Job, jobIn}
+use Rattle.job_file.specs.Job.{Job, jobIn}
 
 -- the five files; one that cannot be opened reads as empty
 pub record Files : Type 0 where

@@ -18,8 +18,8 @@ use Rattle.macroblock.specs.Macroblock.{Given}
 use Rattle.macroblock.specs.Choice.{Task}
 use Rattle.plane.specs.Run.{End}
 use Rattle.plane.specs.Plane.{count, Writing, stepStated, writePlane}
-use Rattle.jobs.specs.Job.{Job, mostWidth, mostHeight, jobIn}
-use Rattle.jobs.specs.JobLaws.{job-small}
+use Rattle.job_file.specs.Job.{Job, mostWidth, mostHeight, jobIn}
+use Rattle.job_file.specs.JobLaws.{job-small}
 use Rattle.jobs.specs.Listing.{Files, givenOf, taskOf, filesRefusal, noSlices, modeName, stateAt, macroblockLine, linesTo, totalLine, refusedText, textInto, planeText, jobText, listing}
 use Rattle.jobs.specs.Lines.{Put}
 use Rattle.jobs.specs.LinesLaws.{decimal-most}

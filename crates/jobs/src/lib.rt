@@ -1,4 +1,3 @@
-// The listing program's work: its job line and the text that it prints.
-pub mod job;
+// The listing program's work: the text that it prints.
 mod lines;
 pub mod listing;

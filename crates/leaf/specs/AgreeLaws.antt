@@ -16,13 +16,14 @@ use Rattle.book.specs.Book.{codebookBytes}
 use Rattle.book.specs.Level.{area}
 use Rattle.book.specs.declared.svq1_vlc.Svq1Half.{Svq1Half}
 use Rattle.book.specs.declared.svq1_vlc.Svq1Half.the-variants.{Intra, Inter}
-use Rattle.leaf.specs.Codebook.{pageOffset, vectorAt}
-use Rattle.leaf.specs.Mean.{residual, meanOf}
+use Rattle.codebook.specs.Codebook.{pageOffset, vectorAt}
+use Rattle.codebook.specs.Mean.{residual, meanOf}
 use Rattle.leaf.specs.Leaf.{skip, coded, Vectors, sse, plus, seeded, staged, samples, leafShown, argmin, stageError, bestVector, stages, codedLeaf, leafRule, capAt}
 use Rattle.leaf.specs.LeafLaws.{Small, argmin-le, stages-few, stages-small}
-use Rattle.leaf.specs.Raised.{vectorsIn, raisedCodebook}
-use Rattle.leaf.specs.RasterLaws.{vectors-raised}
-use Rattle.leaf.specs.Inner.{Chosen, LeafFound, pageStart}
+use Rattle.leaf.specs.Raised.{vectorsIn}
+use Rattle.codebook.specs.Raised.{raisedCodebook, pageStart}
+use Rattle.leaf.specs.PagesLaws.{vectors-raised}
+use Rattle.leaf.specs.Inner.{Chosen, LeafFound}
 use Rattle.leaf.specs.declared.svq1_enc_leaf.LeafCode.{LeafCode}
 
 -- the same sixteen vectors in each of the first n stages

@@ -3,12 +3,10 @@ use mathlib.Core.Path.{_≡_}
 use mathlib.Core.Bool.{Bool}
 use mathlib.Core.List.{List}
 use Prim.Native.Nat.{ℕ, _+_, _*_, _≤_}
-use lib.Dec.{ltb}
 use lib.ListN.{length}
-use Rattle.bits.specs.Basics.{pick}
 use Rattle.book.specs.declared.svq1_vlc.Svq1Half.{Svq1Half}
 use Rattle.leaf.specs.declared.svq1_enc_leaf.LeafCode.{LeafCode}
-use Rattle.leaf.specs.Codebook.{pageOffset, vectorAt}
+use Rattle.codebook.specs.Codebook.{vectorAt}
 use Rattle.leaf.specs.Leaf.{Leaf, Vectors, sse, leafShown, codedLeaf, leafRule, capAt}
 use Rattle.leaf.specs.Raised.{vectorsIn, leafOf}
 
@@ -38,11 +36,6 @@ abbrev pub Chosen : Svq1Half → List ℕ → List ℕ → List ℕ → ℕ → 
 Chosen h t p book base cap allowSkip code stages error out =
     let vs = vectorsIn book base (length t) in
     Leafed vs t p (leafRule h vs cap allowSkip t p) code stages error out
-
--- ---- the same by level
--- where the search of a level's leaves looks for vectors in the raised codebook; L4 and L5 have none
-abbrev pub pageStart : Svq1Half → ℕ → ℕ
-pageStart h d = pick (ltb d 4) (pageOffset h d) 0
 
 -- the leaf that the rules choose at level d by the codebook as it is lent
 abbrev pub LeafFound : List ℕ → Svq1Half → ℕ → ℕ → Bool → List ℕ → List ℕ → LeafCode → List ℕ → ℕ → List ℕ → Type 0

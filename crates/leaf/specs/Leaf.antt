@@ -7,7 +7,7 @@ use lib.ListN.{length}
 use lib.IntN.{ℤ, pos, _+ℤ_}
 use Rattle.bits.specs.Basics.{pick, gap}
 use Rattle.book.specs.declared.svq1_vlc.Svq1Half.{Svq1Half}
-use Rattle.leaf.specs.Mean.{residual, meanOf, saturate}
+use Rattle.codebook.specs.Mean.{residual, meanOf, saturate}
 
 -- skip, or a mean and the indices of its stages' vectors
 pub data Leaf : Type 0 where

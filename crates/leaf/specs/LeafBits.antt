@@ -6,11 +6,11 @@ use lib.Dec.{ltb}
 use lib.ListN.{length}
 use Rattle.bits.specs.Basics.{pick}
 use Rattle.bits.specs.Bits.{msb}
-use Rattle.bits.specs.Codes.{code, Got, got, bad, then, takeCode, takeBits}
+use Rattle.code_tables.specs.Codes.{code, Got, got, bad, then, takeCode, takeBits}
 use Rattle.book.specs.Book.{Tables}
 use Rattle.book.specs.declared.svq1_vlc.Svq1Half.{Svq1Half}
 use Rattle.book.specs.declared.svq1_vlc.Svq1Half.the-variants.{Intra, Inter}
-use Rattle.leaf.specs.Mean.{meanPosition, meanAt}
+use Rattle.codebook.specs.Mean.{meanPosition, meanAt}
 use Rattle.leaf.specs.Leaf.{Leaf, skip, coded}
 
 -- four bits a stage

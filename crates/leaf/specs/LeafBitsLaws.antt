@@ -12,12 +12,12 @@ use lib.IntN.{ℤ}
 use lib.ListN.{length, getD, length-append}
 use Rattle.bits.specs.Bits.{msb}
 use Rattle.bits.specs.BitsLaws.{length-msb}
-use Rattle.bits.specs.Codes.{code, got, bad}
-use Rattle.bits.specs.CodeReadLaws.{take-code, take-bits}
+use Rattle.code_tables.specs.Codes.{code, got, bad}
+use Rattle.code_tables.specs.CodeReadLaws.{take-code, take-bits}
 use Rattle.book.specs.Book.{Tables}
 use Rattle.book.specs.BookLaws.{means, GoodTables}
 use Rattle.book.specs.declared.svq1_vlc.Svq1Half.the-variants.{Intra, Inter}
-use Rattle.leaf.specs.Mean.{meanPosition, meanAt}
+use Rattle.codebook.specs.Mean.{meanPosition, meanAt}
 use Rattle.leaf.specs.Leaf.{Leaf, skip, coded}
 use Rattle.leaf.specs.LeafBits.{stageBits, leafBits, readStages, readRest, readLeaf}
 

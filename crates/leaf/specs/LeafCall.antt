@@ -10,7 +10,7 @@ use Rattle.book.specs.Book.{tablesOf, dataRefusal}
 use Rattle.book.specs.Level.{area}
 use Rattle.book.specs.declared.svq1_vlc.Svq1Half.{Svq1Half}
 use Rattle.book.specs.declared.svq1_vlc.Svq1Half.the-variants.{Intra, Inter}
-use Rattle.leaf.specs.Codebook.{vectorAt}
+use Rattle.codebook.specs.Codebook.{vectorAt}
 use Rattle.leaf.specs.Leaf.{Leaf, sse, leafShown, leafRule, capAt}
 use Rattle.leaf.specs.LeafBits.{leafBits}
 

@@ -17,8 +17,8 @@ use Rattle.book.specs.BookLaws.{means}
 use Rattle.book.specs.Level.{area}
 use Rattle.book.specs.declared.svq1_vlc.Svq1Half.{Svq1Half}
 use Rattle.book.specs.declared.svq1_vlc.Svq1Half.the-variants.{Intra, Inter}
-use Rattle.leaf.specs.Codebook.{vectorAt}
-use Rattle.leaf.specs.Mean.{residual, rounded, clampMean, meanOf, meanPosition, meanAt, saturate}
+use Rattle.codebook.specs.Codebook.{vectorAt}
+use Rattle.codebook.specs.Mean.{residual, rounded, clampMean, meanOf, meanPosition, meanAt, saturate}
 use Rattle.leaf.specs.Leaf.{Leaf, skip, coded, Vectors, sse, plus, seeded, staged, samples, leafShown, argmin, stageError, bestVector, stages, codedLeaf, leafRule, capAt}
 use Rattle.leaf.specs.LeafBitsLaws.{Allowed}
 

@@ -8,12 +8,12 @@ use lib.ListN.{length, take, drop, replicate}
 use lib.IntN.{ℤ}
 use Rattle.bits.specs.Basics.{pick}
 use Rattle.bits.specs.Bits.{valOf}
-use Rattle.bits.specs.Codes.{codesOf, goodTable, Got, got, bad, then, takeCode}
+use Rattle.code_tables.specs.Codes.{codesOf, goodTable, Got, got, bad, then, takeCode}
 use Rattle.bits.specs.Inner.{Fits}
 use Rattle.book.specs.Book.{Tables, tablesOf}
 use Rattle.book.specs.BookLaws.{means}
 use Rattle.book.specs.declared.svq1_vlc.Svq1Half.{Svq1Half}
-use Rattle.leaf.specs.Mean.{meanPosition, meanAt}
+use Rattle.codebook.specs.Mean.{meanPosition, meanAt}
 use Rattle.leaf.specs.Leaf.{Leaf, skip, coded}
 use Rattle.leaf.specs.LeafBits.{leafBits, readStages, readRest}
 use Rattle.leaf.specs.Raised.{leafOf}

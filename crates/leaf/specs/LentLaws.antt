@@ -11,14 +11,15 @@ use lib.ListN.{length, take, getD, length-take}
 use lib.Seq.{take-suc}
 use Rattle.bits.specs.Bits.{msb}
 use Rattle.bits.specs.ReadLaws.{take-min}
-use Rattle.bits.specs.Codes.{code, codesOf, codeLen, goodTable}
-use Rattle.bits.specs.CodesLaws.{code-length, good-is}
-use Rattle.bits.specs.Inner.{Fits, GoodEntry, Wrote}
+use Rattle.code_tables.specs.Codes.{code, codesOf, codeLen, goodTable}
+use Rattle.code_tables.specs.CodesLaws.{code-length, good-is}
+use Rattle.bits.specs.Inner.{Fits, Wrote}
+use Rattle.code_tables.specs.Inner.{GoodEntry}
 use Rattle.bits.specs.InnerLaws.{wrote-none, wrote-more, wrote-size}
 use Rattle.book.specs.Book.{Tables, tablesOf, stageTable, stageFamily, meanTable, bookRefusal}
 use Rattle.book.specs.BookLaws.{means, good-book}
 use Rattle.book.specs.declared.svq1_vlc.Svq1Half.{Svq1Half}
-use Rattle.leaf.specs.Mean.{meanPosition}
+use Rattle.codebook.specs.Mean.{meanPosition}
 use Rattle.leaf.specs.Leaf.{Leaf, skip, coded}
 use Rattle.leaf.specs.LeafBits.{stageBits, leafBits}
 use Rattle.leaf.specs.LeafBitsLaws.{Allowed, length-leaf}

@@ -17,17 +17,17 @@ use mir.Val.{SFits}
 use Rattle.bits.specs.Bits.{valOf, bitsOf}
 use Rattle.bits.specs.BitsLaws.{length-bitsOf}
 use Rattle.bits.specs.Inner.{Fits}
-use Rattle.bits.specs.Codes.{begins, firstCode, anyStart, readCode, Got, got, bad, then, takeCode, takeBits, codesOf}
-use Rattle.bits.specs.CodesLaws.{begins-true, length-codesOf}
-use Rattle.bits.specs.CodeReadLaws.{code-at-bit, bits-at-bit, bits-short}
-use Rattle.bits.specs.declared.svq1_vlc.CodeRead.{CodeRead}
-use Rattle.bits.specs.declared.svq1_vlc.CodeRead.the-variants.{Code, NoCode, Ends}
+use Rattle.code_tables.specs.Codes.{begins, firstCode, anyStart, readCode, Got, got, bad, then, takeCode, takeBits, codesOf}
+use Rattle.code_tables.specs.CodesLaws.{begins-true, length-codesOf}
+use Rattle.code_tables.specs.CodeReadLaws.{code-at-bit, bits-at-bit, bits-short}
+use Rattle.code_tables.specs.declared.svq1_vlc.CodeRead.{CodeRead}
+use Rattle.code_tables.specs.declared.svq1_vlc.CodeRead.the-variants.{Code, NoCode, Ends}
 use Rattle.book.specs.Book.{Tables, tablesOf, stageTable, stageFamily, meanTable}
 use Rattle.book.specs.declared.svq1_vlc.Svq1Half.{Svq1Half}
 use Rattle.book.specs.declared.svq1_vlc.Svq1Half.the-variants.{Intra, Inter}
 use Rattle.book.specs.BookLaws.{means}
 use Rattle.leaf.specs.SignedLaws.{sub-sfits}
-use Rattle.leaf.specs.Mean.{meanAt}
+use Rattle.codebook.specs.Mean.{meanAt}
 use Rattle.leaf.specs.Leaf.{skip}
 use Rattle.leaf.specs.LeafBits.{readStages, readSkip, readRest, readLeaf}
 use Rattle.leaf.specs.Lent.{lentTables, padded, refusedLeaf, LeafRead, nibbles, readIndices, readMean, lentRest}

@@ -1,23 +1,14 @@
 -- The definitions that the contracts of this crate cite; the laws that callers cite stand in the files named `..Laws`.
-pub mod Codebook
-pub mod CodebookLaws
-pub mod Mean
-pub mod MeanLaws
 pub mod Leaf
 pub mod LeafBits
 pub mod LeafBitsLaws
 pub mod LeafLaws
 pub mod LeafCall
 pub mod Raised
-pub mod RaisedLaws
-pub mod RasterLaws
+pub mod PagesLaws
 pub mod SignedLaws
 pub mod Inner
-pub mod CodebookCalls
-pub mod CodebookCallsLaws
 pub mod AgreeLaws
 pub mod Lent
 pub mod LentLaws
 pub mod LentReadLaws
-pub mod Show
-pub mod ShowLaws

@@ -1,13 +1,10 @@
 -- The unsigned numbers that the leaf search computes with, and the signed ones that they stand for: each is kept plus a bias.
 use mathlib.Core.Path.{_≡_}
 use mathlib.Core.List.{List, [], _∷_, map}
-use Prim.Native.Nat.{ℕ, _+_, _*_, _/_, _%_, _≤_}
-use lib.Dec.{ltb}
+use Prim.Native.Nat.{ℕ, _+_, _*_, _≤_}
 use lib.IntN.{ℤ, subℕ}
 use lib.ListN.{length, getD, take, drop}
-use Rattle.bits.specs.Basics.{pick, gap, valuesFrom}
-use Rattle.book.specs.Book.{codebookBytes}
-use Rattle.leaf.specs.Codebook.{byteOf}
+use Rattle.bits.specs.Basics.{gap}
 use Rattle.leaf.specs.Leaf.{Leaf, skip, coded, Vectors, sse, plus, samples, stages, staged}
 use Rattle.leaf.specs.declared.svq1_enc_leaf.LeafCode.{LeafCode}
 use Rattle.leaf.specs.declared.svq1_enc_leaf.LeafCode.the-variants.{Skip, Coded}
@@ -15,14 +12,6 @@ use Rattle.leaf.specs.declared.svq1_enc_leaf.LeafCode.the-variants.{Skip
 -- the signed numbers that unsigned ones stand for
 unfoldable pub less : ℕ → List ℕ → List ℤ
 less b = map (λ a. subℕ a b)
-
--- ---- the codebook in raster order, each byte plus 128
--- where entry i of the copy comes from: pages of L3 hold vectors of 64 bytes, those of L2 of 32, and L1 and L0 are in raster order already
-unfoldable pub originOf : ℕ → ℕ
-originOf i = pick (ltb i 12288) (i / 64 * 64 + byteOf 3 (i % 64)) (pick (ltb i 18432) (i / 32 * 32 + byteOf 2 (i % 32)) i)
-
-unfoldable pub raisedCodebook : List ℕ → List ℕ
-raisedCodebook codebook = valuesFrom (λ i. (getD codebook (originOf i) 0 + 128) % 256) codebookBytes 0
 
 -- vector j of n samples from `base` on in the copy
 unfoldable pub vector : List ℕ → ℕ → ℕ → ℕ → List ℤ

@@ -11,7 +11,7 @@ use borrow.Author.Tests.{le-leb, lt-leb}
 use Rattle.book.specs.declared.svq1_vlc.Svq1Half.{Svq1Half}
 use Rattle.leaf.specs.declared.svq1_enc_leaf.LeafCode.{LeafCode}
 use Rattle.leaf.specs.declared.svq1_enc_leaf.LeafCode.the-variants.{Skip, Coded}
-use Rattle.leaf.specs.Mean.{residual, meanOf}
+use Rattle.codebook.specs.Mean.{residual, meanOf}
 use Rattle.leaf.specs.Leaf.{coded, sse, seeded, staged, samples, leafShown, stages, codedLeaf, leafRule}
 use Rattle.leaf.specs.Raised.{less, vectorsIn, Searched}
 use Rattle.leaf.specs.Inner.{Coding, Chosen}

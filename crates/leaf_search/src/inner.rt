@@ -5,26 +5,26 @@ ghost use Prim.Native.Nat.{_+_, _-_, _*_, _%_, _<_, _≤_};
 ghost use lib.ListN.{length};
 ghost use lib.IntN.{subℕ};
 ghost use Rattle.book.specs.Level.{levelNumber};
-ghost use Rattle.leaf.specs.Mean.{residual, meanOf, saturate};
+ghost use Rattle.codebook.specs.Mean.{residual, meanOf, saturate};
 ghost use Rattle.leaf.specs.Leaf.{coded, sse, plus, samples, argmin, capAt};
 ghost use Rattle.leaf.specs.Raised.{less, sqd, vectorError, Below, Stage, total, Searched};
 ghost use Rattle.leaf.specs.Inner.{Ready, Coding, Chosen};
-ghost use Rattle.leaf_search.specs.LeafAnswer.{LevelReady, LevelChosen};
+ghost use Rattle.leaf_search.specs.LevelLeaf.{LevelReady, LevelChosen};
 use super::svq1_enc_leaf::LeafChoice;
 use book::svq1_blocktree::Svq1Level;
 use book::svq1_vlc::Svq1Half;
-use leaf::inner::raster::page_start;
+use codebook::inner::page_start;
 use leaf::inner::reading::signed_mean;
-use leaf::inner::samples::add_stage;
-use leaf::inner::samples::bias_of;
-use leaf::inner::samples::copy;
-use leaf::inner::samples::distance;
-use leaf::inner::samples::distance_of;
-use leaf::inner::samples::seed;
-use leaf::inner::samples::show;
-use leaf::inner::samples::shown;
-use leaf::inner::samples::wide;
 use leaf::svq1_enc_leaf::LeafCode;
+use leaf_samples::inner::add_stage;
+use leaf_samples::inner::bias_of;
+use leaf_samples::inner::copy;
+use leaf_samples::inner::distance;
+use leaf_samples::inner::distance_of;
+use leaf_samples::inner::seed;
+use leaf_samples::inner::show;
+use leaf_samples::inner::shown;
+use leaf_samples::inner::wide;
 
 // The squared error of one sum against the sample `t`.
 fn error_at(t: u8, a: u16, bias: u16) -> u16

@@ -48,7 +48,7 @@ fn put_line(file: &mut [u8], at: usize, name: &[u8], position: u64, long: u64, c
 fn put_table(file: &mut [u8], at: usize, name: &[u8], from: usize, size: usize) -> usize
     requires { ⌜ from + size ≤ 932 ⌝ }
 {
-    let book = book::house::house_book();
+    let book = house::house_book();
     let mut next = at;
     let mut p = 0;
     while p < size {
@@ -250,7 +250,7 @@ fn book_cases(file: &mut [u8], n: usize, codebook: &[u8], source: &[u8], referen
 
 fn put_codebook(codebook: &mut [u8]) {
     let mut house = [0u8; 23040];
-    book::house::fill_house_codebook(&mut house);
+    house::fill_house_codebook(&mut house);
     text::put_text(codebook, 0, &house);
 }
 

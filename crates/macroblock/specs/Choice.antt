@@ -9,11 +9,11 @@ use Rattle.bits.specs.Basics.{pick, valuesFrom}
 use Rattle.book.specs.Book.{tablesOf}
 use Rattle.book.specs.declared.svq1_vlc.Svq1Half.{Svq1Half}
 use Rattle.book.specs.declared.svq1_vlc.Svq1Half.the-variants.{Intra, Inter}
-use Rattle.leaf.specs.Codebook.{vectorAt, stagesPerPage}
+use Rattle.codebook.specs.Codebook.{vectorAt, stagesPerPage}
 use Rattle.leaf.specs.Leaf.{sse}
 use Rattle.vectors.specs.declared.svq1_motion_predictor.Svq1Mv.{Svq1Mv}
-use Rattle.vectors.specs.Neighbours.{Near, forOne, forFirst, forSecond, forThird, forFourth}
-use Rattle.vectors.specs.Grid.{part}
+use Rattle.mv_cache.specs.Neighbours.{Near, forOne, forFirst, forSecond, forThird, forFourth}
+use Rattle.mv_cache.specs.Grid.{part}
 use Rattle.motion.specs.Search.{Search, searched}
 use Rattle.tree.specs.Blocks.{gather}
 use Rattle.tree.specs.Plan.{Weight, Planning, cost}

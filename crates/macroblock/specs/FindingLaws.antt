@@ -12,16 +12,16 @@ use lib.ListN.{length, drop, replicate}
 use borrow.Author.Tests.{eq-eqb, ne-eqb}
 use Rattle.bits.specs.Basics.{pick, All}
 use Rattle.bits.specs.Bits.{bitsOf}
-use Rattle.bits.specs.Codes.{codesOf, readCode, Got, got, bad, then, takeCode}
-use Rattle.bits.specs.CodeReadLaws.{code-at-bit}
+use Rattle.code_tables.specs.Codes.{codesOf, readCode, Got, got, bad, then, takeCode}
+use Rattle.code_tables.specs.CodeReadLaws.{code-at-bit}
 use Rattle.bits.specs.Inner.{Fits}
-use Rattle.bits.specs.declared.svq1_vlc.CodeRead.the-variants as code
+use Rattle.code_tables.specs.declared.svq1_vlc.CodeRead.the-variants as code
 use Rattle.book.specs.Book.{vectorTable, tablesOf, bookRefusal}
 use Rattle.book.specs.declared.svq1_vlc.Svq1Half.{Svq1Half}
 use Rattle.leaf.specs.LentReadLaws.{read-on}
 use Rattle.vectors.specs.declared.svq1_motion_predictor.Svq1Mv.{Svq1Mv}
 use Rattle.vectors.specs.Vectors.{zeroMv, clipped, finalMv, differenceAt}
-use Rattle.vectors.specs.Neighbours.{Near, forOne, forFirst, forSecond, forThird, forFourth}
+use Rattle.mv_cache.specs.Neighbours.{Near, forOne, forFirst, forSecond, forThird, forFourth}
 use Rattle.vectors.specs.VectorsLaws.{InRange, pos-in, neg-in, Inside, zero-inside}
 use Rattle.tree.specs.declared.walk.ReadTree.{ReadTree}
 use Rattle.tree.specs.Nodes.{treeOf}

@@ -4,7 +4,7 @@ use mathlib.Core.Path.{_≡_}
 use Prim.Native.Nat.{ℕ, _*_, _≤_}
 use lib.ListN.{length}
 use Rattle.book.specs.Book.{dataRefusal}
-use Rattle.leaf.specs.Raised.{raisedCodebook}
+use Rattle.codebook.specs.Raised.{raisedCodebook}
 use Rattle.vectors.specs.Canvas.{sizeRefusal, canvasRefusal}
 use Rattle.macroblock.specs.Macroblock.{Given, cols, rows}
 use Rattle.macroblock.specs.Slices.{Slices}

@@ -9,9 +9,9 @@ use lib.ListN.{length}
 use Rattle.bits.specs.BasicsLaws.{or-next}
 use Rattle.book.specs.Book.{bookRefusal}
 use Rattle.book.specs.BookLaws.{data-passes}
-use Rattle.vectors.specs.Cache as cache
-use Rattle.vectors.specs.Grid.{owner}
-use Rattle.vectors.specs.GridLaws.{in-owner}
+use Rattle.mv_cache.specs.Cache as cache
+use Rattle.mv_cache.specs.Grid.{owner}
+use Rattle.mv_cache.specs.GridLaws.{in-owner}
 use Rattle.vectors.specs.Canvas.{sizeRefusal}
 use Rattle.vectors.specs.CanvasLaws.{Fitting, plane-passes}
 use Rattle.macroblock.specs.Macroblock.{Given, cols, rows}

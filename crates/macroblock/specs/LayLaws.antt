@@ -10,15 +10,14 @@ use borrow.Author.Tests.{eq-eqb, ne-eqb}
 use Rattle.bits.specs.Basics.{All, Bytes}
 use Rattle.bits.specs.BasicsLaws.{length-values}
 use Rattle.bits.specs.Bits.{bitsOf}
-use Rattle.bits.specs.Codes.{Got, got, bad}
+use Rattle.code_tables.specs.Codes.{Got, got, bad}
 use Rattle.book.specs.Book.{codebookBytes}
-use Rattle.leaf.specs.Raised.{raisedCodebook}
+use Rattle.codebook.specs.Raised.{raisedCodebook}
 use Rattle.vectors.specs.declared.svq1_motion_predictor.Svq1Mv.{Svq1Mv}
-use Rattle.vectors.specs.Cache as cache
-use Rattle.vectors.specs.Canvas.{Canvas}
-use Rattle.vectors.specs.Grid.{part}
-use Rattle.vectors.specs.Canvas.{blocksAlong}
-use Rattle.vectors.specs.Neighbours.{nearOf}
+use Rattle.mv_cache.specs.Cache as cache
+use Rattle.vectors.specs.Canvas.{Canvas, blocksAlong}
+use Rattle.mv_cache.specs.Grid.{part}
+use Rattle.mv_cache.specs.Neighbours.{nearOf}
 use Rattle.vectors.specs.VectorsLaws.{Inside}
 use Rattle.tree.specs.Nodes.{treeOf}
 use Rattle.tree.specs.TreeBits.{Node}

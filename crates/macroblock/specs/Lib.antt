@@ -15,3 +15,5 @@ pub mod FindingLaws
 pub mod MacroblockReadLaws
 pub mod LayLaws
 pub mod MacroblockLaws
+pub mod Coding
+pub mod CodingLaws

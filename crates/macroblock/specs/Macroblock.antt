@@ -4,18 +4,17 @@ use mathlib.Core.List.{List, [], _∷_, _++_}
 use lib.ListN.{replicate, getD}
 use lib.IntN.{_-ℤ_}
 use Rattle.bits.specs.Basics.{valuesFrom}
-use Rattle.bits.specs.Codes.{codesOf, code}
+use Rattle.code_tables.specs.Codes.{codesOf, code}
 use Rattle.book.specs.Book.{tablesOf, modeTable, vectorTable}
 use Rattle.book.specs.declared.svq1_vlc.Svq1Half.{Svq1Half}
 use Rattle.book.specs.declared.svq1_vlc.Svq1Half.the-variants.{Intra, Inter}
-use Rattle.leaf.specs.Codebook.{vectorAt}
+use Rattle.codebook.specs.Codebook.{vectorAt}
 use Rattle.vectors.specs.declared.svq1_motion_predictor.Svq1Mv.{Svq1Mv}
 use Rattle.vectors.specs.Vectors.{zeroMv, placeOf}
-use Rattle.vectors.specs.Neighbours.{Near, forOne, forFirst, forSecond, forThird, forFourth}
-use Rattle.vectors.specs.Canvas.{Canvas}
-use Rattle.motion.specs.Compensation.{movedSample, movedBlock}
-use Rattle.vectors.specs.Grid.{part}
-use Rattle.vectors.specs.Canvas.{blocksAlong}
+use Rattle.mv_cache.specs.Neighbours.{Near, forOne, forFirst, forSecond, forThird, forFourth}
+use Rattle.vectors.specs.Canvas.{Canvas, blocksAlong}
+use Rattle.compensation.specs.Compensation.{movedSample, movedBlock}
+use Rattle.mv_cache.specs.Grid.{part}
 use Rattle.tree.specs.TreeBits.{Node, treeBits, treeShown}
 use Rattle.macroblock.specs.Mode.{modePosition}
 use Rattle.macroblock.specs.declared.svq1_enc_inter.Svq1MbMode.{Svq1MbMode}

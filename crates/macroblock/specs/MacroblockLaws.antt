@@ -13,22 +13,22 @@ use lib.IntN.{_-ℤ_}
 use lib.ListN.{length, replicate, length-append, length-replicate}
 use Rattle.bits.specs.Basics.{pick, All, Bytes}
 use Rattle.bits.specs.BasicsLaws.{both-true, length-values}
-use Rattle.bits.specs.Codes.{code, got}
-use Rattle.bits.specs.CodeReadLaws.{take-code}
+use Rattle.code_tables.specs.Codes.{code, got}
+use Rattle.code_tables.specs.CodeReadLaws.{take-code}
 use Rattle.book.specs.Book.{tablesOf, modeTable, vectorTable, bookRefusal}
-use Rattle.bits.specs.CodesLaws.{code-most}
+use Rattle.code_tables.specs.CodesLaws.{code-most}
 use Rattle.book.specs.BookLaws.{GoodBook, good-book, good-tables}
 use Rattle.book.specs.declared.svq1_vlc.Svq1Half.{Svq1Half}
 use Rattle.book.specs.declared.svq1_vlc.Svq1Half.the-variants.{Intra, Inter}
-use Rattle.leaf.specs.Codebook.{vectorAt}
+use Rattle.codebook.specs.Codebook.{vectorAt}
 use Rattle.leaf.specs.Leaf.{sse}
 use Rattle.leaf.specs.LeafLaws.{vectors-sized}
 use Rattle.vectors.specs.declared.svq1_motion_predictor.Svq1Mv.{Svq1Mv}
 use Rattle.vectors.specs.Vectors.{placeOf}
 use Rattle.vectors.specs.VectorsLaws.{Codable, Inside, place-lt, final-back, codable-inside, zero-inside}
-use Rattle.vectors.specs.Neighbours.{Near, forOne, forFirst, forSecond, forThird, forFourth}
-use Rattle.vectors.specs.Grid.{part}
-use Rattle.motion.specs.CompensationLaws.{bytes-list, moved-byte, bytes-moved, length-moved}
+use Rattle.mv_cache.specs.Neighbours.{Near, forOne, forFirst, forSecond, forThird, forFourth}
+use Rattle.mv_cache.specs.Grid.{part}
+use Rattle.compensation.specs.CompensationLaws.{bytes-list, moved-byte, bytes-moved, length-moved}
 use Rattle.motion.specs.Search.{searched}
 use Rattle.motion.specs.SearchLaws.{found}
 use Rattle.tree.specs.RowsLaws.{sse-most}

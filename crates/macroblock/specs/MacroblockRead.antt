@@ -10,11 +10,10 @@ use Rattle.bits.specs.Bits.{bitsOf}
 use Rattle.bits.specs.Inner.{Fits}
 use Rattle.book.specs.Book.{codebookBytes}
 use Rattle.book.specs.declared.svq1_vlc.Svq1Half.{Svq1Half}
-use Rattle.leaf.specs.Raised.{raisedCodebook}
+use Rattle.codebook.specs.Raised.{raisedCodebook}
 use Rattle.vectors.specs.declared.svq1_motion_predictor.Svq1Mv.{Svq1Mv}
-use Rattle.vectors.specs.Cache as cache
-use Rattle.vectors.specs.Canvas.{Canvas}
-use Rattle.vectors.specs.Canvas.{blocksAlong, padded16}
+use Rattle.mv_cache.specs.Cache as cache
+use Rattle.vectors.specs.Canvas.{Canvas, blocksAlong, padded16}
 use Rattle.vectors.specs.VectorsLaws.{Inside}
 use Rattle.tree.specs.TreeBits.{Node}
 use Rattle.tree.specs.Walk.{SoundTree}

@@ -7,12 +7,12 @@ use Prim.Native.Nat.{ℕ, zero, suc, _*_, _≤_, _<_}
 use native.Mathlib.Omega.{arith}
 use lib.ListN.{length, drop, replicate}
 use Rattle.bits.specs.Bits.{bitsOf}
-use Rattle.bits.specs.Codes.{codesOf, Got, got, bad, then, takeCode}
+use Rattle.code_tables.specs.Codes.{codesOf, Got, got, bad, then, takeCode}
 use Rattle.book.specs.Book.{modeTable, tablesOf}
 use Rattle.book.specs.declared.svq1_vlc.Svq1Half.{Svq1Half}
 use Rattle.vectors.specs.declared.svq1_motion_predictor.Svq1Mv.{Svq1Mv}
 use Rattle.vectors.specs.Vectors.{zeroMv}
-use Rattle.vectors.specs.Neighbours.{Near, forOne, forFirst, forSecond, forThird, forFourth}
+use Rattle.mv_cache.specs.Neighbours.{Near, forOne, forFirst, forSecond, forThird, forFourth}
 use Rattle.tree.specs.declared.svq1_enc_tree.Block.{Block}
 use Rattle.tree.specs.declared.walk.ReadTree.{ReadTree}
 use Rattle.tree.specs.Nodes.{treeOf}

@@ -1,11 +1,11 @@
 -- One macroblock, read from the front of a bit list (document 01, "Reading", refusals 10, 11, 24).
 use Prim.Native.Nat.{ℕ, zero, suc}
 use mathlib.Core.List.{List}
-use Rattle.bits.specs.Codes.{Got, got, then, takeCode}
+use Rattle.code_tables.specs.Codes.{Got, got, then, takeCode}
 use Rattle.book.specs.Book.{tablesOf}
 use Rattle.vectors.specs.declared.svq1_motion_predictor.Svq1Mv.{Svq1Mv}
 use Rattle.vectors.specs.Vectors.{finalMv, differenceAt}
-use Rattle.vectors.specs.Neighbours.{Near, forOne, forFirst, forSecond, forThird, forFourth}
+use Rattle.mv_cache.specs.Neighbours.{Near, forOne, forFirst, forSecond, forThird, forFourth}
 use Rattle.tree.specs.TreeBits.{readTree}
 use Rattle.macroblock.specs.Macroblock.{Given, Motion, still, single, four, Choice, skipped, coded, halfOf, modeCodes, vectorCodes}
 

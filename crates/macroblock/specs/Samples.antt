@@ -6,15 +6,14 @@ use lib.ListN.{getD}
 use Rattle.bits.specs.Basics.{Bytes, valuesFrom, signedByte}
 use Rattle.book.specs.Book.{codebookBytes}
 use Rattle.book.specs.declared.svq1_vlc.Svq1Half.{Svq1Half}
-use Rattle.leaf.specs.Raised.{raisedCodebook}
+use Rattle.codebook.specs.Raised.{raisedCodebook}
 use Rattle.vectors.specs.declared.svq1_motion_predictor.Svq1Mv.{Svq1Mv}
 use Rattle.vectors.specs.Vectors.{zeroMv}
-use Rattle.vectors.specs.Canvas.{Canvas}
-use Rattle.motion.specs.Compensation.{movedSample}
-use Rattle.vectors.specs.Grid.{putPart}
-use Rattle.vectors.specs.GridLaws.{Holds}
-use Rattle.motion.specs.Moved.{Placed}
-use Rattle.vectors.specs.Canvas.{largestSide, blocksAlong}
+use Rattle.vectors.specs.Canvas.{Canvas, largestSide, blocksAlong}
+use Rattle.compensation.specs.Compensation.{movedSample}
+use Rattle.mv_cache.specs.Grid.{putPart}
+use Rattle.mv_cache.specs.GridLaws.{Holds}
+use Rattle.compensation.specs.Moved.{Placed}
 use Rattle.tree.specs.TreeBits.{Node}
 use Rattle.tree.specs.Walk.{SoundTree}
 use Rattle.vectors.specs.declared.svq1_plane.Svq1PlaneCanvas.{Svq1PlaneCanvas}

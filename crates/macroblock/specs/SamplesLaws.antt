@@ -13,21 +13,20 @@ use Rattle.bits.specs.Basics.{All, signedByte}
 use Rattle.bits.specs.BasicsLaws.{length-values, value-at}
 use Rattle.vectors.specs.declared.svq1_motion_predictor.Svq1Mv.{Svq1Mv}
 use Rattle.vectors.specs.Vectors.{zeroMv}
-use Rattle.vectors.specs.Canvas.{Canvas}
-use Rattle.motion.specs.Compensation.{movedSample, movedBlock}
-use Rattle.motion.specs.CompensationLaws.{length-moved}
-use Rattle.vectors.specs.Cache.{Stored}
-use Rattle.vectors.specs.Grid.{entryOf, part, putPart}
-use Rattle.vectors.specs.GridLaws.{length-part, part-at}
-use Rattle.motion.specs.Moved.{movedPart, Placed}
-use Rattle.motion.specs.PartsLaws.{four-moved}
-use Rattle.vectors.specs.Canvas.{blocksAlong}
+use Rattle.vectors.specs.Canvas.{Canvas, blocksAlong}
+use Rattle.compensation.specs.Compensation.{movedSample, movedBlock}
+use Rattle.compensation.specs.CompensationLaws.{length-moved}
+use Rattle.mv_cache.specs.Cache.{Stored}
+use Rattle.mv_cache.specs.Grid.{entryOf, part, putPart}
+use Rattle.mv_cache.specs.GridLaws.{length-part, part-at}
+use Rattle.compensation.specs.Moved.{movedPart, Placed}
+use Rattle.compensation.specs.PartsLaws.{four-moved}
 use Rattle.vectors.specs.VectorsLaws.{Inside, zero-inside}
-use Rattle.motion.specs.Rows.{cell}
-use Rattle.motion.specs.RowsLaws.{half-in}
+use Rattle.compensation.specs.Rows.{cell}
+use Rattle.compensation.specs.RowsLaws.{half-in}
 use Rattle.tree.specs.GeometryLaws.{in-whole}
-use Rattle.tree.specs.Rebuild.{Lies, Rebuilding, rebuiltBy}
-use Rattle.tree.specs.ShownLaws.{rebuilt-shown}
+use Rattle.tree_samples.specs.Rebuild.{Lies, Rebuilding, rebuiltBy}
+use Rattle.tree_samples.specs.ShownLaws.{rebuilt-shown}
 use Rattle.tree.specs.TreeBits.{Node}
 use Rattle.tree.specs.Walk.{SoundTree}
 use Rattle.macroblock.specs.declared.svq1_enc_inter.MbMotion.{MbMotion}

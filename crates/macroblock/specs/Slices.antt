@@ -2,8 +2,8 @@
 use Prim.Native.Nat.{ℕ}
 use mathlib.Core.List.{List, map}
 use Rattle.bits.specs.Basics.{signedByte}
-use Rattle.vectors.specs.Neighbours.{Near, nearOf}
-use Rattle.vectors.specs.Grid.{putPart}
+use Rattle.mv_cache.specs.Neighbours.{Near, nearOf}
+use Rattle.mv_cache.specs.Grid.{putPart}
 use Rattle.macroblock.specs.Macroblock.{Given, cols, rows, Choice, vectorsOf, shown}
 
 -- the result slices that writer and reader share: the reconstruction, and the block vectors' x and y

@@ -9,15 +9,15 @@ use Rattle.bits.specs.Basics.{pick, unless, Bytes}
 use Rattle.bits.specs.Bits.{bitsOf, putBits}
 use Rattle.bits.specs.Inner.{Fits}
 use Rattle.book.specs.Book.{tablesOf, bookRefusal}
-use Rattle.leaf.specs.Raised.{raisedCodebook}
-use Rattle.vectors.specs.Neighbours.{Near}
-use Rattle.vectors.specs.NeighboursLaws.{Ranged}
+use Rattle.codebook.specs.Raised.{raisedCodebook}
+use Rattle.mv_cache.specs.Neighbours.{Near}
+use Rattle.mv_cache.specs.NeighboursLaws.{Ranged}
 use Rattle.vectors.specs.Canvas.{blocksAlong}
 use Rattle.tree.specs.Nodes.{treeOf}
 use Rattle.tree.specs.Plan.{Weight}
 use Rattle.tree.specs.TreeBits.{Node, treeBits}
 use Rattle.tree.specs.Walk.{SoundTree}
-use Rattle.macroblock_enc.specs.declared.inner.candidates.MbCandidate.{MbCandidate}
+use Rattle.macroblock_choice.specs.declared.inner.candidates.MbCandidate.{MbCandidate}
 use Rattle.macroblock_enc.specs.declared.inner.writing.WrittenMb.{WrittenMb}
 use Rattle.vectors.specs.declared.svq1_plane.Svq1PlaneCanvas.{Svq1PlaneCanvas}
 use Rattle.macroblock.specs.Macroblock.{Given, cols, rows, Motion, Choice, skipped, coded, modeOf, halfOf, vectorsOf, motionBits, choiceBits}
@@ -28,7 +28,7 @@ use Rattle.macroblock.specs.Inner.{givenBy, Accepted, Held}
 use Rattle.macroblock.specs.MacroblockRead.{ShowingIf, Laying}
 use Rattle.macroblock.specs.Motions.{motionOf}
 use Rattle.macroblock.specs.Finding.{byBook}
-use Rattle.macroblock_enc.specs.Candidates.{skips, choiceOf}
+use Rattle.macroblock_choice.specs.Candidates.{skips, choiceOf}
 
 -- ---- bits
 -- a choice that has codes: codable vectors, and leaves that can be written

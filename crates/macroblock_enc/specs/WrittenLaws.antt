@@ -10,11 +10,11 @@ use lib.ListN.{length, length-append}
 use Rattle.bits.specs.Inner.{Fits, Wrote}
 use Rattle.book.specs.Book.{tablesOf}
 use Rattle.book.specs.declared.svq1_vlc.Svq1Half.{Svq1Half}
-use Rattle.vectors.specs.Neighbours.{Near}
+use Rattle.mv_cache.specs.Neighbours.{Near}
 use Rattle.tree.specs.Nodes.{treeOf}
 use Rattle.tree.specs.TreeBits.{Node, treeBits}
 use Rattle.tree.specs.Walk.{SoundTree, TreeRoom}
-use Rattle.macroblock_enc.specs.declared.inner.candidates.MbCandidate.{MbCandidate}
+use Rattle.macroblock_choice.specs.declared.inner.candidates.MbCandidate.{MbCandidate}
 use Rattle.macroblock.specs.declared.svq1_enc_inter.Svq1MbMode.{Svq1MbMode}
 use Rattle.vectors.specs.declared.svq1_plane.Svq1PlaneCanvas.{Svq1PlaneCanvas}
 use Rattle.macroblock.specs.Macroblock.{Motion, skipped, coded, modeOf, halfOf, vectorsOf, motionBits, modeBits, choiceBits}
@@ -24,8 +24,8 @@ use Rattle.macroblock.specs.Inner.{givenBy}
 use Rattle.macroblock.specs.Finding.{byBook, choiceBy}
 use Rattle.macroblock.specs.MacroblockRead.{LaysChoice}
 use Rattle.macroblock.specs.LayLaws.{laid-is}
-use Rattle.macroblock_enc.specs.CodingLaws.{first-fits, second-fits}
-use Rattle.macroblock_enc.specs.Candidates.{skips, choiceOf}
+use Rattle.macroblock.specs.CodingLaws.{first-fits, second-fits}
+use Rattle.macroblock_choice.specs.Candidates.{skips, choiceOf}
 use Rattle.macroblock_enc.specs.Written.{Codes, CodedRoom, PutReady, LaysCandidate, WriteReady, CandidateWritten, CandidateLaid}
 
 -- ---- vectors and tree

@@ -1,10 +1,3 @@
 // Functions that only the crates of this repository call. Most have a `requires`: the caller, proved too, meets it. The functions for
 // everybody else are in the modules that keep the names of the original's files.
-pub mod candidates;
-pub mod choice;
-pub mod coding;
-pub mod motions;
-pub mod plans;
-pub mod searches;
-pub mod target;
 pub mod writing;

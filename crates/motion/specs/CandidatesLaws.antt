@@ -15,18 +15,19 @@ use borrow.Author.Tests.{lt-ltb, le-ltb, leb-true, ltb-true, ltb-false}
 use Rattle.bits.specs.Basics.{pick, gap, sum}
 use Rattle.bits.specs.BasicsLaws.{both-true}
 use Rattle.vectors.specs.declared.svq1_motion_predictor.Svq1Mv.{Svq1Mv}
-use Rattle.motion.specs.declared.inner.error.Taken.{Taken}
+use Rattle.compensation.specs.declared.inner.error.Taken.{Taken}
 use Rattle.motion.specs.declared.inner.search.Spot.{Spot}
 use Rattle.motion.specs.declared.inner.search.Candidate.{Candidate}
 use Rattle.vectors.specs.Vectors.{inRange, codable}
 use Rattle.vectors.specs.Canvas.{Canvas}
-use Rattle.motion.specs.Compensation.{halfSample, movedSample, movedBlock}
+use Rattle.compensation.specs.Compensation.{halfSample, movedSample, movedBlock}
 use Rattle.motion.specs.Search.{Search, inWindow, allowed, errorOf, Best, nothing, best, lowers, consider, fullAt, centre}
-use Rattle.motion.specs.Rows.{cell, rowAt, early, ReadIn}
-use Rattle.motion.specs.RowsLaws.{half-in}
-use Rattle.motion.specs.SumLaws.{sum-same, sum-rows, sad-sum}
-use Rattle.motion.specs.EarlyLaws.{Judged, early-same, early-judged}
-use Rattle.vectors.specs.RaisedLaws.{leb-as, both, sub-eq, sub-add, sub-pos, pos-sub, sub-sub, sub-half, sub-one, low-is, high-is, nonneg-is, below-is}
+use Rattle.compensation.specs.Rows.{cell, rowAt, early, ReadIn}
+use Rattle.compensation.specs.RowsLaws.{half-in}
+use Rattle.bits.specs.SumLaws.{sum-same}
+use Rattle.compensation.specs.ErrorLaws.{rows-sum, sad-sum}
+use Rattle.compensation.specs.EarlyLaws.{Judged, early-same, early-judged}
+use Rattle.bits.specs.DifferenceLaws.{leb-as, both, sub-eq, sub-add, sub-pos, pos-sub, sub-sub, sub-half, sub-one, low-is, high-is, nonneg-is, below-is}
 use Rattle.motion.specs.Candidates.{lowered, loweredMv, spotSearch, Ready, codableUp, windowUp, axisUp, shown, Held}
 
 -- ---- the tests
@@ -86,7 +87,7 @@ error-rows : (g : Search) (v : Svq1Mv) → 1 ≤ g .side → length (g .target) 
 unfolding errorOf movedBlock rowError
 error-rows g v s e =
     sad-sum (g .target) (movedSample (g .reference) (g .side) (g .x) (g .y) v) (g .side * g .side) 0 e
-    ∙ sum-rows _ (g .side) (g .side)
+    ∙ rows-sum _ (g .side) (g .side)
     ∙ sum-same _ _ (g .side) (λ i h. sum-same _ _ (g .side) (λ j l.
     let q : 0 + (g .side * i + j) ≡ i * g .side + j = omega (arith, mul-comm (g .side) i) in
     let d : (0 + (g .side * i + j)) / g .side ≡ i = ap (λ (n : ℕ). n / g .side) q ∙ digits-div i l in

@@ -1,18 +1,19 @@
 -- The motion search: candidates in their order, which are tried, which one stays, and its refusals (document 01, `svq1_enc_inter.rs`, refusals 1, 3, 4, 9, 23).
 use Prim.Native.Nat.{ℕ, zero, suc, _+_, _-_, _*_, _/_, _%_, min}
 use mathlib.Core.Bool.{Bool, true, _&&_, _||_}
-use mathlib.Core.List.{List, [], _∷_}
+use mathlib.Core.List.{List}
 use mathlib.Core.Option.{Option, none, some}
 use lib.Dec.{eqb, ltb}
 use lib.ListN.{length}
 use lib.IntN.{ℤ, pos, subℕ, _+ℤ_}
 use lib.Signed.{ltZ, leZ, shrZ}
-use Rattle.bits.specs.Basics.{pick, gap, orElse, unless}
+use Rattle.bits.specs.Basics.{pick, orElse, unless}
 use Rattle.bits.specs.Calls.{Answer, done, refused, unlessRefused}
 use Rattle.vectors.specs.declared.svq1_motion_predictor.Svq1Mv.{Svq1Mv}
 use Rattle.vectors.specs.Vectors.{zeroMv, inRange, codable}
 use Rattle.vectors.specs.Canvas.{Canvas, sizeRefusal, canvasRefusal}
-use Rattle.motion.specs.Compensation.{movedBlock}
+use Rattle.compensation.specs.Compensation.{movedBlock}
+use Rattle.compensation.specs.Error.{sad}
 
 -- what a search is asked with: a block of side × side samples at (x, y) of a plane whose visible size is width × height
 pub record Search : Type 0 where
@@ -36,12 +37,6 @@ unfoldable pub allowed : Search → Svq1Mv → Bool
 allowed g v =
     (codable (g .predictor .x) (v .x) && inWindow (g .side) (g .x) (g .width) (v .x))
     && (codable (g .predictor .y) (v .y) && inWindow (g .side) (g .y) (g .height) (v .y))
-
--- the sum of absolute differences of two runs of samples
-unfoldable pub sad : List ℕ → List ℕ → ℕ
-sad [] ys = 0
-sad (x ∷ xs) [] = 0
-sad (x ∷ xs) (y ∷ ys) = gap x y + sad xs ys
 
 unfoldable pub errorOf : Search → Svq1Mv → ℕ
 errorOf g v = sad (g .target) (movedBlock (g .reference) (g .side) (g .x) (g .y) v)

@@ -1,3 +1,3 @@
-// Motion vectors: predictor, neighbours, compensation and search.
+// The motion search.
 pub mod inner;
 pub mod svq1_enc_inter;

@@ -7,9 +7,9 @@ use native.Mathlib.Omega.{arith}
 use lib.ListN.{length, take, drop, replicate, length-take, take-append-drop}
 use borrow.Author.Tests.{eq-eqb, ne-eqb}
 use Rattle.leaf.specs.LeafCall.{BlockIn, leafAnswer}
-use Rattle.leaf_search.specs.LeafAnswer.{LeafAnswered}
+use Rattle.leaf_call.specs.LeafAnswer.{LeafAnswered}
 use Rattle.leaf.specs.Raised.{leafOf}
-use Rattle.leaf_search.specs.declared.svq1_enc_leaf.LeafAnswer.{LeafAnswer}
+use Rattle.leaf_call.specs.declared.svq1_enc_leaf.LeafAnswer.{LeafAnswer}
 use Rattle.parts.specs.Leaf.{filled, partOf, nothing, leafPart}
 
 -- zeros behind a front are what they were

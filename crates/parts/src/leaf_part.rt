@@ -8,7 +8,7 @@ ghost use Rattle.leaf.specs.Raised.{leafOf};
 ghost use Rattle.parts.specs.Leaf.{partOf, nothing, leafPart};
 use super::inner::leaf_node;
 use leaf::svq1_enc_leaf::LeafCode;
-use leaf_search::svq1_enc_leaf::search_leaf;
+use leaf_call::svq1_enc_leaf::search_leaf;
 
 // What the leaf search answers: a refusal's number with zeros, or 0, the leaf (kind 2 skip, 3 coded) with zeros behind its stage
 // indices, its bits, its error and the samples that it shows with zeros behind them.

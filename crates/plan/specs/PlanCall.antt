@@ -10,14 +10,14 @@ use Rattle.bits.specs.Calls.{Answer, done, refused}
 use Rattle.book.specs.Book.{codebookBytes}
 use Rattle.book.specs.Level.{width, area}
 use Rattle.book.specs.declared.svq1_vlc.Svq1Half.{Svq1Half}
-use Rattle.leaf.specs.Codebook.{vectorAt}
-use Rattle.leaf_search.specs.LeafAnswer.{Searchable}
+use Rattle.codebook.specs.Codebook.{vectorAt}
+use Rattle.leaf_call.specs.LeafAnswer.{Searchable}
 use Rattle.leaf.specs.LeafCall.{BlockIn}
 use Rattle.tree.specs.Blocks.{blockCount, first}
 use Rattle.tree.specs.Nodes.{treeOf}
 use Rattle.plan.specs.Planned.{weight}
 use Rattle.plan.specs.Planning.{planningIn, PlanFound}
-use Rattle.tree.specs.Rebuild.{rebuiltBy}
+use Rattle.tree_samples.specs.Rebuild.{rebuiltBy}
 use Rattle.tree.specs.TreeBits.{Node, PlanMade, planAnswer, planTree, treeShown}
 use Rattle.tree.specs.Walk.{SoundTree}
 use Rattle.tree.specs.declared.svq1_enc_tree.Block.{Block}

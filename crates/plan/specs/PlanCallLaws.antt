@@ -12,21 +12,21 @@ use lib.ListN.{length, getD, take, drop, replicate, List·getD-eq-default}
 use Rattle.bits.specs.Basics.{pick, Bytes}
 use Rattle.book.specs.Level.{width, area}
 use Rattle.book.specs.declared.svq1_vlc.Svq1Half.{Svq1Half}
-use Rattle.leaf.specs.Codebook.{vectorAt}
+use Rattle.codebook.specs.Codebook.{vectorAt}
 use Rattle.leaf.specs.LeafCall.{BlockIn, halfAt, blockRefusal}
-use Rattle.leaf_search.specs.LeafAnswerLaws.{block-passes, drop-replicate}
-use Rattle.leaf.specs.Raised.{raisedCodebook}
-use Rattle.leaf.specs.RasterLaws.{raised-length}
+use Rattle.leaf_call.specs.LeafAnswerLaws.{block-passes, drop-replicate}
+use Rattle.codebook.specs.Raised.{raisedCodebook}
+use Rattle.codebook.specs.RaisedLaws.{raised-length}
 use Rattle.tree.specs.Blocks.{blockCount, level, first}
 use Rattle.tree.specs.GeometryLaws.{area-most, at-first, in-first}
 use Rattle.tree.specs.Plan.{Planning, root, leafAt, planSplits}
 use Rattle.plan.specs.PlanClaimLaws.{Planned, allowed}
 use Rattle.plan.specs.Planning.{PlanReady, planningIn, PlanFound}
 use Rattle.plan.specs.PlanningLaws.{plan-ready}
-use Rattle.tree.specs.Rebuild.{Rebuilding, rebuiltBy}
-use Rattle.tree.specs.RebuildLaws.{cut-length}
-use Rattle.tree.specs.ShownLaws.{allowed-sound, rebuilt-shown}
-use Rattle.tree.specs.Subtree.{width-most}
+use Rattle.tree_samples.specs.Rebuild.{Rebuilding, rebuiltBy}
+use Rattle.tree_samples.specs.RebuildLaws.{cut-length}
+use Rattle.tree_samples.specs.ShownLaws.{allowed-sound, rebuilt-shown}
+use Rattle.tree_samples.specs.SubtreeLaws.{width-most}
 use Rattle.tree.specs.TreeBits.{Node, Off, Split, Ends, reached, grow, planTree, treeShown, planMade, planAnswer}
 use Rattle.tree.specs.TreeLaws.{length-grow, grown}
 use Rattle.tree.specs.Nodes.{treeOf}

@@ -5,7 +5,7 @@ use mathlib.Core.List.{List, _++_}
 use mathlib.Core.Path.{_≡_}
 use lib.ListN.{length}
 use Rattle.bits.specs.Basics.{Bytes}
-use Rattle.bits.specs.Codes.{got}
+use Rattle.code_tables.specs.Codes.{got}
 use Rattle.leaf.specs.Leaf.{sse}
 use Rattle.leaf.specs.LeafCall.{BlockIn, blockRefusal}
 use Rattle.tree.specs.Plan.{Planning, planWeight, prunedCost}

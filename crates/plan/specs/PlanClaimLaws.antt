@@ -10,7 +10,7 @@ use borrow.Author.Tests.{eqb-true, leb-true, ltb-true}
 use lib.ListN.{length}
 use Rattle.bits.specs.Basics.{pick, Bytes, unless}
 use Rattle.bits.specs.BasicsLaws.{both-true, or-none, unless-none}
-use Rattle.bits.specs.Codes.{got}
+use Rattle.code_tables.specs.Codes.{got}
 use Rattle.book.specs.Book.{dataRefusal}
 use Rattle.book.specs.BookLaws.{GoodTables, good-tables, data-passes}
 use Rattle.book.specs.Level.{width, area}

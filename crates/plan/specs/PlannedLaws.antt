@@ -16,7 +16,8 @@ use Rattle.tree.specs.BlocksLaws.{level-0, level-part, suc-level, level-le}
 use Rattle.tree.specs.Plan.{Weight, Planning, joined, flagged, cheaper, planned, splits, leafAt, weightAt, planSplits}
 use Rattle.plan.specs.PlanLaws.{most-bits, most-err}
 use Rattle.plan.specs.PlanClaimLaws as claim
-use Rattle.tree.specs.Subtree.{inTree, in-plane}
+use Rattle.tree_samples.specs.Subtree.{inTree}
+use Rattle.tree_samples.specs.SubtreeLaws.{in-plane}
 use Rattle.plan.specs.Planned.{weigh, Light, decidedAs, decided}
 use Rattle.plan.specs.declared.svq1_enc_tree.PlannedBlock.{PlannedBlock}
 

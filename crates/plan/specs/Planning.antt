@@ -9,16 +9,16 @@ use Rattle.book.specs.Book.{tablesOf, bookRefusal, codebookBytes}
 use Rattle.book.specs.Level.{width, area}
 use Rattle.book.specs.declared.svq1_vlc.Svq1Half.{Svq1Half}
 use Rattle.book.specs.declared.svq1_vlc.Svq1Half.the-variants.{Inter}
-use Rattle.leaf.specs.Codebook.{vectorAt}
-use Rattle.leaf.specs.Inner.{pageStart}
+use Rattle.codebook.specs.Codebook.{vectorAt}
+use Rattle.codebook.specs.Raised.{pageStart, raisedCodebook}
 use Rattle.leaf.specs.Leaf.{Leaf, Vectors, sse, leafShown, leafRule, capAt}
-use Rattle.leaf.specs.Raised.{leafOf, vectorsIn, raisedCodebook}
+use Rattle.leaf.specs.Raised.{leafOf, vectorsIn}
 use Rattle.leaf_search.specs.declared.svq1_enc_leaf.LeafChoice.{LeafChoice}
 use Rattle.leaf.specs.declared.svq1_enc_leaf.LeafCode.{LeafCode}
 use Rattle.tree.specs.Blocks.{blockCount, level, blockOf}
 use Rattle.tree.specs.Plan.{Planning, planWeight}
 use Rattle.plan.specs.Planned.{weight}
-use Rattle.tree.specs.Subtree.{inTree}
+use Rattle.tree_samples.specs.Subtree.{inTree}
 use Rattle.tree.specs.TreeBits.{Node, Split, Ends, planTree}
 use Rattle.tree.specs.Nodes.{treeOf}
 use Rattle.plan.specs.declared.svq1_enc_tree.MbPlan.{MbPlan}

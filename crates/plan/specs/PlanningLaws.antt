@@ -16,14 +16,15 @@ use Rattle.book.specs.Book.{tablesOf}
 use Rattle.book.specs.BookLaws.{good-tables}
 use Rattle.book.specs.Level.{width, area}
 use Rattle.book.specs.declared.svq1_vlc.Svq1Half.{Svq1Half}
-use Rattle.leaf.specs.Inner.{pageStart, LeafFound}
+use Rattle.codebook.specs.Raised.{pageStart}
+use Rattle.leaf.specs.Inner.{LeafFound}
 use Rattle.leaf.specs.AgreeLaws.{leaf-found}
 use Rattle.leaf.specs.Leaf.{leafShown}
 use Rattle.leaf.specs.LeafBits.{leafBits}
 use Rattle.leaf.specs.LeafLaws.{vectors-sized}
-use Rattle.leaf_search.specs.LeafAnswer.{LevelChosen}
+use Rattle.leaf_search.specs.LevelLeaf.{LevelChosen}
 use Rattle.leaf.specs.Raised.{leafOf, vectorsIn}
-use Rattle.leaf.specs.RasterLaws.{raised-length}
+use Rattle.codebook.specs.RaisedLaws.{raised-length}
 use Rattle.leaf_search.specs.declared.svq1_enc_leaf.LeafChoice.{LeafChoice}
 use Rattle.tree.specs.Blocks.{blockCount, left, right, level, first, blockOf}
 use Rattle.tree.specs.GeometryLaws.{length-block, at-first}
@@ -31,7 +32,8 @@ use Rattle.tree.specs.Plan.{Planning, leafAt, shownAt, weightAt, planSplits, pl
 use Rattle.plan.specs.PlanClaimLaws as claim
 use Rattle.plan.specs.Planned.{weigh, Light, decided}
 use Rattle.plan.specs.PlannedLaws.{blank, LeafAt, PlannedAt, Done, one-block, no-block, leaf-light, planned-light, parts-planned}
-use Rattle.tree.specs.Subtree.{inTree, in-plane, tree-parts, tree-root}
+use Rattle.tree_samples.specs.Subtree.{inTree}
+use Rattle.tree_samples.specs.SubtreeLaws.{in-plane, tree-parts, tree-root}
 use Rattle.tree.specs.TreeBits.{Node, Off, Split, Ends, isSplit, reached, grow, planTree}
 use Rattle.tree.specs.TreeLaws.{length-grow, grown}
 use Rattle.tree.specs.Nodes.{nodeOf, treeOf}

@@ -7,10 +7,10 @@ ghost use Rattle.plan.specs.Planned.{costOf};
 use super::inner::plan;
 use super::inner::plan_reconstruction;
 use book::svq1_vlc::Svq1Half;
-use leaf::inner::raster::raise_codebook;
+use codebook::inner::raise_codebook;
 use leaf::svq1_enc_leaf::LeafCode;
-use leaf_search::svq1_enc_leaf::block_refusal;
-use leaf_search::svq1_enc_leaf::half_of;
+use leaf_call::svq1_enc_leaf::block_refusal;
+use leaf_call::svq1_enc_leaf::half_of;
 use tree::svq1_enc_tree::Block;
 use tree::svq1_enc_tree::TreeNode;
 

@@ -4,14 +4,5 @@ pub mod RunLaws
 pub mod Plane
 pub mod Calls
 pub mod Reader
-pub mod Writer
-pub mod Stated
-pub mod Claim
-pub mod SumLaws
 pub mod SlicesLaws
 pub mod ReaderLaws
-pub mod WriterLaws
-pub mod StatedLaws
-pub mod ClaimLaws
-pub mod RoundTrip
-pub mod RoundTripLaws

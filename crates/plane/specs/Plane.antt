@@ -6,7 +6,7 @@ use lib.Dec.{leb}
 use lib.ListN.{length, drop}
 use Rattle.bits.specs.Basics.{pick}
 use Rattle.bits.specs.Bits.{putBits}
-use Rattle.bits.specs.Codes.{Got, got, bad}
+use Rattle.code_tables.specs.Codes.{Got, got, bad}
 use Rattle.tree.specs.Plan.{Weight}
 use Rattle.macroblock.specs.declared.svq1_enc_inter.Svq1MbMode.{Svq1MbMode}
 use Rattle.macroblock.specs.Macroblock.{Given, cols, rows, Choice, modeOf, choiceBits}

@@ -14,10 +14,10 @@ use Rattle.bits.specs.Basics.{orElse}
 use Rattle.bits.specs.BasicsLaws.{both-true, or-first, or-next, or-none, unless-none}
 use Rattle.bits.specs.Bits.{bitsOf}
 use Rattle.bits.specs.BitsLaws.{length-bitsOf}
-use Rattle.bits.specs.Codes.{got, bad}
+use Rattle.code_tables.specs.Codes.{got, bad}
 use Rattle.bits.specs.Calls.{startRefusal}
 use Rattle.book.specs.Book.{dataRefusal}
-use Rattle.vectors.specs.GridLaws.{length-put}
+use Rattle.mv_cache.specs.GridLaws.{length-put}
 use Rattle.vectors.specs.Canvas.{largestSide, blocksAlong, padded16, sizeRefusal, canvasRefusal}
 use Rattle.vectors.specs.CanvasLaws.{Fitting, plane-passes}
 use Rattle.macroblock.specs.Macroblock.{Given, cols, rows, Choice}

@@ -6,8 +6,8 @@ use native.Mathlib.Omega.{arith}
 use mathlib.Core.List.{List, map}
 use lib.ListN.{length, drop}
 use Rattle.bits.specs.Basics.{signedByte}
-use Rattle.vectors.specs.GridLaws.{Agree, Holds, agree-put, length-put, in-owner, put-past}
-use Rattle.vectors.specs.NeighboursLaws.{near-same}
+use Rattle.mv_cache.specs.GridLaws.{Agree, Holds, agree-put, length-put, in-owner, put-past}
+use Rattle.mv_cache.specs.NeighboursLaws.{near-same}
 use Rattle.macroblock.specs.Macroblock.{Given, cols, rows, Choice, vectorsOf, shown}
 use Rattle.macroblock.specs.Slices.{Slices, near, laid}
 use Rattle.macroblock.specs.InnerLaws.{four-each}

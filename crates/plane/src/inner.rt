@@ -1,6 +1,4 @@
 // Functions that only the crates of this repository call. Most have a `requires`: the caller, proved too, meets it.
-pub mod writing;
-
 ghost use mathlib.Core.Path.{_≡_};
 ghost use Prim.Native.Nat.{_*_, _≤_};
 ghost use lib.ListN.{length};
@@ -9,7 +7,7 @@ ghost use Rattle.vectors.specs.Canvas.{largestSide, blocksAlong};
 ghost use Rattle.macroblock.specs.Inner.{givenBy};
 ghost use Rattle.plane.specs.Reader.{lengthsRefusal, readRefusalBy, PlaneReady, PlaneAccepted, ReadThrough};
 use super::svq1_plane::ReadEnd;
-use leaf::inner::raster::raise_codebook;
+use codebook::inner::raise_codebook;
 use macroblock::inner::reading::read_macroblock;
 use vectors::svq1_plane::Svq1PlaneCanvas;
 use vectors::svq1_plane::plane_refusal;
@@ -59,7 +57,7 @@ pub fn read_refusal(
     if plane != 0 {
         return plane;
     }
-    let data = book::book::data_refusal(book, codebook);
+    let data = book_check::data_refusal(book, codebook);
     if data != 0 {
         return data;
     }

@@ -1,5 +1,3 @@
-// Planes: the writer, the reader, and what is claimed of both.
+// The rules of a whole plane, and its reader.
 pub mod inner;
-pub mod round_trip;
-pub mod svq1_enc_inter;
 pub mod svq1_plane;

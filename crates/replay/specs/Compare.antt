@@ -6,7 +6,7 @@ use lib.Dec.{eqb}
 use lib.ListN.{getD}
 use Rattle.bits.specs.Basics.{pick}
 use Rattle.text.specs.Text.{same}
-use Rattle.plane.specs.declared.svq1_enc_inter.WriteEnd.{WriteEnd}
+use Rattle.plane_enc.specs.declared.svq1_enc_inter.WriteEnd.{WriteEnd}
 use Rattle.plane.specs.declared.svq1_plane.ReadEnd.{ReadEnd}
 use Rattle.replay.specs.declared.file.Job.{Job}
 use Rattle.replay.specs.declared.compare.Difference.{Difference}

@@ -3,7 +3,7 @@ use Prim.Native.Nat.{ℕ, _+_, min}
 use mathlib.Core.List.{List}
 use Rattle.bits.specs.Basics.{pick}
 use Rattle.tree.specs.Plan.{saturated}
-use Rattle.plane.specs.declared.svq1_enc_inter.WriteEnd.{WriteEnd}
+use Rattle.plane_enc.specs.declared.svq1_enc_inter.WriteEnd.{WriteEnd}
 use Rattle.replay.specs.declared.compare.Difference.{Difference}
 use Rattle.replay.specs.declared.compare.Difference.the-variants.{Same}
 use Rattle.replay.specs.declared.tally.Tally.{Tally}

@@ -12,10 +12,10 @@ use super::file::Scene;
 use super::file::part;
 use super::tally::Tally;
 use super::tally::job_tally;
-use plane::svq1_enc_inter::WriteEnd;
-use plane::svq1_enc_inter::encode_inter_plane_stated;
 use plane::svq1_plane::ReadEnd;
 use plane::svq1_plane::decode_inter_plane;
+use plane_enc::svq1_enc_inter::WriteEnd;
+use plane_enc::svq1_enc_inter::encode_inter_plane_stated;
 
 fn write_job(
     file: &[u8],

@@ -10,7 +10,7 @@ use super::compare::is_same;
 use super::file::part;
 use libc::STDOUT_FILENO;
 use plan::svq1_enc_tree::saturating_add;
-use plane::svq1_enc_inter::WriteEnd;
+use plane_enc::svq1_enc_inter::WriteEnd;
 use text::put_decimal;
 use text::put_text;
 

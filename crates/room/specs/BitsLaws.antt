@@ -9,7 +9,7 @@ use native.Mathlib.Nat.{le-trans}
 use lib.ListN.{length, length-append}
 use lib.IntN.{_-ℤ_}
 use Rattle.bits.specs.Basics.{pick, All}
-use Rattle.bits.specs.Codes.{code}
+use Rattle.code_tables.specs.Codes.{code}
 use Rattle.book.specs.Book.{Tables, tablesOf, modeTable, vectorTable, meanTable, stageFamily, stageTable, entries, bookRefusal}
 use Rattle.book.specs.BookLaws.{good-book}
 use Rattle.book.specs.declared.svq1_vlc.Svq1Half.{Svq1Half}
@@ -17,10 +17,10 @@ use Rattle.book.specs.declared.svq1_vlc.Svq1Half.the-variants.{Intra, Inter}
 use Rattle.leaf.specs.Leaf.{Leaf, skip, coded}
 use Rattle.leaf.specs.LeafBits.{leafBits}
 use Rattle.leaf.specs.LeafBitsLaws.{Allowed, length-leaf}
-use Rattle.leaf.specs.Mean.{meanPosition}
+use Rattle.codebook.specs.Mean.{meanPosition}
 use Rattle.vectors.specs.declared.svq1_motion_predictor.Svq1Mv.{Svq1Mv}
 use Rattle.vectors.specs.Vectors.{placeOf}
-use Rattle.vectors.specs.Neighbours.{Near, forOne, forFirst, forSecond, forThird, forFourth}
+use Rattle.mv_cache.specs.Neighbours.{Near, forOne, forFirst, forSecond, forThird, forFourth}
 use Rattle.tree.specs.Blocks.{left, right, level}
 use Rattle.tree.specs.Plan.{Weight, Planning, joined, flagged, cheaper, planned, root, leafAt, weightAt, planWeight}
 use Rattle.plan.specs.PlanLaws.{most-bits}

@@ -12,7 +12,7 @@ use lib.Seq.{take-nil, drop-nil}
 use borrow.Author.Tests.{leb-true}
 use Rattle.bits.specs.BasicsLaws.{both-true}
 use Rattle.bits.specs.BitsLaws.{length-msb}
-use Rattle.bits.specs.Codes.{code, codesOf, codeLen, goodEntry, goodTable}
+use Rattle.code_tables.specs.Codes.{code, codesOf, codeLen, goodEntry, goodTable}
 use Rattle.book.specs.Book.{entries}
 use Rattle.room.specs.Room.{longest}
 

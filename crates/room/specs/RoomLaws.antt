@@ -21,8 +21,8 @@ use Rattle.plane.specs.Run.{after}
 use Rattle.plane.specs.RunLaws.{testing, run-on}
 use Rattle.plane.specs.Plane.{count, Writing, wroteWeight, wroteBits, fits, written, writePlane, writingAt}
 use Rattle.plane.specs.Calls.{writeRefusal, writeAnswer}
-use Rattle.plane.specs.Claim.{InMemory}
-use Rattle.plane.specs.ClaimLaws.{accepted}
+use Rattle.claim.specs.Claim.{InMemory}
+use Rattle.claim.specs.AcceptedLaws.{accepted}
 use Rattle.room.specs.Room.{bookBits, anyBits, roomBytes, WrittenWhole, HasRoom, Suffices, OfSize, OfSizeUnder}
 use Rattle.room.specs.RefusalLaws.{refusal-most}
 use Rattle.room.specs.BitsLaws.{chosen-few, book-any}

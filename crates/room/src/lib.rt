@@ -5,8 +5,8 @@ ghost use Rattle.book.specs.Book.{bookEntries, entries, bookRefusal};
 ghost use Rattle.vectors.specs.Canvas.{largestSide, blocksAlong};
 ghost use Rattle.room.specs.Room.{longest, mostBits, bookBits, anyBits, roomBytes, OfSize, OfSizeUnder};
 ghost use Rattle.room.specs.Calls.{roomAnswer, roomUnderAnswer, RoomTold};
-use bits::inner::entry_len;
-use book::book::book_refusal;
+use book_check::book_refusal;
+use code_tables::inner::entry_len;
 use vectors::svq1_plane::size_refusal;
 
 // What a call answers: the number of a refusal and no bytes, or 0 and the bytes.

@@ -7,22 +7,22 @@ use mathlib.Core.Path.{_≡_}
 use lib.IntN.{ℤ, pos, negsuc}
 use lib.ListN.{length, replicate}
 use Rattle.bits.specs.Bits.{bitsOf}
-use Rattle.book.specs.House.{houseBook, houseCodebook}
+use Rattle.house.specs.House.{houseBook, houseCodebook}
 use Rattle.book.specs.declared.svq1_vlc.Svq1Half.the-variants.{Inter}
-use Rattle.leaf.specs.Codebook.{rasterOf}
-use Rattle.leaf.specs.Mean.{meanOf}
+use Rattle.codebook.specs.Codebook.{rasterOf}
+use Rattle.codebook.specs.Mean.{meanOf}
 use Rattle.vectors.specs.declared.svq1_motion_predictor.Svq1Mv.{Svq1Mv}
 use Rattle.vectors.specs.declared.svq1_motion_predictor.Neighbour.{Neighbour}
 use Rattle.vectors.specs.declared.svq1_motion_predictor.Neighbour.the-variants.{Absent, Present}
 use Rattle.vectors.specs.Vectors.{predicted}
-use Rattle.motion.specs.Compensation.{mean2, mean4}
+use Rattle.compensation.specs.Compensation.{mean2, mean4}
 use Rattle.bits.specs.Calls.{done}
 use Rattle.motion.specs.Search.{Search, searchAnswer}
 use Rattle.vectors.specs.Canvas.{padded16}
 use Rattle.macroblock.specs.Macroblock.{Given}
 use Rattle.macroblock.specs.Choice.{Task}
 use Rattle.plane.specs.Plane.{writePlane}
-use Rattle.jobs.specs.Job.{Job, jobIn}
+use Rattle.job_file.specs.Job.{Job, jobIn}
 use Rattle.jobs.specs.Listing.{noSlices, planeText}
 
 abbrev pub mv : ℤ → ℤ → Svq1Mv

@@ -12,15 +12,15 @@ use lib.IntN.{ℤ, pos, negsuc}
 use Rattle.bits.specs.Basics.{pick, natural}
 use Rattle.bits.specs.BasicsLaws.{both-true, below, below-at}
 use Rattle.bits.specs.Bits.{msb}
-use Rattle.bits.specs.Codes.{codesOf}
+use Rattle.code_tables.specs.Codes.{codesOf}
 use Rattle.book.specs.Level.{area}
 use Rattle.book.specs.Book.{tablesOf}
-use Rattle.book.specs.House.{houseBook, houseCodebook, houseFrom, rank, signedRank, logUnder}
+use Rattle.house.specs.House.{houseBook, houseCodebook, houseFrom, rank, signedRank, logUnder}
 use Rattle.book.specs.declared.svq1_vlc.Svq1Half.{Svq1Half}
 use Rattle.book.specs.declared.svq1_vlc.Svq1Half.the-variants.{Intra, Inter}
 use Rattle.text.specs.Text.{same}
-use Rattle.leaf.specs.Codebook.{vectorAt, stagesPerPage}
-use Rattle.leaf.specs.Mean.{residual, rounded, clampMean, meanOf, saturate}
+use Rattle.codebook.specs.Codebook.{vectorAt, stagesPerPage}
+use Rattle.codebook.specs.Mean.{residual, rounded, clampMean, meanOf, saturate}
 use Rattle.leaf.specs.Leaf.{Leaf, coded, sse, seeded, staged, samples, leafShown, leafRule}
 use Rattle.leaf.specs.LeafLaws.{coded-exact}
 use Rattle.leaf.specs.LeafBits.{leafBits, stageBits}

@@ -8,42 +8,35 @@ use native.Mathlib.Omega.{arith}
 use lib.Dec.{leb}
 use borrow.Author.Tests.{le-leb}
 use lib.ListN.{length, replicate, length-replicate}
-use Rattle.bits.specs.Basics.{All}
+use Rattle.bits.specs.Basics.{All, every, valuesFrom}
 use Rattle.book.specs.declared.svq1_vlc.Svq1Half.the-variants.{Intra, Inter}
-use Rattle.vectors.specs.Vectors.{zeroMv}
-use Rattle.vectors.specs.Neighbours.{Near}
-use Rattle.macroblock.specs.Macroblock.{Given, Motion, still, single, four, Choice, skipped, coded, halfOf}
-use Rattle.macroblock.specs.Choice.{Task}
+use Rattle.vectors.specs.Vectors.{zeroMv, median, predicted, codable}
+use Rattle.mv_cache.specs.Neighbours.{Near, neighbourAt, nearOf}
+use Rattle.macroblock.specs.Macroblock.{Given, Motion, still, single, four, Choice, skipped, coded, halfOf, referenceBlock, baseline, shown, vectorBits, motionBits, choiceBits}
+use Rattle.macroblock.specs.Choice.{Task, paddedSource, target, singleTried, fourTried, motionsTried, planningFor, tried, weightOf, beats, bestOf, chosen}
 use Rattle.macroblock.specs.Slices.{near}
-use Rattle.tree.specs.TreeBits.{Node, planTree}
-use Rattle.jobs.specs.Job.{Job}
-use Rattle.jobs.specs.Listing.{noSlices, outputBytes}
+use Rattle.tree.specs.TreeBits.{Node, planTree, nodeBits, emit, treeBits, treeShown}
+use Rattle.job_file.specs.Job.{Job, jobRead, jobIn}
+use Rattle.jobs.specs.Listing.{noSlices, outputBytes, totalLine, macroblockLine, linesTo, textInto, planeText}
 use Rattle.starred.specs.Cards.{flatGiven, flatTask, plane, firstLine, firstText, largestLine, largestText, Holds, cards}
 use Rattle.starred.specs.Flat.{flat, flatPlanning, meanLeaf, oneLeaf, tree-is, leaf-at-32, leaf-at-largest}
-use Rattle.bits.specs.Basics.{every, valuesFrom}
 use Rattle.bits.specs.Bits.{msb, bitsOf, cleared, afterBits, putBits}
 use Rattle.bits.specs.BitsLaws.{length-bitsOf}
-use Rattle.bits.specs.Codes.{codesOf}
-use Rattle.book.specs.House.{logUnder, signedRank, rank, houseFrom, houseBook}
-use Rattle.jobs.specs.Job.{jobRead, jobIn}
-use Rattle.jobs.specs.Listing.{totalLine, macroblockLine, linesTo, textInto, planeText}
-use Rattle.leaf.specs.Codebook.{rasterOf}
+use Rattle.code_tables.specs.Codes.{codesOf}
+use Rattle.house.specs.House.{logUnder, signedRank, rank, houseFrom, houseBook}
+use Rattle.codebook.specs.Codebook.{rasterOf}
 use Rattle.leaf.specs.Leaf.{sse, seeded, staged, samples, leafShown}
 use Rattle.leaf.specs.LeafBits.{stageBits, leafBits}
-use Rattle.leaf.specs.Mean.{rounded, clampMean, meanOf, saturate}
-use Rattle.macroblock.specs.Choice.{paddedSource, target, singleTried, fourTried, motionsTried, planningFor, tried, weightOf, beats, bestOf, chosen}
-use Rattle.macroblock.specs.Macroblock.{referenceBlock, baseline, shown, vectorBits, motionBits, choiceBits}
-use Rattle.motion.specs.Compensation.{sampleAt, halfSample, movedBlock}
-use Rattle.vectors.specs.Grid.{part}
-use Rattle.vectors.specs.Neighbours.{neighbourAt, nearOf}
-use Rattle.motion.specs.Search.{inWindow, allowed, sad, errorOf, consider, fullAt, rowTo, rowsTo, fullSearch, aroundTo, searchBest, searched, searchOk, searchRefusal, searchAnswer}
-use Rattle.vectors.specs.Vectors.{median, predicted, codable}
+use Rattle.codebook.specs.Mean.{rounded, clampMean, meanOf, saturate}
+use Rattle.compensation.specs.Compensation.{sampleAt, halfSample, movedBlock}
+use Rattle.mv_cache.specs.Grid.{part}
+use Rattle.motion.specs.Search.{inWindow, allowed, errorOf, consider, fullAt, rowTo, rowsTo, fullSearch, aroundTo, searchBest, searched, searchOk, searchRefusal, searchAnswer}
+use Rattle.compensation.specs.Error.{sad}
 use Rattle.plane.specs.Plane.{written, writePlane}
 use Rattle.plane.specs.Run.{run, after}
 use Rattle.text.specs.Text.{isNumber, valueFrom, numberUpTo, pieces, allEnded, linesOf, fieldsOf, digitsBefore, decimal, joined, lineOf}
 use Rattle.tree.specs.Blocks.{gather, paint, placeUnder, place, blockOf, paintAt, rebuilt}
 use Rattle.tree.specs.Plan.{shownAt}
-use Rattle.tree.specs.TreeBits.{nodeBits, emit, treeBits, treeShown}
 
 -- the plane of the first two cards, at any lambda
 abbrev job : ℕ → Job

@@ -1,12 +1,9 @@
 -- The definitions that the contracts of this crate cite; the laws that callers cite stand in the files named `..Laws`.
 pub mod Blocks
 pub mod BlocksLaws
-pub mod PlaceLaws
 pub mod Plan
 pub mod RowsLaws
-pub mod Turns
 pub mod GeometryLaws
-pub mod Subtree
 pub mod SumLaws
 pub mod TreeBits
 pub mod TreeLaws
@@ -14,8 +11,6 @@ pub mod Nodes
 pub mod Walk
 pub mod WalkLaws
 pub mod WalkReadLaws
-pub mod Rebuild
-pub mod RebuildLaws
-pub mod ShownLaws
+pub mod Queue
 pub mod QueueLaws
 pub mod ReadSoundLaws

@@ -19,34 +19,9 @@ use Rattle.tree.specs.TreeBits.{Node, Off, Split, Ends, isSplit, reached
 use Rattle.tree.specs.GeometryLaws.{at-first}
 use Rattle.tree.specs.TreeLaws.{length-grow, grown}
 use Rattle.tree.specs.WalkLaws.{reached-root}
-
--- a block that the tree has
-abbrev pub present : Node → Bool
-present Off = false
-present Split = true
-present (Ends l) = true
-
--- a split block's two parts join the next level's queue
-abbrev pub enqueue : Node → ℕ → List ℕ → List ℕ
-enqueue Off i q = q
-enqueue Split i q = left i ∷ right i ∷ q
-enqueue (Ends l) i q = q
+use Rattle.tree.specs.Queue.{present, rowBits, next, queueBits}
 
 module _ (T : Tables) (b : ℕ → Node) where
-  -- the bits of a queue of blocks of level d, one behind the other, and the queue of the next level
-  unfoldable pub rowBits : ℕ → List ℕ → List ℕ
-  rowBits d [] = []
-  rowBits d (i ∷ q) = nodeBits T d (b i) ++ rowBits d q
-
-  unfoldable pub next : List ℕ → List ℕ
-  next [] = []
-  next (i ∷ q) = enqueue (b i) i (next q)
-
-  -- DOCUMENT 01'S EMISSION: the queue of level d, then that of the level below
-  unfoldable pub queueBits : ℕ → List ℕ → List ℕ
-  queueBits zero q = rowBits zero q
-  queueBits (suc d) q = rowBits (suc d) q ++ queueBits d (next q)
-
   -- of the n blocks from a on, those that the tree has
   sel : ℕ → ℕ → List ℕ
   sel a zero = []
@@ -61,13 +36,13 @@ module _ (T : Tables) (b : ℕ → Node) where
   twice zero = zero
   twice (suc n) = suc (suc (twice n))
 
-  row-sel : (d a n : ℕ) (k : List ℕ) → rowBits d (sel a n) ++ k ≡ range d a n k
+  row-sel : (d a n : ℕ) (k : List ℕ) → rowBits T b d (sel a n) ++ k ≡ range d a n k
   unfolding rowBits sel range nodeBits
   row-sel d a zero k = refl
   row-sel d a (suc n) k = go (b a) refl (row-sel d (suc a) n k)
     where
-      go : (x : Node) → b a ≡ x → rowBits d (sel (suc a) n) ++ k ≡ range d (suc a) n k
-          → rowBits d (pick (present x) (a ∷ sel (suc a) n) (sel (suc a) n)) ++ k ≡ nodeBits T d x ++ range d (suc a) n k
+      go : (x : Node) → b a ≡ x → rowBits T b d (sel (suc a) n) ++ k ≡ range d (suc a) n k
+          → rowBits T b d (pick (present x) (a ∷ sel (suc a) n) (sel (suc a) n)) ++ k ≡ nodeBits T d x ++ range d (suc a) n k
       go Off e h = h
       go Split e h = rw (e, append-assoc, h)
       go (Ends l) e h = rw (e, append-assoc, h)
@@ -101,7 +76,7 @@ module _ (T : Tables) (b : ℕ → Node) where
   -- from the root on a block has its parts where it is split, and else not
   module _ (r : ℕ) (on : (i : ℕ) → r ≤ i → isSplit (b i) ≡ true → (present (b (left i)) ≡ true) × (present (b (right i)) ≡ true))
       (gone : (i : ℕ) → r ≤ i → isSplit (b i) ≡ false → (present (b (left i)) ≡ false) × (present (b (right i)) ≡ false)) where
-    next-sel : (a n : ℕ) → r ≤ a → next (sel a n) ≡ sel (left a) (twice n)
+    next-sel : (a n : ℕ) → r ≤ a → next T b (sel a n) ≡ sel (left a) (twice n)
     unfolding next sel twice
     next-sel a zero l = refl
     next-sel a (suc n) l =
@@ -109,8 +84,8 @@ module _ (T : Tables) (b : ℕ → Node) where
         let e2 : suc (suc (left a)) ≡ left (suc a) = omega arith in
         rw (e2, e1) (go (b a) refl (next-sel (suc a) n (omega arith)))
       where
-        go : (x : Node) → b a ≡ x → next (sel (suc a) n) ≡ sel (left (suc a)) (twice n)
-            → next (pick (present x) (a ∷ sel (suc a) n) (sel (suc a) n))
+        go : (x : Node) → b a ≡ x → next T b (sel (suc a) n) ≡ sel (left (suc a)) (twice n)
+            → next T b (pick (present x) (a ∷ sel (suc a) n) (sel (suc a) n))
             ≡ pick (present (b (left a))) (left a ∷ pick (present (b (right a))) (right a ∷ sel (left (suc a)) (twice n)) (sel (left (suc a)) (twice n)))
             (pick (present (b (right a))) (right a ∷ sel (left (suc a)) (twice n)) (sel (left (suc a)) (twice n)))
         go Off e h = let g = gone a l (ap isSplit e) in rw (g .0, g .1, h)
@@ -122,9 +97,9 @@ module _ (T : Tables) (b : ℕ → Node) where
     chain zero a n = range zero a n []
     chain (suc d) a n = range (suc d) a n (chain d (left a) (twice n))
 
-    by-queue : (d a n : ℕ) → r ≤ a → queueBits d (sel a n) ≡ chain d a n
+    by-queue : (d a n : ℕ) → r ≤ a → queueBits T b d (sel a n) ≡ chain d a n
     unfolding queueBits chain
-    by-queue zero a n l = sym (append-nil (rowBits zero (sel a n))) ∙ row-sel zero a n []
+    by-queue zero a n l = sym (append-nil (rowBits T b zero (sel a n))) ∙ row-sel zero a n []
     by-queue (suc d) a n l = rw (next-sel a n l, by-queue d (left a) (twice n) (omega arith)) (row-sel (suc d) a n (chain d (left a) (twice n)))
 
     -- the root's queue, and the levels above the root
@@ -165,10 +140,10 @@ module _ (T : Tables) (b : ℕ → Node) where
       from-root (suc (suc (suc (suc (suc zero))))) h e = sym in-order ∙ rw e
       from-root (suc (suc (suc (suc (suc (suc d)))))) h e = absurd (omega arith)
 
-      pub queue-from : (d : ℕ) (t : List Node) → d ≤ 5 → r ≡ first d → length t ≡ 63 → ((k : ℕ) → b k ≡ getD t k Off) → queueBits d (r ∷ []) ≡ treeBits T t
+      pub queue-from : (d : ℕ) (t : List Node) → d ≤ 5 → r ≡ first d → length t ≡ 63 → ((k : ℕ) → b k ≡ getD t k Off) → queueBits T b d (r ∷ []) ≡ treeBits T t
       unfolding treeBits
       queue-from d t h e len same =
-          ap (queueBits d) (sym root-queue) ∙ by-queue d r (suc r) (omega arith) ∙ sym (from-root d h e)
+          ap (queueBits T b d) (sym root-queue) ∙ by-queue d r (suc r) (omega arith) ∙ sym (from-root d h e)
           ∙ ap (λ (n : ℕ). flatBits level n 0) (sym len) ∙ sym (flat-is t 0 (λ k. rw zero-add (same k)))
 
 -- ---- the tree that a choice at each block makes

@@ -14,9 +14,9 @@ use Rattle.bits.specs.Basics.{natural}
 use Rattle.bits.specs.Bits.{bitsOf, valOf}
 use Rattle.bits.specs.BitsLaws.{length-bitsOf}
 use Rattle.bits.specs.ReadLaws.{run-lt}
-use Rattle.bits.specs.Codes.{Got, got, bad, then, codeGot, readCode, takeCode, takeBits}
-use Rattle.bits.specs.declared.svq1_vlc.CodeRead.{CodeRead}
-use Rattle.bits.specs.declared.svq1_vlc.CodeRead.the-variants as code
+use Rattle.code_tables.specs.Codes.{Got, got, bad, then, codeGot, readCode, takeCode, takeBits}
+use Rattle.code_tables.specs.declared.svq1_vlc.CodeRead.{CodeRead}
+use Rattle.code_tables.specs.declared.svq1_vlc.CodeRead.the-variants as code
 use Rattle.book.specs.Book.{Tables, tablesOf, bookRefusal}
 use Rattle.book.specs.BookLaws.{GoodTables, good-tables}
 use Rattle.book.specs.declared.svq1_vlc.Svq1Half.{Svq1Half}
@@ -24,8 +24,8 @@ use Rattle.book.specs.declared.svq1_vlc.Svq1Half.the-variants.{Intra, Inter}
 use Rattle.leaf.specs.Leaf.{Leaf, skip, coded}
 use Rattle.leaf.specs.LeafBits.{readStages, readSkip, readRest, readLeaf}
 use Rattle.leaf.specs.LentReadLaws.{code-in}
-use Rattle.leaf.specs.Mean.{meanPosition, meanAt}
-use Rattle.leaf.specs.RaisedLaws.{sub-add, sub-pos}
+use Rattle.codebook.specs.Mean.{meanPosition, meanAt}
+use Rattle.bits.specs.DifferenceLaws.{sub-add, sub-over}
 use Rattle.tree.specs.Blocks.{blockCount, level, first}
 use Rattle.tree.specs.BlocksLaws.{level-le}
 use Rattle.tree.specs.TreeBits.{Node, Off, Split, Ends, reached, asNode, readNode, readIf, readFrom, readTree}
@@ -115,7 +115,7 @@ position-at : (h : Svq1Half) (k : ℕ) → meanPosition h (meanAt h k) ≡ k
 position-at Intra k = refl
 position-at Inter k =
     let e : k + 256 ≡ 256 + k = omega arith in
-    let z : subℕ (k + 256) 256 ≡ pos k = rw e (sub-pos 256 k) in
+    let z : subℕ (k + 256) 256 ≡ pos k = rw e (sub-over 256 k) in
     ap natural (sub-add k 256 256 0 ∙ z)
 
 -- ---- a leaf

@@ -6,10 +6,10 @@ use lib.Dec.{eqb}
 use lib.ListN.{length, getD, replicate}
 use Rattle.bits.specs.Basics.{pick}
 use Rattle.bits.specs.Calls.{Answer, done, unlessRefused}
-use Rattle.bits.specs.Codes.{Got, got, bad, then}
+use Rattle.code_tables.specs.Codes.{Got, got, bad, then}
 use Rattle.book.specs.Book.{Tables, tablesOf}
 use Rattle.book.specs.Level.{width, area}
-use Rattle.leaf.specs.Codebook.{vectorAt}
+use Rattle.codebook.specs.Codebook.{vectorAt}
 use Rattle.leaf.specs.Leaf.{Leaf, Vectors}
 use Rattle.leaf.specs.LeafBits.{leafBits, readLeaf}
 use Rattle.leaf.specs.LeafCall.{BlockIn, halfAt, blockRefusal}

@@ -11,7 +11,7 @@ use lib.Dec.{eqb}
 use lib.ListN.{length, getD, length-append, List·getD-append}
 use lib.Seq.{getD-at, getD-append-seam, append-snoc}
 use Rattle.bits.specs.Basics.{pick}
-use Rattle.bits.specs.Codes.{got}
+use Rattle.code_tables.specs.Codes.{got}
 use Rattle.book.specs.Book.{Tables}
 use Rattle.book.specs.BookLaws.{GoodTables}
 use Rattle.leaf.specs.LeafBitsLaws.{Allowed, read-leaf}

@@ -7,7 +7,7 @@ use lib.ListN.{length, getD, drop}
 use Rattle.bits.specs.Basics.{pick}
 use Rattle.bits.specs.Bits.{bitsOf}
 use Rattle.bits.specs.Inner.{Fits}
-use Rattle.bits.specs.Codes.{Got, got, bad}
+use Rattle.code_tables.specs.Codes.{Got, got, bad}
 use Rattle.book.specs.Book.{Tables, tablesOf, bookRefusal}
 use Rattle.book.specs.declared.svq1_vlc.Svq1Half.{Svq1Half}
 use Rattle.leaf.specs.Leaf.{Leaf, skip, coded}

@@ -13,7 +13,7 @@ use lib.Seq.{append-snoc, set-at, drop-cons}
 use Rattle.bits.specs.Basics.{pick}
 use Rattle.bits.specs.Bits.{bitsOf, valOf}
 use Rattle.bits.specs.BitsLaws.{length-bitsOf}
-use Rattle.bits.specs.Codes.{Got, got, bad, then}
+use Rattle.code_tables.specs.Codes.{Got, got, bad, then}
 use Rattle.book.specs.Book.{Tables, tablesOf, meanTable, stageFamily, stageTable}
 use Rattle.book.specs.declared.svq1_vlc.Svq1Half.{Svq1Half}
 use Rattle.leaf.specs.Leaf.{Leaf}

@@ -1,4 +1,4 @@
-// The block tree: its 63 blocks, its bits, its reading and its samples.
+// The block tree: its 63 blocks, its bits and its reading.
 pub mod inner;
 pub mod svq1_enc_tree;
 pub mod walk;

@@ -4,11 +4,3 @@ pub mod CanvasLaws
 pub mod Vectors
 pub mod VectorsLaws
 pub mod ClipLaws
-pub mod RaisedLaws
-pub mod Grid
-pub mod GridLaws
-pub mod PutLaws
-pub mod Neighbours
-pub mod NeighboursLaws
-pub mod Cache
-pub mod CacheLaws

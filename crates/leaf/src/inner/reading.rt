@@ -7,12 +7,12 @@ ghost use lib.IntN.{subℕ};
 ghost use lib.Dec.{ltb};
 ghost use Rattle.bits.specs.Inner.{Fits};
 ghost use Rattle.bits.specs.Bits.{valOf, bitsOf};
-ghost use Rattle.leaf.specs.Mean.{meanAt};
+ghost use Rattle.codebook.specs.Mean.{meanAt};
 ghost use Rattle.leaf.specs.LeafBits.{readSkip, readLeaf};
 ghost use Rattle.leaf.specs.Lent.{LentTables, lentTables, MeanTable, padded, refusedLeaf, LeafRead, nibbles, readIndices, readMean, lentRest};
 use super::super::svq1_enc_leaf::LeafCode;
-use bits::svq1_vlc::CodeRead;
 use book::svq1_vlc::Svq1Half;
+use code_tables::svq1_vlc::CodeRead;
 
 // The signed mean of one kept plus 256.
 pub fn signed_mean(m: u16) -> i16
@@ -101,7 +101,7 @@ fn read_mean(s: &[u8], at: usize, table: &[u8], half: Svq1Half, count: usize) ->
     requires { ⌜ (count ≤ 6) × Fits (length (now s)) at 0 × MeanTable half (now table) ⌝ }
     ensures { λ r. ⌜ LeafRead (bitsOf (now (s .entry))) (readMean half (now (table .entry)) count (drop at (bitsOf (now (s .entry))))) r ⌝ }
 {
-    match bits::inner::read_code(s, at, table) {
+    match code_tables::inner::read_code(s, at, table) {
         CodeRead::Code(k, next) => read_stages(s, next, mean_at(half, k), count),
         CodeRead::NoCode => refused_leaf(10),
         CodeRead::Ends => refused_leaf(24),
@@ -158,7 +158,7 @@ pub fn read_leaf(
     requires { ⌜ Fits (length (now s)) at 0 × LentTables half (now stage) (now means) ⌝ }
     ensures { λ r. ⌜ LeafRead (bitsOf (now (s .entry))) (readLeaf (lentTables half (now (stage .entry)) (now (means .entry))) level (drop at (bitsOf (now (s .entry))))) r ⌝ }
 {
-    match bits::inner::read_code(s, at, stage) {
+    match code_tables::inner::read_code(s, at, stage) {
         CodeRead::Code(k, next) => read_rest(s, next, means, half, level, k),
         CodeRead::NoCode => refused_leaf(10),
         CodeRead::Ends => refused_leaf(24),

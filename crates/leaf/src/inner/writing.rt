@@ -6,7 +6,7 @@ ghost use Rattle.bits.specs.Basics.{natural};
 ghost use Rattle.bits.specs.Inner.{Fits, Wrote};
 ghost use Rattle.book.specs.Book.{bookBytes, meanTable, bookRefusal};
 ghost use Rattle.book.specs.Level.{levelNumber};
-ghost use Rattle.leaf.specs.Mean.{meanPosition};
+ghost use Rattle.codebook.specs.Mean.{meanPosition};
 ghost use Rattle.leaf.specs.Raised.{leafOf};
 ghost use Rattle.leaf.specs.LeafBits.{stageBits};
 ghost use Rattle.leaf.specs.Lent.{lentBits, LentTables, CodeFits, LeafSize, Writable, BookLeafSize};
@@ -63,8 +63,8 @@ fn coded_bits(stage: &[u8], means: &[u8], half: Svq1Half, mean: i16, count: u8) 
 {
     let k = mean_position(half, mean);
     let n = stage_count(count);
-    let s = bits::inner::entry_len(stage, n + 1);
-    let m = bits::inner::entry_len(means, k);
+    let s = code_tables::inner::entry_len(stage, n + 1);
+    let m = code_tables::inner::entry_len(means, k);
     s + m + 4 * (n as u32)
 }
 
@@ -74,7 +74,7 @@ pub fn leaf_bits(stage: &[u8], means: &[u8], half: Svq1Half, code: LeafCode) -> 
     ensures { λ r. ⌜ LeafSize half (now (stage .entry)) (now (means .entry)) code r ⌝ }
 {
     match code {
-        LeafCode::Skip => bits::inner::entry_len(stage, 0),
+        LeafCode::Skip => code_tables::inner::entry_len(stage, 0),
         LeafCode::Coded { mean, count } => coded_bits(stage, means, half, mean, count),
     }
 }
@@ -95,8 +95,8 @@ fn put_coded(
 {
     let k = mean_position(half, mean);
     let n = stage_count(count);
-    let p = bits::inner::put_code(out, at, stage, n + 1);
-    let q = bits::inner::put_code(out, p, means, k);
+    let p = code_tables::inner::put_code(out, at, stage, n + 1);
+    let q = code_tables::inner::put_code(out, p, means, k);
     put_stages(out, q, n, stages)
 }
 
@@ -114,7 +114,7 @@ pub fn put_leaf(
     ensures { λ r. ⌜ Wrote (now (out .entry)) at (lentBits half (now (stage .entry)) (now (means .entry)) (leafOf code stages)) r (now (out .exit)) ⌝ }
 {
     match code {
-        LeafCode::Skip => bits::inner::put_code(out, at, stage, 0),
+        LeafCode::Skip => code_tables::inner::put_code(out, at, stage, 0),
         LeafCode::Coded { mean, count } => {
             put_coded(out, at, stage, means, half, mean, count, stages)
         }

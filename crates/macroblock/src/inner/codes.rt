@@ -4,7 +4,7 @@ ghost use mathlib.Core.Bool.{true};
 ghost use Prim.Native.Nat.{_<_, _≤_};
 ghost use lib.ListN.{length, drop};
 ghost use Rattle.bits.specs.Bits.{bitsOf};
-ghost use Rattle.bits.specs.Codes.{codesOf, goodTable, takeCode};
+ghost use Rattle.code_tables.specs.Codes.{codesOf, goodTable, takeCode};
 ghost use Rattle.bits.specs.Inner.{Fits};
 ghost use Rattle.book.specs.Book.{modeTable, vectorTable};
 ghost use Rattle.vectors.specs.Vectors.{differenceAt};
@@ -14,7 +14,7 @@ ghost use Rattle.macroblock.specs.Mode.{modePosition};
 ghost use Rattle.macroblock.specs.Reading.{readVector};
 ghost use Rattle.macroblock.specs.Finding.{Found, PositionFound, readPair, byBook};
 use super::super::svq1_enc_inter::Svq1MbMode;
-use bits::svq1_vlc::CodeRead;
+use code_tables::svq1_vlc::CodeRead;
 use vectors::svq1_motion_predictor::Svq1Mv;
 use vectors::svq1_motion_predictor::final_motion_vector;
 
@@ -51,7 +51,7 @@ fn read_position(s: &[u8], at: usize, table: &[u8]) -> ReadPosition
     requires { ⌜ Fits (length (now s)) at 0 × (goodTable (now table) ≡ true) × (3 ≤ length (now table)) ⌝ }
     ensures { λ r. ⌜ PositionFound (now (s .entry)) at (now (table .entry)) r ⌝ }
 {
-    match bits::inner::read_code(s, at, table) {
+    match code_tables::inner::read_code(s, at, table) {
         CodeRead::Code(k, next) => ReadPosition {
             refused: 0,
             next,

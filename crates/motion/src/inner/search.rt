@@ -3,8 +3,8 @@ ghost use mathlib.Core.Bool.{true};
 ghost use Prim.Native.Nat.{_+_, _-_, _*_, _/_, _%_, _<_, _≤_, min};
 ghost use Rattle.motion.specs.Search.{consider, rowTo, rowsTo, searchBest};
 ghost use Rattle.motion.specs.Candidates.{raisedEnd, spotSearch, Ready, lowered, loweredMv, axisUp, shown, Held, Spans, Clipped, refined};
-use super::error::block_error;
-use super::error::full_error;
+use compensation::inner::error::block_error;
+use compensation::inner::error::full_error;
 
 // A block's place, the visible size, the canvas, the block's side, the predicted vector, raised by 1024, and the radius.
 pub struct Spot {

@@ -4,7 +4,7 @@ use native.Mathlib.Omega.{arith}
 use lib.ListN.{length-take}
 use borrow.Author.Needs.{needs}
 use borrow.Author.Tests.{lt-ltb, le-ltb}
-use Rattle.bits.specs.Calls.{codeAnswer}
+use Rattle.code_tables.specs.Calls.{codeAnswer}
 use Rattle.cards.specs.Numbers.{positionOf, modeRead}
 use Rattle.cards.proofs.mode.mode_position.Statement.{statement}
 use Rattle.cards.proofs.mode.mode_position.Tie as tie

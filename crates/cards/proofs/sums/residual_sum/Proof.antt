@@ -3,7 +3,7 @@ use mathlib.Core.Path.{sym}
 use native.Mathlib.Omega.{arith}
 use denote.Ref.{now}
 use borrow.Author.Needs.{needs}
-use Rattle.leaf.specs.RaisedLaws.{residual-sums}
+use Rattle.leaf_samples.specs.RaisedLaws.{residual-sums}
 use Rattle.cards.specs.NumbersLaws.{less}
 use Rattle.cards.proofs.sums.residual_sum.Statement.{statement}
 use Rattle.cards.proofs.sums.residual_sum.Tie as tie

@@ -4,7 +4,7 @@ use mathlib.Core.Path.{sym}
 use lib.Seq.{length-take-le}
 use Rattle.macroblock.specs.Macroblock.{Given}
 use Rattle.macroblock.specs.Choice.{Task}
-use Rattle.macroblock_enc.specs.Chosen.{taskBy}
+use Rattle.macroblock_choice.specs.Chosen.{taskBy}
 use Rattle.macroblock.specs.Inner.{givenBy}
 use Rattle.jobs.specs.ListedLaws.{sizes, recon-long, vx-long, vy-long, plane-ended, plane-text}
 use borrow.Author.Needs.{needs}

@@ -1,8 +1,8 @@
 -- The refusal of the files, or the plane that they mean. Assumes nothing.
 use mathlib.Core.Path.{_≡_, sym, _∙_}
 use mathlib.Core.List.{[]}
-use Rattle.jobs.specs.Job.{Job}
-use Rattle.jobs.specs.JobReading.{jobBy}
+use Rattle.job_file.specs.Job.{Job}
+use Rattle.job_file.specs.JobReading.{jobBy}
 use Rattle.jobs.specs.Listing.{Files, filesRefusal}
 use Rattle.jobs.specs.Listed.{filesBy}
 use Rattle.jobs.specs.FilesLaws.{files-by, files-listable, put-job-refused, text-plane}

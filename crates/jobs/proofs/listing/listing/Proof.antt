@@ -1,14 +1,14 @@
 -- Too short a text, a job line of another form, or the job. Assumes nothing.
 use mathlib.Core.Path.{_≡_, sym, _∙_}
 use mathlib.Core.List.{[]}
-use Rattle.jobs.specs.JobReading.{jobBy}
+use Rattle.job_file.specs.JobReading.{jobBy}
 use Rattle.jobs.specs.Listing.{Files}
 use Rattle.jobs.specs.Listed.{filesBy}
-use Rattle.jobs.specs.JobLaws.{job-small}
+use Rattle.job_file.specs.JobLaws.{job-small}
 use Rattle.jobs.specs.FilesLaws.{text-by}
 use Rattle.jobs.specs.RoomLaws.{listed-short, listed-none, listed-job}
 use mathlib.Core.Option.{some}
-use Rattle.jobs.specs.Job.{jobIn}
+use Rattle.job_file.specs.Job.{jobIn}
 use borrow.Author.Needs.{needs}
 use Rattle.jobs.proofs.listing.listing.Statement.{statement}
 use Rattle.jobs.proofs.listing.listing.Tie as tie

@@ -5,7 +5,7 @@ use mathlib.Core.Logic.{⊎-elim}
 use Prim.Native.Nat.{_≤_, _<_, _-_}
 use Rattle.leaf.specs.Leaf.{argmin}
 use Rattle.leaf.specs.Raised.{less, vectorError}
-use Rattle.leaf.specs.RaisedLaws.{argmin-take, argmin-keep}
+use Rattle.leaf_samples.specs.RaisedLaws.{argmin-take, argmin-keep}
 use borrow.Author.Needs.{needs}
 use Rattle.leaf_search.proofs.inner.best_vector.Statement.{statement}
 use Rattle.leaf_search.proofs.inner.best_vector.Tie as tie

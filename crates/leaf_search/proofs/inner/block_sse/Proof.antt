@@ -6,7 +6,7 @@ use lib.ListN.{length, drop}
 use lib.Seq.{drop-length}
 use Rattle.leaf.specs.Leaf.{sse, samples}
 use Rattle.leaf.specs.Raised.{less}
-use Rattle.leaf.specs.RaisedLaws.{sse-step}
+use Rattle.leaf_samples.specs.RaisedLaws.{sse-step}
 use borrow.Author.Needs.{needs}
 use Rattle.leaf_search.proofs.inner.block_sse.Statement.{statement}
 use Rattle.leaf_search.proofs.inner.block_sse.Tie as tie

@@ -3,7 +3,8 @@ use native.Mathlib.Omega.{arith}
 use mathlib.Core.Path.{_≡_, sym, _∙_, ap}
 use Prim.Native.Nat.{ℕ, _-_, _+_, _/_, min}
 use lib.IntN.{pos, subℕ}
-use Rattle.leaf.specs.RaisedLaws.{sub-pos, mean-up, mean-down-intra, mean-down-inter}
+use Rattle.bits.specs.DifferenceLaws.{sub-over}
+use Rattle.leaf_samples.specs.RaisedLaws.{mean-up, mean-down-intra, mean-down-inter}
 use borrow.Author.Needs.{needs}
 use Rattle.leaf_search.proofs.inner.mean_of_sums.Statement.{statement}
 use Rattle.leaf_search.proofs.inner.mean_of_sums.Tie as tie
@@ -46,7 +47,7 @@ returns c =
     let a = c .before .before .args in
     let q = (a .st - a .sp + a .n / 2) / a .n in
     let e : min 255 q ≡ q = omega arith in
-    (sub-pos 256 q ∙ sym (mean-up (a .half) (a .st) (a .sp) (a .n) (c .before .if1 .taken) ∙ ap pos e), search needs)
+    (sub-over 256 q ∙ sym (mean-up (a .half) (a .st) (a .sp) (a .n) (c .before .if1 .taken) ∙ ap pos e), search needs)
 
 returns-2 : tie.Need-returns-2
 returns-2 c =

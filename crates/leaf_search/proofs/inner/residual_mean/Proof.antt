@@ -1,6 +1,6 @@
 -- The sum of the differences is the difference of the two sums.
 use borrow.Author.Needs.{needs}
-use Rattle.leaf.specs.RaisedLaws.{residual-sums}
+use Rattle.leaf_samples.specs.RaisedLaws.{residual-sums}
 use Rattle.leaf_search.proofs.inner.residual_mean.Statement.{statement}
 use Rattle.leaf_search.proofs.inner.residual_mean.Tie as tie
 

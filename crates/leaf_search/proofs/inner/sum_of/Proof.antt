@@ -5,7 +5,7 @@ use Prim.Native.Nat.{_≤_, _*_, _-_, _+_}
 use lib.ListN.{length, drop}
 use lib.Seq.{drop-length}
 use Rattle.leaf.specs.Raised.{total}
-use Rattle.leaf.specs.RaisedLaws.{total-step}
+use Rattle.leaf_samples.specs.RaisedLaws.{total-step}
 use borrow.Author.Needs.{needs}
 use Rattle.leaf_search.proofs.inner.sum_of.Statement.{statement}
 use Rattle.leaf_search.proofs.inner.sum_of.Tie as tie

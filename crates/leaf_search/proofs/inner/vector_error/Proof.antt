@@ -4,7 +4,7 @@ use mathlib.Core.Path.{_≡_}
 use Prim.Native.Nat.{_≤_, _*_, _-_, _+_}
 use lib.ListN.{length}
 use Rattle.leaf.specs.Raised.{vectorError, vector}
-use Rattle.leaf.specs.RaisedLaws.{part-room}
+use Rattle.leaf_samples.specs.RaisedLaws.{part-room}
 use borrow.Author.Needs.{needs}
 use Rattle.leaf_search.proofs.inner.vector_error.Statement.{statement}
 use Rattle.leaf_search.proofs.inner.vector_error.Tie as tie

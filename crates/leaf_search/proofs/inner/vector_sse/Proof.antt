@@ -6,7 +6,7 @@ use lib.ListN.{length, drop}
 use lib.Seq.{drop-length}
 use Rattle.leaf.specs.Leaf.{sse, plus, samples}
 use Rattle.leaf.specs.Raised.{less}
-use Rattle.leaf.specs.RaisedLaws.{vector-step}
+use Rattle.leaf_samples.specs.RaisedLaws.{vector-step}
 use borrow.Author.Needs.{needs}
 use Rattle.leaf_search.proofs.inner.vector_sse.Statement.{statement}
 use Rattle.leaf_search.proofs.inner.vector_sse.Tie as tie

@@ -1,7 +1,7 @@
 -- Refused, or planned. Assumes nothing.
 use mathlib.Core.Path.{_≡_, refl, _∙_, sym}
 use Rattle.leaf.specs.LeafCall.{BlockIn, blockRefusal}
-use Rattle.leaf_search.specs.LeafAnswerLaws.{block-passes}
+use Rattle.leaf_call.specs.LeafAnswerLaws.{block-passes}
 use Rattle.plan.specs.PlanCallLaws.{plan-refused, plan-answered}
 use borrow.Author.Needs.{needs}
 use Rattle.plan.proofs.svq1_enc_tree.plan_macroblock.Statement.{statement}

@@ -1,11 +1,10 @@
 -- By a book's two tables. Assumes nothing.
 use Rattle.book.specs.Level.{levelNumber}
 use Rattle.leaf.specs.Raised.{leafOf}
-use Rattle.book.specs.LevelLaws.{level-most}
+use Rattle.book.specs.LevelLaws.{level-most, lent-stage}
 use mathlib.Core.Path.{_∙_, ap}
 use lib.ListN.{length}
 use Rattle.book.specs.BookLaws.{good-book}
-use Rattle.book.specs.LevelLaws.{lent-stage}
 use Rattle.leaf.specs.LentLaws.{book-bits, book-tables}
 use borrow.Author.Needs.{needs}
 use Rattle.leaf.proofs.inner.writing.book_leaf_bits.Statement.{statement}

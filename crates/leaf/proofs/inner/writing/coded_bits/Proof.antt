@@ -3,7 +3,7 @@ use mathlib.Core.Path.{_≡_, sym}
 use native.Mathlib.Omega.{arith}
 use mir.ValLaws.{toZ-ofZ}
 use mir.Syntax.{w16}
-use Rattle.leaf.specs.Mean.{meanPosition}
+use Rattle.codebook.specs.Mean.{meanPosition}
 use Rattle.leaf.specs.LentLaws.{coded-entries, coded-size}
 use borrow.Author.Needs.{needs}
 use Rattle.leaf.proofs.inner.writing.coded_bits.Statement.{statement}

@@ -4,8 +4,8 @@ use native.Mathlib.Omega.{arith}
 use lib.ListN.{length}
 use mir.ValLaws.{toZ-ofZ}
 use mir.Syntax.{w16}
-use Rattle.bits.specs.CodesLaws.{code-length}
-use Rattle.leaf.specs.Mean.{meanPosition}
+use Rattle.code_tables.specs.CodesLaws.{code-length}
+use Rattle.codebook.specs.Mean.{meanPosition}
 use Rattle.leaf.specs.LentLaws.{coded-parts, coded-wrote}
 use borrow.Author.Needs.{needs}
 use Rattle.leaf.proofs.inner.writing.put_coded.Statement.{statement}

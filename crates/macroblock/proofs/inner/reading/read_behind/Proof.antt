@@ -1,6 +1,6 @@
 -- SKIP, or a motion and a tree. Assumes nothing.
 use native.Mathlib.Omega.{arith}
-use Rattle.vectors.specs.Cache.{nearFrom}
+use Rattle.mv_cache.specs.Cache.{nearFrom}
 use Rattle.macroblock.specs.Mode.{modePosition}
 use Rattle.macroblock.specs.MacroblockReadLaws.{skip-found}
 use borrow.Author.Needs.{needs}

@@ -1,6 +1,6 @@
 -- What stands behind the mode. Assumes nothing.
 use native.Mathlib.Omega.{arith}
-use Rattle.vectors.specs.Cache.{nearFrom}
+use Rattle.mv_cache.specs.Cache.{nearFrom}
 use Rattle.macroblock.specs.FindingLaws.{reads-on}
 use Rattle.macroblock.specs.MacroblockReadLaws.{mode-refused, mode-found}
 use borrow.Author.Needs.{needs}

@@ -1,6 +1,6 @@
 -- The tree behind the motion. Assumes nothing.
 use native.Mathlib.Omega.{arith}
-use Rattle.vectors.specs.Cache.{nearFrom}
+use Rattle.mv_cache.specs.Cache.{nearFrom}
 use Rattle.macroblock.specs.Mode.{modePosition}
 use Rattle.macroblock.specs.FindingLaws.{reads-on}
 use Rattle.macroblock.specs.MacroblockReadLaws.{motion-refused, coded-found}

@@ -4,7 +4,7 @@ use mathlib.Core.Path.{refl}
 use mathlib.Core.List.{[]}
 use lib.ListN.{length}
 use native.Mathlib.Omega.{arith}
-use Rattle.vectors.specs.Cache.{nearFrom}
+use Rattle.mv_cache.specs.Cache.{nearFrom}
 use Rattle.macroblock.specs.FindingLaws.{reads-on, zeros-inside, first-refused, second-refused, third-refused, four-found}
 use borrow.Author.Needs.{needs}
 use Rattle.macroblock.proofs.inner.reading.read_four.Statement.{statement}

@@ -1,7 +1,7 @@
 -- One case for each mode. Assumes nothing.
 use mathlib.Core.Logic.{inl, inr}
 use native.Mathlib.Omega.{arith}
-use Rattle.vectors.specs.Cache.{nearFrom}
+use Rattle.mv_cache.specs.Cache.{nearFrom}
 use Rattle.macroblock.specs.FindingLaws.{one-found, fours-found, none-found}
 use borrow.Author.Needs.{needs}
 use Rattle.macroblock.proofs.inner.reading.read_motion.Statement.{statement}

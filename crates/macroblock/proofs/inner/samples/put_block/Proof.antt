@@ -4,7 +4,7 @@ use Prim.Native.Nat.{ℕ, _-_, _≤_}
 use native.Mathlib.Omega.{arith}
 use borrow.Author.Needs.{needs}
 use lib.ListN.{length}
-use Rattle.vectors.specs.PutLaws.{putTo, put-none, put-more, put-all, length-to, entry-steps}
+use Rattle.mv_cache.specs.PutLaws.{putTo, put-none, put-more, put-all, length-to, entry-steps}
 use Rattle.macroblock.proofs.inner.samples.put_block.Statement.{statement}
 use Rattle.macroblock.proofs.inner.samples.put_block.Tie as tie
 

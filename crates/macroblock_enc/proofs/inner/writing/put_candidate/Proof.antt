@@ -2,7 +2,7 @@
 use mathlib.Core.Path.{sym, _∙_}
 use native.Mathlib.Omega.{arith}
 use Rattle.bits.specs.InnerLaws.{wrote-more}
-use Rattle.vectors.specs.Cache.{nearFrom}
+use Rattle.mv_cache.specs.Cache.{nearFrom}
 use Rattle.tree.specs.WalkLaws.{wrote-as}
 use Rattle.macroblock_enc.specs.WrittenLaws.{skip-bits, coded-bits, mode-fits, coded-room}
 use borrow.Author.Needs.{needs}

@@ -1,7 +1,7 @@
 -- The tree behind the vectors. Assumes nothing.
 use native.Mathlib.Omega.{arith}
 use Rattle.bits.specs.InnerLaws.{wrote-more}
-use Rattle.vectors.specs.Cache.{nearFrom}
+use Rattle.mv_cache.specs.Cache.{nearFrom}
 use Rattle.tree.specs.Nodes.{treeOf}
 use Rattle.macroblock.specs.Motions.{motionOf}
 use Rattle.macroblock_enc.specs.WrittenLaws.{motion-fits, tree-room}

@@ -2,7 +2,7 @@
 use Prim.Native.Nat.{_+_, _*_, _≤_, _<_}
 use native.Mathlib.Omega.{arith}
 use lib.ListN.{length}
-use Rattle.vectors.specs.Cache.{nearFrom}
+use Rattle.mv_cache.specs.Cache.{nearFrom}
 use Rattle.macroblock_enc.specs.WrittenLaws.{wrote-candidate, wrote-nothing, laid-candidate, laid-nothing}
 use borrow.Author.Needs.{needs}
 use Rattle.macroblock_enc.proofs.inner.writing.write_chosen.Statement.{statement}

@@ -1,10 +1,10 @@
 -- What is chosen is written where it fits. Assumes nothing.
 use mathlib.Core.Path.{_≡_}
-use Rattle.vectors.specs.Cache.{nearFrom}
+use Rattle.mv_cache.specs.Cache.{nearFrom}
 use Rattle.macroblock.specs.Slices.{Slices, near}
 use Rattle.macroblock.specs.Inner.{givenBy}
 use Rattle.macroblock.specs.InnerLaws.{fits, vectors-held}
-use Rattle.macroblock_enc.specs.ChosenLaws.{sourced, near-around, write-ready, lay-ready, mb-written}
+use Rattle.macroblock_enc.specs.MbWrittenLaws.{sourced, near-around, write-ready, lay-ready, mb-written}
 use borrow.Author.Needs.{needs}
 use Rattle.macroblock_enc.proofs.inner.writing.write_macroblock.Statement.{statement}
 use Rattle.macroblock_enc.proofs.inner.writing.write_macroblock.Tie as tie

@@ -4,7 +4,7 @@ use Prim.Native.Nat.{_+_, _-_, _/_, _%_}
 use native.Mathlib.Omega.{arith}
 use borrow.Author.Tests.{not-true, not-false}
 use Rattle.vectors.specs.Canvas.{Canvas}
-use Rattle.motion.specs.RowsLaws.{read-full, summed-full}
+use Rattle.compensation.specs.RowsLaws.{read-full, summed-full}
 use Rattle.motion.specs.CandidatesLaws.{Both, not-x, better, no-better, held, reads-x, reads-y, read-in, judged}
 use borrow.Author.Needs.{needs}
 use Rattle.motion.proofs.inner.search.full_tried.Statement.{statement}

@@ -1,0 +1,84 @@
+-- The claim about a whole plane, written and read back (document 00, demand 3; document 01, "Behind demand 3").
+use Prim.Native.Nat.{ℕ, suc, _+_, _*_, _≤_, _<_}
+use mathlib.Core.Bool.{Bool}
+use mathlib.Core.List.{List}
+use mathlib.Core.Path.{_≡_}
+use lib.ListN.{length, take, drop}
+use Rattle.bits.specs.Basics.{All, Bytes, sum}
+use Rattle.bits.specs.Bits.{bitsOf, putBits}
+use Rattle.leaf.specs.Leaf.{sse}
+use Rattle.mv_cache.specs.Grid.{part}
+use Rattle.tree.specs.Plan.{total, prunedCost}
+use Rattle.plan.specs.PlanClaim.{largestLambda, planCost}
+use Rattle.macroblock.specs.declared.svq1_enc_inter.Svq1MbMode.the-variants.{Skip}
+use Rattle.macroblock.specs.Macroblock.{Given, cols, Choice, modeBits}
+use Rattle.macroblock.specs.Choice.{Task, paddedSource, target, motionsTried, planningFor, tried, weightOf}
+use Rattle.macroblock.specs.Slices.{Slices, near}
+use Rattle.plane.specs.Plane.{count, Writing, wrote, wroteWeight, wroteBits, writePlane, writingAt, readUpTo, readPlane}
+use Rattle.plane.specs.Calls.{writeRefusal, readRefusal, slicesRefusal}
+
+-- macroblock k, written in state s, leads to state u: it appends exactly the bits that it states
+pub record Appended (g : Given) (t : Task) (k : ℕ) (s u : Writing) : Type 0 where
+  pub stated : wroteWeight g t k s .bits ≡ length (wroteBits g t k s)
+  pub output : u .out ≡ putBits (s .out) (s .next) (wroteBits g t k s)
+  pub next : u .next ≡ s .next + wroteWeight g t k s .bits
+  pub bits : u .bits ≡ s .bits + wroteWeight g t k s .bits
+  pub error : u .error ≡ s .error + wroteWeight g t k s .err
+
+-- reading the bytes from bit start into the slices d is not refused, takes for each macroblock the bits that the writer appended, and ends as the writer ended; `s k` is the writer's state before macroblock k
+pub record ReadBack (g : Given) (bytes : List ℕ) (start : ℕ) (d : Slices) (s : ℕ → Writing) : Type 0 where
+  pub accepted : readRefusal g bytes start d ≡ 0
+  pub goes-on : (k : ℕ) → k ≤ count g → readUpTo g (bitsOf bytes) start d k .refusal ≡ 0
+  pub reads : (k : ℕ) → k ≤ count g → readUpTo g (bitsOf bytes) start d k .done ≡ k
+  pub same-bit : (k : ℕ) → k ≤ count g → readUpTo g (bitsOf bytes) start d k .state .next ≡ s k .next
+  pub ends : readPlane g (bitsOf bytes) start d .state .next ≡ s (count g) .next
+  pub recon : readPlane g (bitsOf bytes) start d .state .slices .recon ≡ s (count g) .slices .recon
+  pub vx : take (4 * count g) (readPlane g (bitsOf bytes) start d .state .slices .vx) ≡ take (4 * count g) (s (count g) .slices .vx)
+  pub vy : take (4 * count g) (readPlane g (bitsOf bytes) start d .state .slices .vy) ≡ take (4 * count g) (s (count g) .slices .vy)
+  pub rest-vx : drop (4 * count g) (readPlane g (bitsOf bytes) start d .state .slices .vx) ≡ drop (4 * count g) (d .vx)
+  pub rest-vy : drop (4 * count g) (readPlane g (bitsOf bytes) start d .state .slices .vy) ≡ drop (4 * count g) (d .vy)
+
+-- a plane written from bit start of the bytes out, with the result slices a: the state before macroblock k, and the state at the end
+module _ (g : Given) (t : Task) (out : List ℕ) (start : ℕ) (a : Slices) where
+  abbrev pub stateAt : ℕ → Writing
+  stateAt = writingAt g t (bitsOf out) start a
+
+  abbrev pub final : Writing
+  final = stateAt (count g)
+
+  -- what any mode costs for macroblock k, with the vectors that those before it left
+  abbrev pub costOf : ℕ → Choice → ℕ
+  costOf k c = total (t .lambda) (weightOf g t k (near g (stateAt k .slices) k) c)
+
+  -- the seven sentences of demand 3, numbered as there
+  pub record Claim : Type 0 where
+    -- the run reaches the last macroblock with these states
+    pub reaches : writePlane g t (bitsOf out) start a ≡ record { refusal = 0; done = count g; state = final }
+    -- 1. each macroblock appends exactly its stated bits
+    pub appends : (k : ℕ) → k < count g → Appended g t k (stateAt k) (stateAt (suc k))
+    -- 2. its stated error is its reconstruction's squared distance from the padded source
+    pub error : (k : ℕ) → k < count g → wroteWeight g t k (stateAt k) .err ≡ sse (target g t k) (part 16 (cols g) k (final .slices .recon))
+    -- 3. both totals are the sums of these, and the next bit is the start bit plus the bit total
+    pub bit-total : final .bits ≡ sum (λ k. wroteWeight g t k (stateAt k) .bits) (count g)
+    pub error-total : final .error ≡ sum (λ k. wroteWeight g t k (stateAt k) .err) (count g)
+    pub next-bit : final .next ≡ start + final .bits
+    -- what lies behind the block vectors stays
+    pub rest-vx : drop (4 * count g) (final .slices .vx) ≡ drop (4 * count g) (a .vx)
+    pub rest-vy : drop (4 * count g) (final .slices .vy) ≡ drop (4 * count g) (a .vy)
+    -- 4. the reader, given the bytes that hold that output and any slices that pass 20, takes exactly those bits and ends with the writer's next bit, reconstruction and block vectors
+    pub read-back : (bytes : List ℕ) (d : Slices) → bitsOf bytes ≡ final .out → slicesRefusal g d ≡ 0 → ReadBack g bytes start d stateAt
+    -- 5. in each plan every other pruning over the same leaf choices costs at least as much
+    pub no-pruning-cheaper : (k : ℕ) → k < count g → All (λ m. (cut : ℕ → Bool) → planCost (planningFor g t k m) ≤ prunedCost (planningFor g t k m) cut) (motionsTried g t k (near g (stateAt k .slices) k))
+    -- 6. no mode tried costs less than the one written
+    pub no-mode-cheaper : (k : ℕ) → k < count g → All (λ c. costOf k (wrote g t k (stateAt k)) ≤ costOf k c) (tried g t k (near g (stateAt k .slices) k))
+    -- 7. squared error plus lambda times bits is never above that of skipping every macroblock
+    pub never-above-skipping : final .error + t .lambda * final .bits ≤ sse (paddedSource g t) (g .reference .samples) + t .lambda * (length (modeBits g Skip) * count g)
+
+  -- source and reference are byte slices
+  pub record InMemory : Type 0 where
+    pub source : Bytes (t .source)
+    pub reference : Bytes (g .reference .samples)
+
+  -- what has to be shown of every plane: one that no refusal meets, with lambda at most 2^48, written to its last macroblock
+  abbrev pub Claimed : Type 0
+  Claimed = InMemory → writeRefusal g t out start a ≡ 0 → t .lambda ≤ largestLambda → writePlane g t (bitsOf out) start a .refusal ≡ 0 → Claim

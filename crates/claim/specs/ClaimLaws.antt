@@ -1,0 +1,323 @@
+-- The claim about a whole plane holds: of every accepted plane that is written to its last macroblock.
+-- Assumes nothing.
+use mathlib.Core.Path.{_≡_, refl, sym, ap, ap₂, _∙_}
+use Prim.Native.Nat.{ℕ, zero, suc, _+_, _-_, _*_, _≤_, _<_}
+use native.Mathlib.Omega.{arith}
+use native.Mathlib.Nat.{add-zero, zero-add, add-suc, suc-add, le-refl, mul-add, mul-suc}
+use mathlib.Core.Bool.{true}
+use mathlib.Core.List.{List, [], _∷_, _++_, append-assoc, map}
+use lib.ListN.{length, take, drop, length-append, length-drop}
+use lib.Seq.{length-take-le}
+use borrow.Author.Tests.{leb-true}
+use Rattle.bits.specs.Basics.{All, sum, signedByte}
+use Rattle.bits.specs.Bits.{bitsOf, putBits, afterBits}
+use Rattle.bits.specs.BitsLaws.{put-nil, put-put, drop-put, put-length, length-bitsOf}
+use Rattle.bits.specs.Calls.{startRefusal}
+use Rattle.book.specs.BookLaws.{data-passes}
+use Rattle.leaf.specs.Leaf.{sse}
+use Rattle.mv_cache.specs.Grid.{part}
+use Rattle.mv_cache.specs.GridLaws.{part-own, part-other, agree-whole, agree-take}
+use Rattle.mv_cache.specs.NeighboursLaws.{Ranged, ranged-put, stored-x, stored-y, Around, around}
+use Rattle.tree.specs.Plan.{Weight}
+use Rattle.plan.specs.PlanClaim.{largestLambda}
+use Rattle.macroblock.specs.declared.svq1_enc_inter.Svq1MbMode.the-variants.{Skip}
+use Rattle.macroblock.specs.Macroblock.{Given, cols, rows, Choice, vectorsOf, shown, referenceBlock, modeBits, choiceBits}
+use Rattle.macroblock.specs.Choice.{Task, paddedSource, target, motionsTried, tried, weightOf}
+use Rattle.macroblock.specs.MacroblockLaws.{Good, chosen-good, chosen-least, unpruned}
+use Rattle.macroblock.specs.InnerLaws.{four-each}
+use Rattle.macroblock.specs.Reading.{readMacroblock}
+use Rattle.plane.specs.Run.{on, End, after}
+use Rattle.plane.specs.RunLaws.{testing, run-on, run-fits}
+use Rattle.macroblock.specs.Slices.{Slices, near, laid}
+use Rattle.plane.specs.Plane.{count, Writing, wrote, wroteWeight, wroteBits, fits, written, toWrite, writePlane, ReadingState, taken, readStep, readUpTo, readPlane}
+use Rattle.plane.specs.Calls.{slicesRefusal, readRefusal}
+use Rattle.plane.specs.SlicesLaws.{Sized, holds-recon, holds-vx, holds-vy, laid-sized, Alike, alike-laid, alike-near, laid-past-vx, laid-past-vy}
+use Rattle.claim.specs.SumLaws.{sse-blocks}
+use Rattle.claim.specs.Claim.{Appended, ReadBack, stateAt, final, costOf, Claimed}
+use Rattle.claim.specs.AcceptedLaws.{Accepted, results-pass, accepted, slices-sized, padded-size}
+
+-- ---- the run
+module _ (g : Given) (t : Task) (ok : Accepted g t) (out : List ℕ) (start : ℕ) (a : Slices) (sized : Sized g a)
+    (whole : writePlane g t (bitsOf out) start a .refusal ≡ 0) where
+  abbrev S : ℕ → Writing
+  S = stateAt g t out start a
+
+  abbrev W : ℕ → Choice
+  W k = wrote g t k (S k)
+
+  abbrev weigh : ℕ → Weight
+  weigh k = wroteWeight g t k (S k)
+
+  abbrev E : Writing
+  E = final g t out start a
+
+  abbrev bitsAt : ℕ → List ℕ
+  bitsAt k = wroteBits g t k (S k)
+
+  good : (k : ℕ) → Good g t (ok .fine) k (near g (S k .slices) k) (W k)
+  good k = chosen-good g t (ok .fine) k (near g (S k .slices) k)
+
+  stated : (k : ℕ) → weigh k .bits ≡ length (bitsAt k)
+  unfolding weightOf
+  stated k = refl
+
+  erring : (k : ℕ) → weigh k .err ≡ sse (target g t k) (shown g k (W k))
+  unfolding weightOf
+  erring k = refl
+
+  fit : (k : ℕ) → k < count g → fits g t k (S k) ≡ true
+  unfolding after writePlane
+  fit k h = run-fits 21 (fits g t) (written g t) (toWrite (bitsOf out) start a) (count g) 0 whole k (omega arith) (omega arith)
+
+  room : (k : ℕ) → k < count g → S k .next + weigh k .bits ≤ length (S k .out)
+  room k h = leb-true (S k .next + weigh k .bits) (length (S k .out)) (fit k h)
+
+  pub reached : writePlane g t (bitsOf out) start a ≡ record { refusal = 0; done = count g; state = E }
+  unfolding after writePlane
+  reached =
+      run-on (testing 22 (fits g t) (written g t)) S (count g) 0 (λ j q l. rw (fit j (omega arith)))
+      ∙ ap (λ (i : ℕ). record { refusal = 0; done = i; state = S i }) (zero-add (count g))
+
+  pub appended : (k : ℕ) → k < count g → Appended g t k (S k) (S (suc k))
+  unfolding after written
+  appended k h = record { stated = stated k; output = refl; next = refl; bits = refl; error = refl }
+
+  -- ---- the output, from macroblock k on
+  bitsFrom : ℕ → ℕ → List ℕ
+  bitsFrom zero k = []
+  bitsFrom (suc m) k = bitsAt k ++ bitsFrom m (suc k)
+
+  out-later : (m k : ℕ) → k + m ≤ count g → S (k + m) .out ≡ putBits (S k .out) (S k .next) (bitsFrom m k)
+  unfolding bitsFrom
+  out-later zero k h = rw add-zero (sym (put-nil (S k .out) (S k .next)))
+  out-later (suc m) k h =
+      let p = appended k (omega arith) in
+      let nx : S (suc k) .next ≡ S k .next + length (bitsAt k) = p .next ∙ ap (λ (i : ℕ). S k .next + i) (p .stated) in
+      let l : S k .next ≤ length (S k .out) = omega (arith, room k (omega arith)) in
+      ap (λ (i : ℕ). S i .out) (add-suc k m ∙ sym (suc-add k m))
+      ∙ out-later m (suc k) (omega arith)
+      ∙ ap₂ (λ (o : List ℕ) (i : ℕ). putBits o i (bitsFrom m (suc k))) (p .output) nx
+      ∙ put-put (S k .out) (bitsAt k) (bitsFrom m (suc k)) (S k .next) l
+
+  out-from : (k : ℕ) → k < count g → E .out ≡ putBits (S k .out) (S k .next) (bitsAt k ++ bitsFrom (count g - suc k) (suc k))
+  unfolding bitsFrom
+  out-from k h =
+      let q : count g ≡ k + suc (count g - suc k) = omega arith in
+      ap (λ (i : ℕ). S i .out) q ∙ out-later (suc (count g - suc k)) k (omega arith)
+
+  -- macroblock k's bits stand at its bit, and something after them
+  stands : (k : ℕ) → k < count g → (r : List ℕ) × (drop (S k .next) (E .out) ≡ bitsAt k ++ r) × (S k .next ≤ length (E .out))
+  unfolding putBits
+  stands k h =
+      let l : S k .next ≤ length (S k .out) = omega (arith, room k h) in
+      let xs : List ℕ = bitsAt k ++ bitsFrom (count g - suc k) (suc k) in
+      let q = out-from k h in (
+        bitsFrom (count g - suc k) (suc k) ++ afterBits (S k .out) (S k .next) xs,
+        rw q (drop-put (S k .out) xs (S k .next) l ∙ append-assoc (bitsAt k) _ _),
+        rw q (rw (length-append (take (S k .next) (S k .out)) _, length-take-le (S k .next) (S k .out) l) (omega arith)),
+      )
+
+  -- ---- the slices
+  sized-at : (k : ℕ) → Sized g (S k .slices)
+  unfolding after written
+  sized-at zero = sized
+  sized-at (suc k) = laid-sized g (ok .wide) k (W k) (S k .slices) (sized-at k)
+
+  -- every vector stored is in -32..31, and so every predictor of the run (refusal 9 is never met)
+  ranged-x : (k : ℕ) → k ≤ count g → Ranged (cols g) k (S k .slices .vx)
+  unfolding after written laid
+  ranged-x zero h = λ j l. absurd (omega arith)
+  ranged-x (suc k) h =
+      ranged-put (cols g) k (map (λ v. signedByte (v .x)) (vectorsOf (W k))) (S k .slices .vx) (holds-vx g (ok .wide) (S k .slices) (suc k) h (sized-at k))
+      (ranged-x k (omega arith)) (stored-x (vectorsOf (W k)) (good k .inside))
+
+  ranged-y : (k : ℕ) → k ≤ count g → Ranged (cols g) k (S k .slices .vy)
+  unfolding after written laid
+  ranged-y zero h = λ j l. absurd (omega arith)
+  ranged-y (suc k) h =
+      ranged-put (cols g) k (map (λ v. signedByte (v .y)) (vectorsOf (W k))) (S k .slices .vy) (holds-vy g (ok .wide) (S k .slices) (suc k) h (sized-at k))
+      (ranged-y k (omega arith)) (stored-y (vectorsOf (W k)) (good k .inside))
+
+  pub all-around : (k : ℕ) → k ≤ count g → Around (near g (S k .slices) k)
+  all-around k h = around (cols g) (rows g) k (S k .slices .vx) (S k .slices .vy) (ranged-x k h) (ranged-y k h)
+
+  -- any slices with the first k macroblocks laid
+  shownTo : Slices → ℕ → Slices
+  shownTo d zero = d
+  shownTo d (suc k) = laid g k (W k) (shownTo d k)
+
+  shown-sized : (d : Slices) → Sized g d → (k : ℕ) → Sized g (shownTo d k)
+  unfolding shownTo
+  shown-sized d z zero = z
+  shown-sized d z (suc k) = laid-sized g (ok .wide) k (W k) (shownTo d k) (shown-sized d z k)
+
+  never : (j : ℕ) {X : Type 0} → j < 0 → X
+  never j h = absurd (omega arith)
+
+  alike : (d : Slices) → Sized g d → (k : ℕ) → k ≤ count g → Alike g (ok .wide) k (shownTo d k) (S k .slices)
+  unfolding shownTo after written
+  alike d z zero h = record { recon = λ j l. never _ l; vx = λ j l. never _ l; vy = λ j l. never _ l }
+  alike d z (suc k) h =
+      alike-laid g (ok .wide) k (W k) (shownTo d k) (S k .slices) h (shown-sized d z k) (sized-at k) (alike d z k (omega arith))
+
+  past-vx : (d : Slices) (k : ℕ) → k ≤ count g → drop (4 * count g) (shownTo d k .vx) ≡ drop (4 * count g) (d .vx)
+  unfolding shownTo
+  past-vx d zero h = refl
+  past-vx d (suc k) h = laid-past-vx g (ok .wide) k (W k) (shownTo d k) h ∙ past-vx d k (omega arith)
+
+  past-vy : (d : Slices) (k : ℕ) → k ≤ count g → drop (4 * count g) (shownTo d k .vy) ≡ drop (4 * count g) (d .vy)
+  unfolding shownTo
+  past-vy d zero h = refl
+  past-vy d (suc k) h = laid-past-vy g (ok .wide) k (W k) (shownTo d k) h ∙ past-vy d k (omega arith)
+
+  -- the writer's slices are its own with every macroblock laid
+  slices-are : (k : ℕ) → S k .slices ≡ shownTo a k
+  unfolding shownTo after written
+  slices-are zero = refl
+  slices-are (suc k) = ap (laid g k (W k)) (slices-are k)
+
+  pub rest-vx : drop (4 * count g) (E .slices .vx) ≡ drop (4 * count g) (a .vx)
+  rest-vx = ap (λ (u : Slices). drop (4 * count g) (u .vx)) (slices-are (count g)) ∙ past-vx a (count g) (le-refl (count g))
+
+  pub rest-vy : drop (4 * count g) (E .slices .vy) ≡ drop (4 * count g) (a .vy)
+  rest-vy = ap (λ (u : Slices). drop (4 * count g) (u .vy)) (slices-are (count g)) ∙ past-vy a (count g) (le-refl (count g))
+
+  -- ---- reading back
+  abbrev R : Slices → ℕ → ReadingState
+  R d k = record { next = S k .next; slices = shownTo d k }
+
+  read-one : (d : Slices) → Sized g d → (k : ℕ) → k < count g → readStep g (E .out) k (R d k) ≡ on (R d (suc k))
+  unfolding readStep shownTo
+  read-one d z k h =
+      let here = stands k h in
+      let r : List ℕ = here .0 in
+      let p = appended k h in
+      let len : length (E .out) - S k .next ≡ length (bitsAt k) + length r =
+      sym (length-drop (S k .next) (E .out)) ∙ ap length (here .1) ∙ length-append (bitsAt k) r in
+      let nx : length (E .out) - length r ≡ S (suc k) .next = omega (arith, here .2, p .next, p .stated) in
+      ap (taken g (length (E .out)) k (shownTo d k))
+      (ap₂ (readMacroblock g) (alike-near g (ok .wide) k (shownTo d k) (S k .slices) (alike d z k (omega arith))) (here .1) ∙ good k .reads r)
+      ∙ ap (λ (i : ℕ). on (record { next = i; slices = laid g k (W k) (shownTo d k) })) nx
+
+  read-to : (d : Slices) → Sized g d → (k : ℕ) → k ≤ count g → readUpTo g (E .out) start d k ≡ record { refusal = 0; done = k; state = R d k }
+  unfolding after shownTo readUpTo
+  read-to d z k h =
+      run-on (readStep g (E .out)) (R d) k 0 (λ j q l. read-one d z j (omega arith))
+      ∙ ap (λ (i : ℕ). record { refusal = 0; done = i; state = R d i }) (zero-add k)
+
+  -- ---- the output keeps its length
+  long : (k : ℕ) → k ≤ count g → length (S k .out) ≡ 8 * length out
+  unfolding after written
+  long zero h = length-bitsOf out
+  long (suc k) h =
+      let e = long k (omega arith) in
+      put-length (S k .out) (bitsAt k) (S k .next) (rw e (omega arith)) (omega (arith, room k h, stated k)) ∙ e
+
+  same-length : (bytes : List ℕ) → bitsOf bytes ≡ E .out → length bytes ≡ length out
+  same-length bytes e = omega (arith, length-bitsOf bytes, ap length e, long (count g) (le-refl (count g)))
+
+  pub read-back : (bytes : List ℕ) (d : Slices) → bitsOf bytes ≡ E .out → startRefusal (length out) start ≡ 0 → slicesRefusal g d ≡ 0 → ReadBack g bytes start d S
+  unfolding readRefusal readPlane
+  read-back bytes d e st sl =
+      let n : ℕ = count g in
+      let z = slices-sized g t ok d sl in
+      let x = alike d z n (le-refl n) in
+      let zd = shown-sized d z n in
+      let ze = sized-at n in
+      let to : (k : ℕ) → k ≤ n → readUpTo g (bitsOf bytes) start d k ≡ record { refusal = 0; done = k; state = R d k } = λ k h. rw e (read-to d z k h) in
+      let f : readUpTo g (bitsOf bytes) start d n .state .slices ≡ shownTo d n = ap (λ (u : End ReadingState). u .state .slices) (to n (le-refl n)) in
+      record {
+        accepted = rw (ok .size-passes, ok .canvas-passes, ok .data-passes, sl, same-length bytes e, st);
+        goes-on = λ k h. ap (λ (u : End ReadingState). u .refusal) (to k h);
+        reads = λ k h. ap (λ (u : End ReadingState). u .done) (to k h);
+        same-bit = λ k h. ap (λ (u : End ReadingState). u .state .next) (to k h);
+        ends = ap (λ (u : End ReadingState). u .state .next) (to n (le-refl n));
+        recon = ap (λ (u : Slices). u .recon) f ∙ agree-whole 16 (cols g) (omega arith) (ok .wide) (rows g) _ _ (x .recon) (zd .recon) (ze .recon);
+        vx = ap (λ (u : Slices). take (4 * n) (u .vx)) f ∙ agree-take 2 (cols g) (omega arith) (ok .wide) (rows g) _ _ (x .vx) (4 * n) (four-each (rows g) (cols g)) (zd .vx) (ze .vx);
+        vy = ap (λ (u : Slices). take (4 * n) (u .vy)) f ∙ agree-take 2 (cols g) (omega arith) (ok .wide) (rows g) _ _ (x .vy) (4 * n) (four-each (rows g) (cols g)) (zd .vy) (ze .vy);
+        rest-vx = ap (λ (u : Slices). drop (4 * n) (u .vx)) f ∙ past-vx d n (le-refl n);
+        rest-vy = ap (λ (u : Slices). drop (4 * n) (u .vy)) f ∙ past-vy d n (le-refl n);
+      }
+
+  -- ---- errors
+  part-later : (m k : ℕ) → suc k + m ≤ count g → part 16 (cols g) k (S (suc k + m) .slices .recon) ≡ shown g k (W k)
+  unfolding after written laid
+  part-later zero k h =
+      rw (add-zero (suc k)) (part-own 16 (cols g) (omega arith) (ok .wide) k (shown g k (W k)) (S k .slices .recon)
+      (holds-recon g (ok .wide) (S k .slices) (suc k) (omega arith) (sized-at k)) (good k .block .size))
+  part-later (suc m) k h =
+      rw (add-suc (suc k) m) (part-other 16 (cols g) (omega arith) (ok .wide) k (suc k + m) (shown g (suc k + m) (W (suc k + m))) (S (suc k + m) .slices .recon)
+      (holds-recon g (ok .wide) (S (suc k + m) .slices) (suc k) (omega arith) (sized-at (suc k + m))) (omega arith)
+      ∙ part-later m k (omega arith))
+
+  pub error-is : (k : ℕ) → k < count g → weigh k .err ≡ sse (target g t k) (part 16 (cols g) k (E .slices .recon))
+  error-is k h =
+      let q : suc k + (count g - suc k) ≡ count g = omega arith in
+      erring k ∙ ap (sse (target g t k)) (sym (part-later (count g - suc k) k (omega arith)) ∙ ap (λ (i : ℕ). part 16 (cols g) k (S i .slices .recon)) q)
+
+  -- ---- totals
+  pub bits-to : (m : ℕ) → S m .bits ≡ sum (λ k. weigh k .bits) m
+  unfolding after written sum
+  bits-to zero = refl
+  bits-to (suc m) = ap (λ (i : ℕ). i + weigh m .bits) (bits-to m)
+
+  pub errors-to : (m : ℕ) → S m .error ≡ sum (λ k. weigh k .err) m
+  unfolding after written sum
+  errors-to zero = refl
+  errors-to (suc m) = ap (λ (i : ℕ). i + weigh m .err) (errors-to m)
+
+  pub next-to : (m : ℕ) → S m .next ≡ start + S m .bits
+  unfolding after written
+  next-to zero = sym (add-zero start)
+  next-to (suc m) = omega (arith, next-to m)
+
+  -- ---- against skipping
+  abbrev skipError : ℕ → ℕ
+  skipError k = sse (target g t k) (referenceBlock g k)
+
+  abbrev skipLength : ℕ
+  skipLength = length (modeBits g Skip)
+
+  module _ (low : t .lambda ≤ largestLambda) where
+    pub cheapest : (k : ℕ) → All (λ c. costOf g t out start a k (W k) ≤ costOf g t out start a k c) (tried g t k (near g (S k .slices) k))
+    cheapest k = chosen-least g t (ok .fine) low k (near g (S k .slices) k)
+
+    under-skip : (k : ℕ) → weigh k .err + t .lambda * weigh k .bits ≤ skipError k + t .lambda * skipLength
+    unfolding tried weightOf choiceBits shown
+    under-skip k = cheapest k .0
+
+    under-skipping : (m : ℕ) → S m .error + t .lambda * S m .bits ≤ sum skipError m + t .lambda * (skipLength * m)
+    unfolding after written sum
+    under-skipping zero = omega arith
+    under-skipping (suc m) = rw (mul-add, mul-suc, mul-add) (omega (arith, under-skipping m, under-skip m))
+
+    pub never-above : E .error + t .lambda * E .bits ≤ sse (paddedSource g t) (g .reference .samples) + t .lambda * (skipLength * count g)
+    unfolding target referenceBlock
+    never-above =
+        rw (sse-blocks 16 (cols g) (rows g) (omega arith) (ok .wide) (paddedSource g t) (g .reference .samples) (padded-size g t ok) (ok .reference-size))
+        at (under-skipping (count g))
+
+every : {A : Type 0} {P : A → Type 0} (xs : List A) → ((x : A) → P x) → All P xs
+every [] h = tt
+every (x ∷ xs) h = (h x, every xs h)
+
+-- the claim holds of every plane
+pub claimed : (g : Given) (t : Task) (out : List ℕ) (start : ℕ) (a : Slices) → Claimed g t out start a
+claimed g t out start a mem e low whole =
+    let ok = accepted g t out start a mem e in
+    let passes = results-pass g t out start a e in
+    let sized = slices-sized g t ok a (passes .0) in
+    record {
+      reaches = reached g t ok out start a sized whole;
+      appends = appended g t ok out start a sized whole;
+      error = error-is g t ok out start a sized whole;
+      bit-total = bits-to g t ok out start a sized whole (count g);
+      error-total = errors-to g t ok out start a sized whole (count g);
+      next-bit = next-to g t ok out start a sized whole (count g);
+      rest-vx = rest-vx g t ok out start a sized whole;
+      rest-vy = rest-vy g t ok out start a sized whole;
+      read-back = λ bytes d h s. read-back g t ok out start a sized whole bytes d h (passes .1) s;
+      no-pruning-cheaper = λ k h. every (motionsTried g t k _) (λ m. unpruned g t (ok .fine) low k m);
+      no-mode-cheaper = λ k h. cheapest g t ok out start a sized whole low k;
+      never-above-skipping = never-above g t ok out start a sized whole low;
+    }

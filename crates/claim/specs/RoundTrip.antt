@@ -1,0 +1,41 @@
+-- A plane written and read back, in memory (document 00, demand 3).
+use mathlib.Core.Path.{_≡_}
+use mathlib.Core.List.{List}
+use Prim.Native.Nat.{ℕ, _*_, _≤_}
+use lib.ListN.{take, drop}
+use Rattle.bits.specs.Bits.{bitsOf}
+use Rattle.plan.specs.PlanClaim.{largestLambda}
+use Rattle.macroblock.specs.Macroblock.{Given}
+use Rattle.macroblock.specs.Choice.{Task}
+use Rattle.macroblock.specs.Slices.{Slices}
+use Rattle.plane.specs.Plane.{count}
+use Rattle.plane.specs.Calls.{PlaneAnswer, PlaneWritten, PlaneRead, writeRefusal, slicesRefusal}
+use Rattle.claim.specs.Claim.{final, Claim}
+
+-- the writer's answer w and what it left, out' and a', are the end that the claim speaks of
+pub record Ended (g : Given) (t : Task) (out : List ℕ) (start : ℕ) (a : Slices) (w : PlaneAnswer) (out' : List ℕ) (a' : Slices) : Type 0 where
+  pub done : w .done ≡ count g
+  pub next : w .next ≡ final g t out start a .next
+  pub bits : w .bits ≡ final g t out start a .bits
+  pub error : w .error ≡ final g t out start a .error
+  pub output : bitsOf out' ≡ final g t out start a .out
+  pub slices : a' ≡ final g t out start a .slices
+
+-- the reader's answer r and what it left, d', are the writer's; behind the block vectors d' is d
+pub record Returned (g : Given) (w r : PlaneAnswer) (a' d d' : Slices) : Type 0 where
+  pub refusal : r .refusal ≡ 0
+  pub done : r .done ≡ w .done
+  pub next : r .next ≡ w .next
+  pub recon : d' .recon ≡ a' .recon
+  pub vx : take (4 * count g) (d' .vx) ≡ take (4 * count g) (a' .vx)
+  pub vy : take (4 * count g) (d' .vy) ≡ take (4 * count g) (a' .vy)
+  pub rest-vx : drop (4 * count g) (d' .vx) ≡ drop (4 * count g) (d .vx)
+  pub rest-vy : drop (4 * count g) (d' .vy) ≡ drop (4 * count g) (d .vy)
+
+-- a plane written with the slices a and read back from what was left with the slices d: both calls answer as they do alone,
+-- and of every plane that no refusal meets, with lambda at most 2^48, written to its last macroblock, the claim holds, and it holds of memory
+pub record RoundTrip (g : Given) (t : Task) (out : List ℕ) (start : ℕ) (a d : Slices) (w r : PlaneAnswer) (out' : List ℕ) (a' d' : Slices) : Type 0 where
+  pub wrote : PlaneWritten g t out start a w out' (a' .recon) (a' .vx) (a' .vy)
+  pub read : PlaneRead g out' start d r (d' .recon) (d' .vx) (d' .vy)
+  pub claim : writeRefusal g t out start a ≡ 0 → t .lambda ≤ largestLambda → w .refusal ≡ 0 → Claim g t out start a × Ended g t out start a w out' a'
+  pub returned : writeRefusal g t out start a ≡ 0 → t .lambda ≤ largestLambda → w .refusal ≡ 0 → slicesRefusal g d ≡ 0 → Returned g w r a' d d'

@@ -1,0 +1,105 @@
+-- The claim holds of a plane written and read back in memory.
+-- Assumes nothing.
+use mathlib.Core.Path.{_≡_, sym, ap, _∙_}
+use mathlib.Core.List.{List}
+use Prim.Native.Nat.{ℕ, _*_, _≤_}
+use native.Mathlib.Nat.{le-refl}
+use borrow.Author.Tests.{eq-eqb}
+use lib.ListN.{take, drop}
+use Rattle.bits.specs.Bits.{bitsOf}
+use Rattle.plan.specs.PlanClaim.{largestLambda}
+use Rattle.macroblock.specs.Macroblock.{Given}
+use Rattle.macroblock.specs.Choice.{Task}
+use Rattle.macroblock.specs.Slices.{Slices}
+use Rattle.plane.specs.Run.{End}
+use Rattle.plane.specs.Plane.{count, Writing, writePlane, ReadingState, readPlane}
+use Rattle.plane.specs.Calls.{PlaneAnswer, PlaneWritten, PlaneRead, writeRefusal, readRefusal, slicesRefusal, writtenAnswer, endAnswer, writeAnswer, writeOut, writeSlices, readPlaneAnswer, readSlices}
+use Rattle.claim.specs.Claim.{stateAt, Claim, InMemory, ReadBack}
+use Rattle.claim.specs.ClaimLaws.{claimed}
+use Rattle.claim.specs.RoundTrip.{Ended, Returned, RoundTrip}
+
+module _ (g : Given) (t : Task) (out : List ℕ) (start : ℕ) (a d : Slices) (w r : PlaneAnswer) (out' : List ℕ) (a' d' : Slices) (mem : InMemory g t out start a)
+    (wrote : PlaneWritten g t out start a w out' (a' .recon) (a' .vx) (a' .vy)) (read : PlaneRead g out' start d r (d' .recon) (d' .vx) (d' .vy)) where
+  module _ (passes : writeRefusal g t out start a ≡ 0) (most : t .lambda ≤ largestLambda) (whole : w .refusal ≡ 0) where
+    abbrev e : End Writing
+    e = writePlane g t (bitsOf out) start a
+
+    -- an accepted call answers and leaves the plane's end
+    answered : w ≡ writtenAnswer e
+    unfolding writeAnswer
+    answered = wrote .answer ∙ rw (eq-eqb (writeRefusal g t out start a) 0 passes)
+
+    put : bitsOf out' ≡ e .state .out
+    unfolding writeOut
+    put = wrote .left-out ∙ rw (eq-eqb (writeRefusal g t out start a) 0 passes)
+
+    laid : writeSlices g t out start a ≡ e .state .slices
+    unfolding writeSlices
+    laid = rw (eq-eqb (writeRefusal g t out start a) 0 passes)
+
+    holds : Claim g t out start a
+    holds = claimed g t out start a mem passes most (sym (ap (λ (x : PlaneAnswer). x .refusal) answered) ∙ whole)
+
+    trip-ended : Ended g t out start a w out' a'
+    trip-ended =
+        let s = holds .reaches in
+        record {
+          done = ap (λ (x : PlaneAnswer). x .done) answered ∙ ap (λ (x : End Writing). x .done) s;
+          next = ap (λ (x : PlaneAnswer). x .next) answered ∙ ap (λ (x : End Writing). x .state .next) s;
+          bits = ap (λ (x : PlaneAnswer). x .bits) answered ∙ ap (λ (x : End Writing). x .state .bits) s;
+          error = ap (λ (x : PlaneAnswer). x .error) answered ∙ ap (λ (x : End Writing). x .state .error) s;
+          output = put ∙ ap (λ (x : End Writing). x .state .out) s;
+          slices = same ∙ laid ∙ ap (λ (x : End Writing). x .state .slices) s;
+        }
+      where
+        same : a' ≡ writeSlices g t out start a
+        same = rw (← wrote .left-recon, ← wrote .left-vx, ← wrote .left-vy)
+
+    module _ (fits : slicesRefusal g d ≡ 0) where
+      abbrev back : ReadBack g out' start d (stateAt g t out start a)
+      back = holds .read-back out' d (trip-ended .output) fits
+
+      abbrev f : End ReadingState
+      f = readPlane g (bitsOf out') start d
+
+      gave : r ≡ endAnswer f
+      unfolding readPlaneAnswer
+      gave = read .answer ∙ rw (eq-eqb (readRefusal g out' start d) 0 (back .accepted))
+
+      left : readSlices g out' start d ≡ f .state .slices
+      unfolding readSlices
+      left = rw (eq-eqb (readRefusal g out' start d) 0 (back .accepted))
+
+      ends-none : f .refusal ≡ 0
+      unfolding readPlane
+      ends-none = back .goes-on (count g) (le-refl (count g))
+
+      ends-last : f .done ≡ count g
+      unfolding readPlane
+      ends-last = back .reads (count g) (le-refl (count g))
+
+      trip-returned : Returned g w r a' d d'
+      trip-returned =
+          let u = trip-ended in
+          let got-recon : d' .recon ≡ f .state .slices .recon = read .left-recon ∙ ap (λ (x : Slices). x .recon) left in
+          let got-vx : d' .vx ≡ f .state .slices .vx = read .left-vx ∙ ap (λ (x : Slices). x .vx) left in
+          let got-vy : d' .vy ≡ f .state .slices .vy = read .left-vy ∙ ap (λ (x : Slices). x .vy) left in
+          record {
+            refusal = ap (λ (x : PlaneAnswer). x .refusal) gave ∙ ends-none;
+            done = ap (λ (x : PlaneAnswer). x .done) gave ∙ ends-last ∙ sym (u .done);
+            next = ap (λ (x : PlaneAnswer). x .next) gave ∙ back .ends ∙ sym (u .next);
+            recon = got-recon ∙ back .recon ∙ sym (ap (λ (x : Slices). x .recon) (u .slices));
+            vx = ap (take (4 * count g)) got-vx ∙ back .vx ∙ sym (ap (λ (x : Slices). take (4 * count g) (x .vx)) (u .slices));
+            vy = ap (take (4 * count g)) got-vy ∙ back .vy ∙ sym (ap (λ (x : Slices). take (4 * count g) (x .vy)) (u .slices));
+            rest-vx = ap (drop (4 * count g)) got-vx ∙ back .rest-vx;
+            rest-vy = ap (drop (4 * count g)) got-vy ∙ back .rest-vy;
+          }
+
+  pub tripped : RoundTrip g t out start a d w r out' a' d'
+  tripped =
+      record {
+        wrote = wrote;
+        read = read;
+        claim = λ p m z. (holds p m z, trip-ended p m z);
+        returned = λ p m z s. trip-returned p m z s;
+      }

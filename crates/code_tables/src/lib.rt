@@ -1,0 +1,4 @@
+// Tables of codes: which are good, and a code written and read.
+pub mod inner;
+pub mod svq1_enc;
+pub mod svq1_vlc;

@@ -1,0 +1,9 @@
+-- The definitions that the contracts of this crate cite; the laws that callers cite stand in the files named `..Laws`.
+pub mod Codebook
+pub mod CodebookLaws
+pub mod Mean
+pub mod MeanLaws
+pub mod CodebookCalls
+pub mod CodebookCallsLaws
+pub mod Raised
+pub mod RaisedLaws

@@ -1,0 +1,61 @@
+-- Rows of a block as the code reads them where every read lies in the canvas, and a sum that ends early (document 01, `svq1_enc_inter.rs`, over the definitions of Compensation). What they amount to is in `RowsLaws`.
+use Prim.Native.Nat.{ℕ, zero, suc, _+_, _*_, _%_, _≤_, _<_}
+use mathlib.Core.Path.{_≡_}
+use mathlib.Core.List.{List}
+use lib.Dec.{eqb, leb}
+use lib.ListN.{length, getD}
+use Rattle.bits.specs.Basics.{pick, gap, sum}
+use Rattle.vectors.specs.Canvas.{Canvas}
+use Rattle.compensation.specs.Compensation.{mean2, mean4}
+use Rattle.compensation.specs.declared.inner.error.Taken.{Taken}
+
+-- the sample at place p of the canvas's list, with no clamp; ox and oy, 0 or 1, say whether it lies between two columns and two rows
+unfoldable pub cell : Canvas → ℕ → ℕ → ℕ → ℕ
+cell c ox oy p =
+    let a = getD (c .samples) p 0 in
+    let right = getD (c .samples) (p + 1) 0 in
+    let below = getD (c .samples) (p + c .stride) 0 in
+    let across = getD (c .samples) (p + c .stride + 1) 0 in
+    pick (eqb ox 0) (pick (eqb oy 0) a (mean2 a below)) (pick (eqb oy 0) (mean2 a right) (mean4 a right below across))
+
+-- a block's side is 8 or 16
+pub record Sides (n : ℕ) : Type 0 where
+  pub some : 8 ≤ n
+  pub even : n % 8 ≡ 0
+  pub most : n ≤ 16
+
+-- the absolute error of the n samples of t from place ti on against the means of those of s from a and b on, and of four
+abbrev pub againstTwo : List ℕ → List ℕ → ℕ → ℕ → ℕ → ℕ → ℕ
+againstTwo t s ti a b n = sum (λ k. gap (getD t (ti + k) 0) (mean2 (getD s (a + k) 0) (getD s (b + k) 0))) n
+
+abbrev pub againstFour : List ℕ → List ℕ → ℕ → ℕ → ℕ → ℕ → ℕ
+againstFour t s ti a b n =
+    sum (λ k. gap (getD t (ti + k) 0) (mean4 (getD s (a + k) 0) (getD s (a + 1 + k) 0) (getD s (b + k) 0) (getD s (b + 1 + k) 0))) n
+
+-- the same against those at p, between columns and rows as ox and oy say
+abbrev pub cells : List ℕ → Canvas → ℕ → ℕ → ℕ → ℕ → ℕ → ℕ
+cells t c n ox oy ti p = sum (λ j. gap (getD t (ti + j) 0) (cell c ox oy (p + j))) n
+
+-- of row i of the block of side n whose corner is read at x0, y0
+unfoldable pub rowAt : List ℕ → Canvas → ℕ → ℕ → ℕ → ℕ → ℕ → ℕ → ℕ
+rowAt t c n ox oy x0 y0 i = cells t c n ox oy (n * i) ((y0 + i) * c .stride + x0)
+
+-- n rows left from row i, s summed so far: it ends after the first row in which the sum reaches the limit, else after the last
+unfoldable pub early : (ℕ → ℕ) → ℕ → ℕ → ℕ → ℕ → Taken
+early f limit zero i s = record { error = s; rows = i }
+early f limit (suc n) i s = pick (leb limit (s + f i)) (record { error = s + f i; rows = i + 1 }) (early f limit n (i + 1) (s + f i))
+
+-- the parts of a block that is read inside the canvas: its side 8 or 16, its corner at (x0, y0), between columns and rows as ox and oy say
+pub record ReadIn (t : List ℕ) (c : Canvas) (n ox oy x0 y0 : ℕ) : Type 0 where
+  pub side : Sides n
+  pub ox-bit : ox < 2
+  pub oy-bit : oy < 2
+  pub target-len : length t ≡ n * n
+  pub canvas-len : length (c .samples) ≡ c .stride * c .rows
+  pub x-in : x0 + ox + n ≤ c .stride
+  pub y-in : y0 + oy + n ≤ c .rows
+
+-- what summing answers: the sum as far as it was taken, which is at most 255 a sample
+pub record Summed (t : List ℕ) (c : Canvas) (n ox oy x0 y0 limit : ℕ) (r : Taken) : Type 0 where
+  pub answer : r ≡ early (rowAt t c n ox oy x0 y0) limit n 0 0
+  pub most : r .error ≤ 255 * 256

@@ -1,0 +1,12 @@
+-- What filling a slice with a table of the house answers and leaves (document 01, refusal 5).
+use Prim.Native.Nat.{ℕ}
+use mathlib.Core.Path.{_≡_}
+use mathlib.Core.List.{List}
+use lib.Dec.{eqb}
+use lib.ListN.{length}
+use Rattle.bits.specs.Basics.{pick, unless}
+
+-- a slice of `size` bytes holds `whole` at the end; any other is refused with 5 and stays
+pub record Filled (size : ℕ) (whole out : List ℕ) (r : ℕ) (left : List ℕ) : Type 0 where
+  pub answer : r ≡ unless (eqb (length out) size) 5
+  pub bytes : left ≡ pick (eqb (length out) size) whole out

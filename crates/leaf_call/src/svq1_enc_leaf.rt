@@ -1,0 +1,196 @@
+// The leaf search as a call.
+ghost use mathlib.Core.Path.{_≡_};
+ghost use Prim.Native.Nat.{_<_};
+ghost use lib.ListN.{length};
+ghost use Rattle.book.specs.Level.{levelNumber};
+ghost use Rattle.leaf.specs.LeafCall.{halfAt, blockRefusal};
+ghost use Rattle.leaf_call.specs.LeafAnswer.{blockFits, refusedAnswer, foundAnswer, LeafAnswered, Searchable, Found};
+use book::svq1_blocktree::Svq1Level;
+use book::svq1_vlc::Svq1Half;
+use codebook::inner::raise_codebook;
+use leaf::inner::writing::book_leaf_bits;
+use leaf::svq1_enc_leaf::LeafCode;
+use leaf_search::inner::level_leaf;
+
+// What the search answers: 0 and the leaf, its bits, its error and the samples that it shows; or a refusal's number and nothing else.
+pub struct LeafAnswer {
+    pub refused: u8,
+    pub code: LeafCode,
+    pub stages: [u8; 6],
+    pub bits: u32,
+    pub error: u32,
+    pub samples: [u8; 256],
+}
+
+// The level of a number.
+fn level_of(level: u8) -> Svq1Level
+    requires { ⌜ level < 6 ⌝ }
+    ensures { λ r. ⌜ levelNumber r ≡ level ⌝ }
+{
+    match level {
+        0 => Svq1Level::L0,
+        1 => Svq1Level::L1,
+        2 => Svq1Level::L2,
+        3 => Svq1Level::L3,
+        4 => Svq1Level::L4,
+        _ => Svq1Level::L5,
+    }
+}
+
+// The half of a number.
+pub fn half_of(half: u8) -> Svq1Half
+    ensures { λ r. ⌜ r ≡ halfAt half ⌝ }
+{
+    match half {
+        0 => Svq1Half::Intra,
+        _ => Svq1Half::Inter,
+    }
+}
+
+// Whether 8 passes: a known level and half, blocks of its length, a cap of at most 6, no skip with intra.
+fn block_fits(level: u8, half: u8, target: usize, predictor: usize, cap: u8, skip: bool) -> bool
+    ensures { λ r. ⌜ r ≡ blockFits level half target predictor cap skip ⌝ }
+{
+    if 5 < level {
+        return false;
+    }
+    if 1 < half {
+        return false;
+    }
+    let n = level_of(level).vector_length();
+    if target != n {
+        return false;
+    }
+    if predictor != n {
+        return false;
+    }
+    if 6 < cap {
+        return false;
+    }
+    if skip {
+        return half != 0;
+    }
+    true
+}
+
+// 5, 6, 7 or 8 of a leaf or a plan, or 0.
+pub fn block_refusal(
+    book: &[u8],
+    codebook: &[u8],
+    level: u8,
+    half: u8,
+    target: &[u8],
+    predictor: &[u8],
+    cap: u8,
+    skip: bool,
+) -> u8
+    ensures { λ r. ⌜ r ≡ blockRefusal (record { book = now (book .entry); codebook = now (codebook .entry); level = level; half = half; cap = cap; allowSkip = skip; target = now (target .entry); predictor = now (predictor .entry) }) ⌝ }
+{
+    let refusal = book_check::data_refusal(book, codebook);
+    if refusal != 0 {
+        return refusal;
+    }
+    if block_fits(level, half, target.len(), predictor.len(), cap, skip) {
+        return 0;
+    }
+    8
+}
+
+fn refused_answer(refused: u8) -> LeafAnswer
+    ensures { λ r. ⌜ r ≡ refusedAnswer refused ⌝ }
+{
+    LeafAnswer {
+        refused,
+        code: LeafCode::Skip,
+        stages: [0u8; 6],
+        bits: 0,
+        error: 0,
+        samples: [0u8; 256],
+    }
+}
+
+// The answer of an accepted call. That there are six stage indices is known here, where they come as an array.
+fn found_answer(
+    code: LeafCode,
+    stages: [u8; 6],
+    bits: u32,
+    error: u32,
+    samples: [u8; 256],
+) -> LeafAnswer
+    ensures { λ r. ⌜ (r ≡ foundAnswer code stages bits error samples) × (length stages ≡ 6) ⌝ }
+{
+    LeafAnswer {
+        refused: 0,
+        code,
+        stages,
+        bits,
+        error,
+        samples,
+    }
+}
+
+// A leaf that no refusal meets; `raised` is room for the raised codebook.
+fn searched(
+    book: &[u8],
+    codebook: &[u8],
+    raised: &mut [u8],
+    level: Svq1Level,
+    half: Svq1Half,
+    target: &[u8],
+    predictor: &[u8],
+    cap: usize,
+    skip: bool,
+) -> LeafAnswer
+    requires { ⌜ Searchable (now book) (now codebook) (now raised) (levelNumber level) half (now target) (now predictor) cap skip ⌝ }
+    ensures { λ r. ⌜ Found (now (book .entry)) (now (codebook .entry)) (levelNumber level) half (now (target .entry)) (now (predictor .entry)) cap skip r ⌝ }
+{
+    raise_codebook(codebook, raised);
+    let mut sums = [0u16; 256];
+    let mut samples = [0u8; 256];
+    let c = level_leaf(
+        level,
+        half,
+        target,
+        predictor,
+        &mut sums,
+        &mut samples,
+        raised,
+        cap,
+        skip,
+    );
+    let code = c.code;
+    let stages = c.stages;
+    let bits = book_leaf_bits(book, level, half, code);
+    found_answer(code, stages, bits, c.error, samples)
+}
+
+// The leaf search on its own: one leaf by the leaf rules, its bits, its error and its samples.
+pub fn search_leaf(
+    book: &[u8],
+    codebook: &[u8],
+    level: u8,
+    half: u8,
+    target: &[u8],
+    predictor: &[u8],
+    cap: u8,
+    skip: bool,
+) -> LeafAnswer
+    ensures { λ r. ⌜ LeafAnswered (record { book = now (book .entry); codebook = now (codebook .entry); level = level; half = half; cap = cap; allowSkip = skip; target = now (target .entry); predictor = now (predictor .entry) }) r ⌝ }
+{
+    let refusal = block_refusal(book, codebook, level, half, target, predictor, cap, skip);
+    if refusal != 0 {
+        return refused_answer(refusal);
+    }
+    let mut raised = [0u8; 23040];
+    searched(
+        book,
+        codebook,
+        &mut raised,
+        level_of(level),
+        half_of(half),
+        target,
+        predictor,
+        cap as usize,
+        skip,
+    )
+}

@@ -1,0 +1,2 @@
+// A leaf's samples.
+pub mod inner;

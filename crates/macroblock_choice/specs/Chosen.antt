@@ -1,0 +1,58 @@
+-- What choosing how a macroblock is coded asks and finds (document 01, `svq1_enc_inter.rs`).
+use mathlib.Core.Path.{_≡_}
+use mathlib.Core.Bool.{Bool}
+use mathlib.Core.List.{List, []}
+use Prim.Native.Nat.{ℕ, _*_, _<_}
+use lib.ListN.{length}
+use Rattle.codebook.specs.Codebook.{stagesPerPage}
+use Rattle.vectors.specs.declared.svq1_motion_predictor.Svq1Mv.{Svq1Mv}
+use Rattle.mv_cache.specs.Neighbours.{Near}
+use Rattle.tree.specs.Plan.{Planning}
+use Rattle.tree.specs.TreeBits.{planTree}
+use Rattle.macroblock_choice.specs.declared.inner.candidates.MbCandidate.{MbCandidate}
+use Rattle.macroblock.specs.declared.svq1_enc_inter.MbMotion.{MbMotion}
+use Rattle.macroblock.specs.Macroblock.{Given, cols, rows, Motion, coded, halfOf, vectorsOf, baseline}
+use Rattle.macroblock.specs.Choice.{Task, target, skipsLeaves, chosen}
+use Rattle.macroblock.specs.Motions.{motionOf}
+use Rattle.macroblock.specs.Inner.{Accepted}
+use Rattle.macroblock_choice.specs.Candidates.{choiceOf, Stated}
+use Rattle.plan.specs.Planning.{planningIn}
+
+-- what a writer is asked, by its parameters
+abbrev pub taskBy : List ℕ → ℕ → ℕ → Bool → Task
+taskBy source lambda radius four = record { source = source; lambda = lambda; radius = radius; allowFour = four }
+
+-- what is lent passes, macroblock k is one of the plane's, and it is to show a block of 256 samples
+pub record Placing (g : Given) (raised : List ℕ) (k : ℕ) (block : List ℕ) : Type 0 where
+  pub ok : Accepted g raised
+  pub number : k < rows g * cols g
+  pub whole : length block ≡ 256
+
+-- and a source of the plane's size
+pub record Sourced (g : Given) (raised source : List ℕ) (k : ℕ) : Type 0 where
+  pub ok : Accepted g raised
+  pub number : k < rows g * cols g
+  pub samples : length source ≡ g .width * g .height
+
+-- ---- one motion
+-- its plan, by the block and not by the source
+abbrev pub planningBy : Given → List ℕ → ℕ → ℕ → Motion → Planning
+planningBy g block lambda k m = planningIn (halfOf m) (g .book) (g .codebook) stagesPerPage (skipsLeaves (halfOf m)) lambda 5 block (baseline g k m)
+
+-- the vectors beside a motion are those that it stores
+abbrev pub Carries : MbMotion → List Svq1Mv → Type 0
+Carries m vs = vs ≡ vectorsOf (coded (motionOf m vs) [])
+
+-- the candidate of a motion
+pub record Made (g : Given) (block : List ℕ) (lambda k : ℕ) (n : Near) (m : Motion) (r : MbCandidate) : Type 0 where
+  pub is : choiceOf r ≡ coded m (planTree (planningBy g block lambda k m))
+  pub stated : Stated g block k n r
+
+-- ---- the best of all
+pub record ChosenFor (g : Given) (block : List ℕ) (lambda radius : ℕ) (four : Bool) (k : ℕ) (n : Near) (r : MbCandidate) : Type 0 where
+  pub stated : Stated g block k n r
+  pub is : (t : Task) → block ≡ target g t k → lambda ≡ t .lambda → radius ≡ t .radius → four ≡ t .allowFour → choiceOf r ≡ chosen g t k n
+
+pub record ChosenBy (g : Given) (t : Task) (k : ℕ) (n : Near) (r : MbCandidate) : Type 0 where
+  pub stated : Stated g (target g t k) k n r
+  pub is : choiceOf r ≡ chosen g t k n

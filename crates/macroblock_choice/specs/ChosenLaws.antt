@@ -1,0 +1,165 @@
+-- Laws of the choice: a motion's candidate by its plan, the best of all motions, and the block of a source.
+-- Assumes nothing.
+use mathlib.Core.Path.{_≡_, refl, sym, ap, _∙_}
+use mathlib.Core.Bool.{Bool, true, false, true≢false}
+use mathlib.Core.List.{List, [], _∷_}
+use Prim.Native.Nat.{ℕ, _≤_}
+use native.Mathlib.Omega.{arith}
+use lib.ListN.{length}
+use Rattle.bits.specs.Basics.{pick, Bytes}
+use Rattle.book.specs.Book.{tablesOf}
+use Rattle.book.specs.BookLaws.{good-tables, data-passes}
+use Rattle.book.specs.declared.svq1_vlc.Svq1Half.{Svq1Half}
+use Rattle.book.specs.declared.svq1_vlc.Svq1Half.the-variants.{Intra, Inter}
+use Rattle.leaf.specs.LeafLaws.{vectors-sized}
+use Rattle.vectors.specs.declared.svq1_motion_predictor.Svq1Mv.{Svq1Mv}
+use Rattle.mv_cache.specs.Neighbours.{Near}
+use Rattle.tree.specs.Nodes.{treeOf}
+use Rattle.tree.specs.Plan.{Planning, Weight}
+use Rattle.plan.specs.PlanClaimLaws.{Planned, plan-bits, plan-error, plan-short}
+use Rattle.tree.specs.TreeBits.{planTree, treeBits}
+use Rattle.macroblock_choice.specs.declared.inner.candidates.MbCandidate.{MbCandidate}
+use Rattle.macroblock.specs.declared.svq1_enc_inter.MbMotion.{MbMotion}
+use Rattle.vectors.specs.declared.svq1_plane.Svq1PlaneCanvas.{Svq1PlaneCanvas}
+use Rattle.macroblock.specs.Macroblock.{Given, rows, Motion, skipped, coded, halfOf, baseline, shown}
+use Rattle.macroblock.specs.MacroblockLaws.{Fine, baseline-block}
+use Rattle.macroblock.specs.Choice.{Task, target, skipsLeaves, planningFor, singleTried, fourTried}
+use Rattle.macroblock.specs.Motions.{motionOf}
+use Rattle.macroblock.specs.Inner.{givenBy}
+use Rattle.macroblock.specs.InnerLaws.{fits, book-passes, wide}
+use Rattle.macroblock_search.specs.declared.inner.motions.FoundMotion.{FoundMotion}
+use Rattle.macroblock_search.specs.Searches.{Searching, motionsOf, stillFound, MotionsFound}
+use Rattle.macroblock_search.specs.Target.{targetOf, Sources}
+use Rattle.macroblock_search.specs.TargetLaws.{target-is, target-long}
+use Rattle.macroblock_choice.specs.Candidates.{choiceOf, Stated, CandidateOf, preferred, Tried}
+use Rattle.macroblock_choice.specs.CandidatesLaws.{coded-is, coded-stated, tried-one, chosen-is}
+use Rattle.plan.specs.Planning.{PlanReady, PlanFound, planningIn}
+use Rattle.plan.specs.declared.svq1_enc_tree.MbPlan.{MbPlan}
+use Rattle.macroblock_choice.specs.Chosen.{taskBy, planningBy, Placing, Sourced, Carries, Made, ChosenFor, ChosenBy}
+
+-- ---- a motion's plan
+bare : Task
+bare = record { source = []; lambda = 0; radius = 0; allowFour = false }
+
+module _ (g : Given) (raised : List ℕ) (k : ℕ) (block : List ℕ) (ready : Placing g raised k block) (bytes : Bytes block) (reference : Bytes (g .reference .samples)) (lambda : ℕ) (m : Motion) where
+  fine : Fine g bare
+  unfolding bare
+  fine = record { book = book-passes g raised (ready .ok); source-bytes = λ j. omega arith; reference-bytes = reference }
+
+  inter-skips : (h : Svq1Half) → skipsLeaves h ≡ true → h ≡ Inter
+  inter-skips Intra e = absurd (true≢false (sym e))
+  inter-skips Inter e = refl
+
+  pub planned-by : Planned (planningBy g block lambda k m)
+  planned-by = record {
+    tables = good-tables (g .book) (book-passes g raised (ready .ok)) (halfOf m);
+    sized = vectors-sized (g .codebook) (halfOf m);
+    few = omega arith;
+    inter = inter-skips (halfOf m);
+    five = omega arith;
+    target-long = ready .whole;
+    predictor-long = baseline-block g bare fine k m .size;
+    target-bytes = bytes;
+    predictor-bytes = baseline-block g bare fine k m .bytes;
+  }
+
+  -- what planning asks
+  pub plan-ready : (h : Svq1Half) (s : Bool) (under : List ℕ) → h ≡ halfOf m → s ≡ skipsLeaves h → length under ≡ 256
+      → PlanReady h (g .book) (g .codebook) raised 6 s 5 block under
+  plan-ready h s under eh es eu = record {
+    good = book-passes g raised (ready .ok);
+    whole = data-passes (g .book) (g .codebook) (ready .ok .tables) .0;
+    copy = ready .ok .copy;
+    few = omega arith;
+    inter = λ e. inter-skips h (sym es ∙ e);
+    five = omega arith;
+    target-long = ready .whole;
+    predictor-long = eu;
+  }
+
+  module _ (p : MbPlan) (found : PlanFound (planningBy g block lambda k m) p) where
+    pub plan-few : p .bits ≤ 65536
+    plan-few =
+        let e : p .bits ≡ length (treeBits (tablesOf (g .book) (halfOf m)) (planTree (planningBy g block lambda k m))) =
+        ap (λ (w : Weight). w .bits) (found .weighs) ∙ plan-bits (planningBy g block lambda k m) planned-by in
+        omega (arith, plan-short (planningBy g block lambda k m) planned-by)
+
+    pub made-by : (n : Near) (motion : MbMotion) (vectors : List Svq1Mv) (r : MbCandidate) → m ≡ motionOf motion vectors → Carries motion vectors
+        → CandidateOf (g .book) n motion vectors (p .blocks) (p .bits) (p .error) r → Made g block lambda k n m r
+    unfolding shown
+    made-by n motion vectors r em ev c =
+        let is : choiceOf r ≡ coded m (treeOf (p .blocks)) = rw em (coded-is g block k n motion vectors (p .blocks) (p .bits) (p .error) r c) in
+        record {
+          is = rw (found .tree) at is;
+          stated = coded-stated g block k n motion vectors (p .blocks) (p .bits) (p .error) r c ev
+              (rw (← em, found .tree) (ap (λ (w : Weight). w .bits) (found .weighs) ∙ plan-bits (planningBy g block lambda k m) planned-by))
+              (rw (← em, found .tree) (ap (λ (w : Weight). w .err) (found .weighs) ∙ plan-error (planningBy g block lambda k m) planned-by));
+        }
+
+  -- by the block and by the source it is the same
+  pub planned-same : (t : Task) → block ≡ target g t k → lambda ≡ t .lambda → planningBy g block lambda k m ≡ planningFor g t k m
+  unfolding planningFor
+  planned-same t eb el = rw (eb, el)
+
+  -- a plan by the half, the flag and the baseline as they were computed
+  pub found-by : (p : MbPlan) (h : Svq1Half) (s : Bool) (under : List ℕ) → h ≡ halfOf m → s ≡ skipsLeaves h → under ≡ baseline g k m
+      → PlanFound (planningIn h (g .book) (g .codebook) 6 s lambda 5 block under) p → PlanFound (planningBy g block lambda k m) p
+  found-by p h s under eh es eu f = rw (es, eh, eu) at f
+
+  -- a motion that was found, if it is better
+  pub try-one : (n : Near) (ms : List Motion) (c d r : MbCandidate) → ms ≡ m ∷ [] → Stated g block k n c → Made g block lambda k n m d
+      → r ≡ pick (preferred lambda d c) d c → Tried g block lambda k n ms c r
+  try-one n ms c d r e hc hd er =
+      tried-one g block lambda k n m ms c d r e hc (hd .stated)
+      (λ t eb el. hd .is ∙ ap (λ (x : Planning). coded m (planTree x)) (planned-same t eb el)) er
+
+-- ---- all motions
+pub searching : (v : Svq1PlaneCanvas) (reference book codebook raised : List ℕ) (k : ℕ) (block : List ℕ) → Placing (givenBy v reference book codebook) raised k block
+    → Searching v reference block k
+searching v reference book codebook raised k block p =
+    record { fits = fits (givenBy v reference book codebook) raised (p .ok); number = p .number; whole = p .whole }
+
+module _ (v : Svq1PlaneCanvas) (reference book codebook block : List ℕ) (lambda radius : ℕ) (allow : Bool) (k : ℕ) (n : Near) where
+  abbrev plane : Given
+  plane = givenBy v reference book codebook
+
+  pub chosen-for : (s a b r : MbCandidate) (one none more : FoundMotion) → choiceOf s ≡ skipped
+      → MotionsFound v reference block radius k n (λ g t. singleTried g t k n) one
+      → none ≡ stillFound
+      → MotionsFound v reference block radius k n (λ g t. pick allow (fourTried g t k n) []) more
+      → Tried plane block lambda k n (motionsOf one) s a → Tried plane block lambda k n (motionsOf none) a b → Tried plane block lambda k n (motionsOf more) b r
+      → ChosenFor plane block lambda radius allow k n r
+  chosen-for s a b r one none more es f1 f2 f3 ha hb hr = record {
+    stated = hr .stated;
+    is = λ t eb el er ef.
+        chosen-is plane block lambda k n t s a b r (motionsOf one) (motionsOf none) (motionsOf more) eb el es ha hb hr
+        (f1 .are book codebook t eb er) (ap motionsOf f2) (rw ef at (f3 .are book codebook t eb er));
+  }
+
+-- ---- the block of a source
+module _ (g : Given) (raised source : List ℕ) (k : ℕ) (p : Sourced g raised source k) where
+  pub sources : Sources (g .width) (g .height) source k
+  sources =
+      let f = fits g raised (p .ok) in
+      record {
+        width-some = f .width .some;
+        width-most = f .width .most;
+        height-some = f .height .some;
+        height-most = f .height .most;
+        samples = p .samples;
+        number = p .number;
+      }
+
+  block-is : (lambda radius : ℕ) (allow : Bool) (block : List ℕ) → block ≡ targetOf (g .width) (g .height) source k → block ≡ target g (taskBy source lambda radius allow) k
+  block-is lambda radius allow block e =
+      let f = fits g raised (p .ok) in
+      e ∙ target-is g (taskBy source lambda radius allow) k (f .stride) (f .rows) (p .number) (wide g raised (p .ok))
+
+  pub block-placed : (block : List ℕ) → block ≡ targetOf (g .width) (g .height) source k → Placing g raised k block
+  block-placed block e = record { ok = p .ok; number = p .number; whole = ap length e ∙ target-long (g .width) (g .height) source k }
+
+  pub chosen-by : (lambda radius : ℕ) (allow : Bool) (block : List ℕ) (n : Near) (r : MbCandidate) → block ≡ targetOf (g .width) (g .height) source k
+      → ChosenFor g block lambda radius allow k n r → ChosenBy g (taskBy source lambda radius allow) k n r
+  chosen-by lambda radius allow block n r e h =
+      let q = block-is lambda radius allow block e in
+      record { stated = rw q at (h .stated); is = h .is (taskBy source lambda radius allow) q refl refl refl }

@@ -1,0 +1,189 @@
+// Which way a macroblock is coded: SKIP, and each motion with its plan.
+ghost use mathlib.Core.Path.{_≡_};
+ghost use lib.ListN.{length};
+ghost use Rattle.bits.specs.Basics.{All};
+ghost use Rattle.mv_cache.specs.Cache.{nearFrom};
+ghost use Rattle.mv_cache.specs.NeighboursLaws.{Around};
+ghost use Rattle.macroblock.specs.MacroblockLaws.{Codables};
+ghost use Rattle.macroblock.specs.Inner.{givenBy};
+ghost use Rattle.macroblock_search.specs.Searches.{motionsOf};
+ghost use Rattle.macroblock_choice.specs.Candidates.{Stated, Tried};
+ghost use Rattle.macroblock_choice.specs.Chosen.{Placing, Sourced, Carries, ChosenFor, ChosenBy, taskBy};
+use super::super::inner::candidates::MbCandidate;
+use super::super::inner::candidates::better;
+use super::super::inner::candidates::skip_candidate;
+use super::super::inner::plans::coded_candidate;
+use macroblock_search::inner::motions::FoundMotion;
+use macroblock_search::inner::motions::four_motion;
+use macroblock_search::inner::motions::single_motion;
+use macroblock_search::inner::motions::still_found;
+use macroblock_search::inner::target::target_block;
+use mv_cache::svq1_mv_cache::NearBlocks;
+use vectors::svq1_plane::Svq1PlaneCanvas;
+
+// The best so far, or a motion that was found, if it is better.
+fn try_motion(
+    canvas: Svq1PlaneCanvas,
+    reference: &[u8],
+    book: &[u8],
+    codebook: &[u8],
+    raised: &[u8],
+    lambda: u64,
+    k: usize,
+    target: &[u8],
+    near: NearBlocks,
+    found: FoundMotion,
+    best: MbCandidate,
+) -> MbCandidate
+    requires { ⌜ Placing (givenBy canvas (now reference) (now book) (now codebook)) (now raised) k (now target) × All (Codables (nearFrom near)) (motionsOf found) × Carries (found .motion) (found .vectors) × Stated (givenBy canvas (now reference) (now book) (now codebook)) (now target) k (nearFrom near) best ⌝ }
+    ensures { λ r. ⌜ Tried (givenBy canvas (now (reference .entry)) (now (book .entry)) (now (codebook .entry))) (now (target .entry)) lambda k (nearFrom near) (motionsOf found) best r ⌝ }
+{
+    if found.found {
+        let motion = found.motion;
+        let vectors = found.vectors;
+        let c = coded_candidate(
+            canvas,
+            reference,
+            book,
+            codebook,
+            raised,
+            lambda,
+            k,
+            target,
+            near,
+            motion,
+            vectors,
+        );
+        return better(lambda, best, c);
+    }
+    best
+}
+
+// The best of all that are tried for a macroblock that is to show the target.
+fn choose_for(
+    canvas: Svq1PlaneCanvas,
+    reference: &[u8],
+    book: &[u8],
+    codebook: &[u8],
+    raised: &[u8],
+    lambda: u64,
+    radius: u8,
+    four: bool,
+    k: usize,
+    near: NearBlocks,
+    target: &[u8],
+) -> MbCandidate
+    requires { ⌜ Placing (givenBy canvas (now reference) (now book) (now codebook)) (now raised) k (now target) × Around (nearFrom near) ⌝ }
+    ensures { λ r. ⌜ ChosenFor (givenBy canvas (now (reference .entry)) (now (book .entry)) (now (codebook .entry))) (now (target .entry)) lambda radius four k (nearFrom near) r ⌝ }
+{
+    let skip = skip_candidate(canvas, reference, book, k, target);
+    let one = single_motion(canvas, reference, target, near, k, radius);
+    let a = try_motion(
+        canvas,
+        reference,
+        book,
+        codebook,
+        raised,
+        lambda,
+        k,
+        target,
+        near,
+        one,
+        skip,
+    );
+    let none = still_found();
+    let b = try_motion(
+        canvas,
+        reference,
+        book,
+        codebook,
+        raised,
+        lambda,
+        k,
+        target,
+        near,
+        none,
+        a,
+    );
+    let more = four_motion(canvas, reference, target, near, k, radius, four);
+    try_motion(
+        canvas,
+        reference,
+        book,
+        codebook,
+        raised,
+        lambda,
+        k,
+        target,
+        near,
+        more,
+        b,
+    )
+}
+
+// The same for macroblock k of a source, whose samples go into `target`.
+fn choose_over(
+    canvas: Svq1PlaneCanvas,
+    source: &[u8],
+    reference: &[u8],
+    book: &[u8],
+    codebook: &[u8],
+    raised: &[u8],
+    lambda: u64,
+    radius: u8,
+    four: bool,
+    k: usize,
+    near: NearBlocks,
+    target: &mut [u8],
+) -> MbCandidate
+    requires { ⌜ Sourced (givenBy canvas (now reference) (now book) (now codebook)) (now raised) (now source) k × Around (nearFrom near) × (length (now target) ≡ 256) ⌝ }
+    ensures { λ r. ⌜ ChosenBy (givenBy canvas (now (reference .entry)) (now (book .entry)) (now (codebook .entry))) (taskBy (now (source .entry)) lambda radius four) k (nearFrom near) r ⌝ }
+{
+    target_block(canvas, source, k, target);
+    choose_for(
+        canvas,
+        reference,
+        book,
+        codebook,
+        raised,
+        lambda,
+        radius,
+        four,
+        k,
+        near,
+        target,
+    )
+}
+
+pub fn choose_macroblock(
+    canvas: Svq1PlaneCanvas,
+    source: &[u8],
+    reference: &[u8],
+    book: &[u8],
+    codebook: &[u8],
+    raised: &[u8],
+    lambda: u64,
+    radius: u8,
+    four: bool,
+    k: usize,
+    near: NearBlocks,
+) -> MbCandidate
+    requires { ⌜ Sourced (givenBy canvas (now reference) (now book) (now codebook)) (now raised) (now source) k × Around (nearFrom near) ⌝ }
+    ensures { λ r. ⌜ ChosenBy (givenBy canvas (now (reference .entry)) (now (book .entry)) (now (codebook .entry))) (taskBy (now (source .entry)) lambda radius four) k (nearFrom near) r ⌝ }
+{
+    let mut target = [0u8; 256];
+    choose_over(
+        canvas,
+        source,
+        reference,
+        book,
+        codebook,
+        raised,
+        lambda,
+        radius,
+        four,
+        k,
+        near,
+        &mut target,
+    )
+}

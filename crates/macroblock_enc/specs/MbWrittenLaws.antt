@@ -1,0 +1,116 @@
+-- Laws of writing a macroblock: what is chosen can be written, and what is written is what was chosen.
+-- Assumes nothing.
+use mathlib.Core.Path.{_≡_, sym, ap, _∙_}
+use mathlib.Core.Bool.{Bool, false}
+use mathlib.Core.List.{List}
+use Prim.Native.Nat.{ℕ}
+use native.Mathlib.Omega.{arith}
+use lib.ListN.{length}
+use Rattle.bits.specs.Basics.{All, Bytes}
+use Rattle.codebook.specs.RaisedLaws.{raised-length}
+use Rattle.mv_cache.specs.Neighbours.{Near}
+use Rattle.mv_cache.specs.NeighboursLaws.{Around, around}
+use Rattle.tree.specs.Nodes.{treeOf}
+use Rattle.plan.specs.PlanCallLaws.{plan-sound}
+use Rattle.tree.specs.Walk.{SoundTree}
+use Rattle.macroblock_choice.specs.declared.inner.candidates.MbCandidate.{MbCandidate}
+use Rattle.vectors.specs.declared.svq1_plane.Svq1PlaneCanvas.{Svq1PlaneCanvas}
+use Rattle.macroblock.specs.Macroblock.{Given, cols, rows, Motion, coded, modeOf, halfOf}
+use Rattle.macroblock.specs.MacroblockLaws.{Fine, Good, chosen-good, Codables, planned-for, motions-codable, all-map, chosen-one}
+use Rattle.macroblock.specs.Choice.{Task, planningFor, motionsTried, tried, weightOf, chosen}
+use Rattle.macroblock.specs.Motions.{motionOf}
+use Rattle.macroblock.specs.Slices.{Slices, near}
+use Rattle.macroblock.specs.Inner.{givenBy}
+use Rattle.macroblock.specs.InnerLaws.{fits, book-passes, stands, vectors-held, recon-held}
+use Rattle.macroblock_choice.specs.Candidates.{skips, choiceOf, codedFor}
+use Rattle.macroblock_choice.specs.CandidatesLaws.{choice-of-book}
+use Rattle.macroblock_enc.specs.WrittenLaws.{is-coded}
+use Rattle.macroblock_enc.specs.declared.inner.writing.WrittenMb.{WrittenMb}
+use Rattle.macroblock_enc.specs.Written.{Codes, LayReady, WriteReady, CandidateWritten, CandidateLaid, MbReady, mbChoice, mbWeight, MbWritten}
+use Rattle.macroblock_choice.specs.Chosen.{taskBy, Sourced, ChosenBy}
+
+-- ---- what is chosen can be written
+module _ (g : Given) (t : Task) (ok : Fine g t) (k : ℕ) (n : Near) where
+  coded-codes : (m : Motion) → Codables n m → Codes n (codedFor g t k m)
+  unfolding planningFor
+  coded-codes m h = (h, plan-sound (planningFor g t k m) (planned-for g t ok k m))
+
+  tried-codes : All (Codes n) (tried g t k n)
+  unfolding tried
+  tried-codes = (tt, all-map (Codables n) (Codes n) (codedFor g t k) (motionsTried g t k n) coded-codes (motions-codable g t ok k n))
+
+  pub chosen-codes : Codes n (chosen g t k n)
+  chosen-codes = chosen-one g t ok (Codes n) k n tried-codes
+
+-- ---- a macroblock written, by what was chosen and what was done with it
+module _ (g : Given) (raised source : List ℕ) (k bytes at : ℕ) (s : Slices) (ready : MbReady g raised source k bytes at s) where
+  pub sourced : Sourced g raised source k
+  sourced = record { ok = ready .ok; number = ready .number; samples = ready .samples }
+
+  pub near-around : Around (near g s k)
+  near-around = around (cols g) (rows g) k (s .vx) (s .vy) (ready .ranged-x) (ready .ranged-y)
+
+module _ (v : Svq1PlaneCanvas) (reference book codebook raised source : List ℕ) (lambda radius : ℕ) (allow : Bool) (k at : ℕ) (out : List ℕ) (s : Slices)
+    (ready : MbReady (givenBy v reference book codebook) raised source k (length out) at s) (source-bytes : Bytes source) (reference-bytes : Bytes reference) where
+  abbrev g : Given
+  g = givenBy v reference book codebook
+
+  abbrev t : Task
+  t = taskBy source lambda radius allow
+
+  all-fine : Fine g t
+  all-fine = record { book = book-passes g raised (ready .ok); source-bytes = source-bytes; reference-bytes = reference-bytes }
+
+  module _ (n : Near) (en : n ≡ near g s k) (c : MbCandidate) (h : ChosenBy g t k n c) where
+    codes-it : Codes n (choiceOf c)
+    codes-it = rw (h .is) (chosen-codes g t all-fine k n)
+
+    good-it : Good g t all-fine k n (choiceOf c)
+    good-it = rw (h .is) (chosen-good g t all-fine k n)
+
+    pub write-ready : WriteReady book n c (length out) at
+    write-ready = record {
+      passes = book-passes g raised (ready .ok);
+      mode = h .stated .mode;
+      codes = codes-it;
+      bits = h .stated .bits ∙ ap length (sym (choice-of-book g n (choiceOf c)));
+      few = omega (arith, h .stated .bits, good-it .short);
+      start = ready .start;
+    }
+
+    sound-it : skips (c .mode) ≡ false → SoundTree (halfOf (motionOf (c .motion) (c .vectors))) (treeOf (c .blocks))
+    sound-it e = let z : Codes n (coded (motionOf (c .motion) (c .vectors)) (treeOf (c .blocks))) = rw (is-coded c e) at codes-it in z .1
+
+    pub lay-ready : LayReady v reference (length raised) k c (s .recon) (s .vx) (s .vy)
+    lay-ready =
+        let f = fits g raised (ready .ok) in
+        record {
+          shows = record { place = stands g raised (ready .ok) k (ready .number); copy = ap length (ready .ok .copy) ∙ raised-length (g .codebook); sound = sound-it };
+          lays = record {
+            stride-is = f .stride;
+            rows-are = f .rows;
+            recon-room = recon-held g raised (ready .ok) s (ready .held) k (ready .number);
+            vectors-room = vectors-held g raised (ready .ok) s (ready .held);
+            number = ready .number;
+            inside = rw (h .stated .vectors) (good-it .inside);
+          };
+          vectors = h .stated .vectors;
+        }
+
+    pub mb-written : (r : WrittenMb) (left recon' vx' vy' : List ℕ) → Bytes codebook → CandidateWritten book n c out at r left
+        → CandidateLaid v reference raised k c (length out) at (s .recon) (s .vx) (s .vy) recon' vx' vy'
+        → MbWritten g t k out at s r left (record { recon = recon'; vx = vx'; vy = vy' })
+    unfolding weightOf
+    mb-written r left recon' vx' vy' bytes w l =
+        let eb : c .bits ≡ mbWeight g t k s .bits = h .stated .bits ∙ rw (h .is, en) in
+        let ee : c .error ≡ mbWeight g t k s .err = h .stated .error ∙ rw (h .is, en) in
+        let ec : choiceOf c ≡ mbChoice g t k s = h .is ∙ rw en in
+        record {
+          mode = w .mode ∙ h .stated .mode ∙ ap modeOf ec;
+          bits = w .bits ∙ eb;
+          error = w .error ∙ ee;
+          refused = rw eb at (w .refused);
+          next = rw eb at (w .next);
+          output = w .output ∙ rw (eb, choice-of-book g n (choiceOf c), ec, en);
+          slices = l book codebook bytes (ready .ok .copy) ∙ rw (eb, ec);
+        }

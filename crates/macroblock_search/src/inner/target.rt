@@ -1,0 +1,73 @@
+// The samples that a macroblock is to show: the source's, its last column and row repeated.
+ghost use mathlib.Core.Path.{_≡_};
+ghost use Prim.Native.Nat.{_+_, _<_, _≤_, min};
+ghost use lib.ListN.{length, getD};
+ghost use Rattle.compensation.specs.Moved.{rowSet};
+ghost use Rattle.vectors.specs.Canvas.{largestSide, blocksAlong};
+ghost use Rattle.macroblock_search.specs.Target.{Sources, targetOf};
+use vectors::svq1_plane::Svq1PlaneCanvas;
+
+// Macroblocks along a side.
+pub fn blocks_along(n: usize) -> usize
+    requires { ⌜ n ≤ largestSide ⌝ }
+    ensures { λ r. ⌜ r ≡ blocksAlong n ⌝ }
+{
+    (n + 15) / 16
+}
+
+fn lesser(a: usize, b: usize) -> usize
+    ensures { λ r. ⌜ r ≡ min a b ⌝ }
+{
+    if a < b { a } else { b }
+}
+
+// Sixteen samples from place o on: those from place p on, and those from column x of the row at p on, its last column repeated.
+fn copy_row(out: &mut [u8], source: &[u8], o: usize, p: usize)
+    requires { ⌜ (o + 16 ≤ length (now out)) × (p + 16 ≤ length (now source)) ⌝ }
+    ensures { λ _. ⌜ now (out .exit) ≡ rowSet o (λ j. getD (now (source .entry)) (p + j) 0) 16 (now (out .entry)) ⌝ }
+{
+    let mut i = 0;
+    while i < 16 {
+        out[o + i] = source[p + i];
+        i += 1;
+    }
+}
+
+fn repeat_row(out: &mut [u8], source: &[u8], o: usize, p: usize, x: usize, last: usize)
+    requires { ⌜ (o + 16 ≤ length (now out)) × (p + last < length (now source)) × (x ≤ largestSide) ⌝ }
+    ensures { λ _. ⌜ now (out .exit) ≡ rowSet o (λ j. getD (now (source .entry)) (p + min (x + j) last) 0) 16 (now (out .entry)) ⌝ }
+{
+    let mut i = 0;
+    while i < 16 {
+        out[o + i] = source[p + lesser(x + i, last)];
+        i += 1;
+    }
+}
+
+// The one where the row goes that far, else the other.
+fn target_row(out: &mut [u8], source: &[u8], o: usize, p: usize, x: usize, last: usize)
+    requires { ⌜ (o + 16 ≤ length (now out)) × (p + last < length (now source)) × (x ≤ largestSide) ⌝ }
+    ensures { λ _. ⌜ now (out .exit) ≡ rowSet o (λ j. getD (now (source .entry)) (p + min (x + j) last) 0) 16 (now (out .entry)) ⌝ }
+{
+    if x + 15 <= last {
+        copy_row(out, source, o, p + x);
+        return;
+    }
+    repeat_row(out, source, o, p, x, last);
+}
+
+// Macroblock k of the source, its last column and row repeated to whole macroblocks.
+pub fn target_block(canvas: Svq1PlaneCanvas, source: &[u8], k: usize, out: &mut [u8])
+    requires { ⌜ Sources (canvas .width) (canvas .height) (now source) k × (length (now out) ≡ 256) ⌝ }
+    ensures { λ _. ⌜ now (out .exit) ≡ targetOf (canvas .width) (canvas .height) (now (source .entry)) k ⌝ }
+{
+    let cols = blocks_along(canvas.width);
+    let x = k % cols * 16;
+    let y = k / cols * 16;
+    let mut i = 0;
+    while i < 16 {
+        let row = lesser(y + i, canvas.height - 1);
+        target_row(out, source, 16 * i, row * canvas.width, x, canvas.width - 1);
+        i += 1;
+    }
+}

@@ -1,0 +1,198 @@
+-- Each macroblock is one step of the run, told as it is taken; what is left of the run gives the whole. Assumes nothing.
+use mathlib.Core.Path.{ap, _∙_}
+use Prim.Native.Nat.{_-_, _<_}
+use lib.ListN.{length}
+use Rattle.bits.specs.Bits.{bitsOf}
+use Rattle.macroblock.specs.Macroblock.{Given}
+use Rattle.macroblock.specs.Choice.{Task}
+use Rattle.macroblock_choice.specs.Chosen.{taskBy}
+use Rattle.macroblock.specs.Slices.{Slices}
+use Rattle.macroblock.specs.Inner.{givenBy}
+use Rattle.plane.specs.Plane.{count}
+use Rattle.plane.specs.ReaderLaws.{count-by, count-most}
+use Rattle.plane_enc.specs.Stated.{Telling}
+use Rattle.plane_enc.specs.StatedLaws.{length-in, telling-begun, telling-turn}
+use Rattle.plane_enc.specs.Writer.{Underway}
+use Rattle.plane_enc.specs.WriterLaws.{begun, ready, few, low, turn, stop-early, stop-last}
+use native.Mathlib.Omega.{arith}
+use borrow.Author.Needs.{needs}
+use Rattle.plane_enc.proofs.inner.write_blocks.Statement.{statement}
+use Rattle.plane_enc.proofs.inner.write_blocks.Tie as tie
+
+abbrev Inv-loop : tie.InvT-loop
+Inv-loop canvas source reference book codebook raised lambda radius four out₀ start recon₀ vx₀ vy₀ stated₀ count k₀ at₀ bits₀ error₀ out recon vx vy stated k at bits error =
+    Underway (givenBy canvas reference book codebook) (taskBy source lambda radius four) out₀ start (record { recon = recon₀; vx = vx₀; vy = vy₀ }) out (record { recon = recon; vx = vx; vy = vy }) k at bits error
+    × Telling (givenBy canvas reference book codebook) (taskBy source lambda radius four) (bitsOf out₀) start (record { recon = recon₀; vx = vx₀; vy = vy₀ }) stated₀ (record { recon = recon; vx = vx; vy = vy }) stated k
+
+abbrev μ-loop : tie.MeasureT-loop
+μ-loop canvas source reference book codebook raised lambda radius four out₀ start recon₀ vx₀ vy₀ stated₀ count k₀ at₀ bits₀ error₀ out recon vx vy stated k at bits error = count - k
+
+mul-count : tie.Need-mul-count Inv-loop μ-loop
+mul-count c =
+    let s = c .before .before .before .before .before .before .before .before .before .before .before .before in
+    let a = s .args in
+    let g : Given = givenBy (a .canvas) (a .reference .now) (a .book .now) (a .codebook .now) in
+    omega (arith, count-by g (a .raised .now) (s .pre .0 .ok), count-most g (a .raised .now) (s .pre .0 .ok))
+
+loop-holds : tie.Need-loop-holds Inv-loop μ-loop
+loop-holds c =
+    let s = c .before .before .before .before .before .before .before .before .before .before .before .before in
+    let a = s .args in
+    let g : Given = givenBy (a .canvas) (a .reference .now) (a .book .now) (a .codebook .now) in
+    let t : Task = taskBy (a .source .now) (a .lambda) (a .radius) (a .four) in
+    let u : Slices = record { recon = a .recon .now; vx = a .vx .now; vy = a .vy .now } in (
+      begun g (a .raised .now) t (λ j. c .before .before .before .before .before .before .before .before .before .before .before .shared-slice-known .given j .fits) (λ j. c .before .before .before .before .before .before .before .before .before .before .shared-slice-known2 .given j .fits) (a .out .now) (a .start) u (s .pre .0) (s .pre .1),
+      telling-begun g t (bitsOf (a .out .now)) (a .start) u (a .stated .now),
+    )
+
+write-macroblock-requires : tie.Need-write-macroblock-requires Inv-loop μ-loop
+write-macroblock-requires c κs =
+    let s = c .before .before .before .before .before .before .before .before .before .before .before .before .before .before .before .before .before .before in
+    let a = s .args in
+    let g : Given = givenBy (a .canvas) (a .reference .now) (a .book .now) (a .codebook .now) in
+    let t : Task = taskBy (a .source .now) (a .lambda) (a .radius) (a .four) in
+    let u : Slices = record { recon = a .recon .now; vx = a .vx .now; vy = a .vy .now } in
+    let l = c .before .before .before .before .before .loop in
+    ready g (a .raised .now) t (λ j. c .before .before .before .before .before .before .before .before .before .before .before .before .before .before .before .before .before .shared-slice-known .given j .fits) (λ j. c .before .before .before .before .before .before .before .before .before .before .before .before .before .before .before .before .shared-slice-known2 .given j .fits) (a .out .now) (a .start) u (s .pre .0) (s .pre .1) _ _ (l .k) (l .at) (l .bits) (l .error) (l .inv .0) (rw (count-by g (a .raised .now) (s .pre .0 .ok)) at (c .before .before .before .before .loop-test .taken))
+
+same-length : tie.Need-same-length Inv-loop μ-loop
+same-length c = c .before .before .before .before .before .before .before .before .before .before .write-macroblock .kept .1 .1 .1 .1 .1 .1 .1 .1 .1 .0 ∙ c .before .before .before .before .before .before .before .before .before .before .before .before .before .before .before .before .loop .inv .0 .out-same
+
+same-length-2 : tie.Need-same-length-2 Inv-loop μ-loop
+same-length-2 c = c .before .before .before .before .before .before .before .before .before .before .write-macroblock .kept .1 .1 .1 .1 .1 .1 .1 .1 .1 .1 .1 .1 .0 ∙ c .before .before .before .before .before .before .before .before .before .before .before .before .before .before .before .before .loop .inv .0 .recon-same
+
+same-length-3 : tie.Need-same-length-3 Inv-loop μ-loop
+same-length-3 c = c .before .before .before .before .before .before .before .before .before .before .write-macroblock .kept .1 .1 .1 .1 .1 .1 .1 .1 .1 .1 .1 .1 .1 .0 ∙ c .before .before .before .before .before .before .before .before .before .before .before .before .before .before .before .before .loop .inv .0 .vx-same
+
+same-length-4 : tie.Need-same-length-4 Inv-loop μ-loop
+same-length-4 c = c .before .before .before .before .before .before .before .before .before .before .write-macroblock .kept .1 .1 .1 .1 .1 .1 .1 .1 .1 .1 .1 .1 .1 .1 .0 ∙ c .before .before .before .before .before .before .before .before .before .before .before .before .before .before .before .before .loop .inv .0 .vy-same
+
+same-length-5 : tie.Need-same-length-5 Inv-loop μ-loop
+same-length-5 c = ap length (c .before .before .before .before .before .before .before .before .before .before .before .before .before .before .before .before .loop .inv .1 .stated) ∙ length-in _ _ _ _ _ _ _
+
+returns : tie.Need-returns Inv-loop μ-loop
+returns c =
+    let s = c .before .before .before .before .before .before .before .before .before .before .before .before .before .before .before .before .before .before .before .before .before .before .before .before .before .before .before .before .before in
+    let a = s .args in
+    let g : Given = givenBy (a .canvas) (a .reference .now) (a .book .now) (a .codebook .now) in
+    let t : Task = taskBy (a .source .now) (a .lambda) (a .radius) (a .four) in
+    let u : Slices = record { recon = a .recon .now; vx = a .vx .now; vy = a .vy .now } in
+    let l = c .before .before .before .before .before .before .before .before .before .before .before .before .before .before .before .before .loop in
+    let h : l .k < count g = rw (count-by g (a .raised .now) (s .pre .0 .ok)) at (c .before .before .before .before .before .before .before .before .before .before .before .before .before .before .before .loop-test .taken) in
+    record {
+      written = stop-early g (a .raised .now) t (λ j. c .before .before .before .before .before .before .before .before .before .before .before .before .before .before .before .before .before .before .before .before .before .before .before .before .before .before .before .before .shared-slice-known .given j .fits) (λ j. c .before .before .before .before .before .before .before .before .before .before .before .before .before .before .before .before .before .before .before .before .before .before .before .before .before .before .before .shared-slice-known2 .given j .fits) (a .out .now) (a .start) u (s .pre .0) (s .pre .1) _ _ (l .k) (l .at) (l .bits) (l .error) (l .inv .0) _ _ _ h (c .before .before .before .before .before .before .before .before .before .before .write-macroblock .ensures) (c .if1 .taken);
+      stated = l .inv .1 .stated;
+    }
+
+tell-requires : tie.Need-tell-requires Inv-loop μ-loop
+tell-requires c κs = search needs
+
+cast-bits : tie.Need-cast-bits Inv-loop μ-loop
+cast-bits c = search needs
+
+add-bits : tie.Need-add-bits Inv-loop μ-loop
+add-bits c =
+    let s = c .before .before .before .before .before .before .before .before .before .before .before .before .before .before .before .before .before .before .before .before .before .before .before .before .before .before .before .before .before .before .before .before .before .before in
+    let a = s .args in
+    let g : Given = givenBy (a .canvas) (a .reference .now) (a .book .now) (a .codebook .now) in
+    let t : Task = taskBy (a .source .now) (a .lambda) (a .radius) (a .four) in
+    let u : Slices = record { recon = a .recon .now; vx = a .vx .now; vy = a .vy .now } in
+    let l = c .before .before .before .before .before .before .before .before .before .before .before .before .before .before .before .before .before .before .before .before .before .loop in
+    let h : l .k < count g = rw (count-by g (a .raised .now) (s .pre .0 .ok)) at (c .before .before .before .before .before .before .before .before .before .before .before .before .before .before .before .before .before .before .before .before .loop-test .taken) in
+    omega (arith, h, l .inv .0 .few-bits, few g (a .raised .now) t (λ j. c .before .before .before .before .before .before .before .before .before .before .before .before .before .before .before .before .before .before .before .before .before .before .before .before .before .before .before .before .before .before .before .before .before .shared-slice-known .given j .fits) (λ j. c .before .before .before .before .before .before .before .before .before .before .before .before .before .before .before .before .before .before .before .before .before .before .before .before .before .before .before .before .before .before .before .before .shared-slice-known2 .given j .fits) (a .out .now) (a .start) u (s .pre .0) (s .pre .1) _ _ (l .k) (l .at) (l .bits) (l .error) (l .inv .0) _ _ _ h (c .before .before .before .before .before .before .before .before .before .before .before .before .before .before .before .write-macroblock .ensures), count-most g (a .raised .now) (s .pre .0 .ok))
+
+cast-error : tie.Need-cast-error Inv-loop μ-loop
+cast-error c = search needs
+
+add-error : tie.Need-add-error Inv-loop μ-loop
+add-error c =
+    let s = c .before .before .before .before .before .before .before .before .before .before .before .before .before .before .before .before .before .before .before .before .before .before .before .before .before .before .before .before .before .before .before .before .before .before .before in
+    let a = s .args in
+    let g : Given = givenBy (a .canvas) (a .reference .now) (a .book .now) (a .codebook .now) in
+    let t : Task = taskBy (a .source .now) (a .lambda) (a .radius) (a .four) in
+    let u : Slices = record { recon = a .recon .now; vx = a .vx .now; vy = a .vy .now } in
+    let l = c .before .before .before .before .before .before .before .before .before .before .before .before .before .before .before .before .before .before .before .before .before .before .loop in
+    let h : l .k < count g = rw (count-by g (a .raised .now) (s .pre .0 .ok)) at (c .before .before .before .before .before .before .before .before .before .before .before .before .before .before .before .before .before .before .before .before .before .loop-test .taken) in
+    omega (arith, h, l .inv .0 .low-error, low g (a .raised .now) t (λ j. c .before .before .before .before .before .before .before .before .before .before .before .before .before .before .before .before .before .before .before .before .before .before .before .before .before .before .before .before .before .before .before .before .before .before .shared-slice-known .given j .fits) (λ j. c .before .before .before .before .before .before .before .before .before .before .before .before .before .before .before .before .before .before .before .before .before .before .before .before .before .before .before .before .before .before .before .before .before .shared-slice-known2 .given j .fits) (a .out .now) (a .start) u (s .pre .0) (s .pre .1) _ _ (l .k) (l .at) (l .bits) (l .error) (l .inv .0) _ _ _ h (c .before .before .before .before .before .before .before .before .before .before .before .before .before .before .before .before .write-macroblock .ensures), count-most g (a .raised .now) (s .pre .0 .ok))
+
+add-k : tie.Need-add-k Inv-loop μ-loop
+add-k c =
+    let s = c .before .before .before .before .before .before .before .before .before .before .before .before .before .before .before .before .before .before .before .before .before .before .before .before .before .before .before .before .before .before .before .before .before .before .before in
+    let a = s .args in
+    let g : Given = givenBy (a .canvas) (a .reference .now) (a .book .now) (a .codebook .now) in
+    omega (arith, c .before .before .before .before .before .before .before .before .before .before .before .before .before .before .before .before .before .before .before .before .before .loop-test .taken, count-by g (a .raised .now) (s .pre .0 .ok), count-most g (a .raised .now) (s .pre .0 .ok))
+
+loop-less : tie.Need-loop-less Inv-loop μ-loop
+loop-less c = omega arith
+
+loop-again : tie.Need-loop-again Inv-loop μ-loop
+loop-again c =
+    let s = c .before .before .before .before .before .before .before .before .before .before .before .before .before .before .before .before .before .before .before .before .before .before .before .before .before .before .before .before .before .before .before .before .before .before .before in
+    let a = s .args in
+    let g : Given = givenBy (a .canvas) (a .reference .now) (a .book .now) (a .codebook .now) in
+    let t : Task = taskBy (a .source .now) (a .lambda) (a .radius) (a .four) in
+    let u : Slices = record { recon = a .recon .now; vx = a .vx .now; vy = a .vy .now } in
+    let l = c .before .before .before .before .before .before .before .before .before .before .before .before .before .before .before .before .before .before .before .before .before .before .loop in
+    let h : l .k < count g = rw (count-by g (a .raised .now) (s .pre .0 .ok)) at (c .before .before .before .before .before .before .before .before .before .before .before .before .before .before .before .before .before .before .before .before .before .loop-test .taken) in
+    let w = c .before .before .before .before .before .before .before .before .before .before .before .before .before .before .before .before .write-macroblock in (
+      turn g (a .raised .now) t (λ j. c .before .before .before .before .before .before .before .before .before .before .before .before .before .before .before .before .before .before .before .before .before .before .before .before .before .before .before .before .before .before .before .before .before .before .shared-slice-known .given j .fits) (λ j. c .before .before .before .before .before .before .before .before .before .before .before .before .before .before .before .before .before .before .before .before .before .before .before .before .before .before .before .before .before .before .before .before .before .shared-slice-known2 .given j .fits) (a .out .now) (a .start) u (s .pre .0) (s .pre .1) _ _ (l .k) (l .at) (l .bits) (l .error) (l .inv .0) _ _ _ h (w .ensures) (w .kept .1 .1 .1 .1 .1 .1 .1 .1 .1 .0) (c .before .before .before .before .before .before .if1 .left),
+      telling-turn g t (bitsOf (a .out .now)) (a .start) u (a .stated .now) (l .k) _ (l .at) _ _ _ _ (w .ensures) _ _ (c .before .before .before .before .before .before .if1 .left) (l .inv .1) (c .before .before .before .before .tell .ensures),
+    )
+
+same-length-6 : tie.Need-same-length-6 Inv-loop μ-loop
+same-length-6 c = c .before .loop .inv .0 .out-same
+
+same-length-7 : tie.Need-same-length-7 Inv-loop μ-loop
+same-length-7 c = c .before .loop .inv .0 .recon-same
+
+same-length-8 : tie.Need-same-length-8 Inv-loop μ-loop
+same-length-8 c = c .before .loop .inv .0 .vx-same
+
+same-length-9 : tie.Need-same-length-9 Inv-loop μ-loop
+same-length-9 c = c .before .loop .inv .0 .vy-same
+
+same-length-10 : tie.Need-same-length-10 Inv-loop μ-loop
+same-length-10 c = ap length (c .before .loop .inv .1 .stated) ∙ length-in _ _ _ _ _ _ _
+
+returns-2 : tie.Need-returns-2 Inv-loop μ-loop
+returns-2 c =
+    let s = c .before .before .before .before .before .before .before .before .before .before .before .before .before .before in
+    let a = s .args in
+    let g : Given = givenBy (a .canvas) (a .reference .now) (a .book .now) (a .codebook .now) in
+    let t : Task = taskBy (a .source .now) (a .lambda) (a .radius) (a .four) in
+    let u : Slices = record { recon = a .recon .now; vx = a .vx .now; vy = a .vy .now } in
+    let l = c .before .loop in
+    record {
+      written = stop-last g (a .raised .now) t (λ j. c .before .before .before .before .before .before .before .before .before .before .before .before .before .shared-slice-known .given j .fits) (λ j. c .before .before .before .before .before .before .before .before .before .before .before .before .shared-slice-known2 .given j .fits) (a .out .now) (a .start) u (s .pre .0) (s .pre .1) _ _ (l .k) (l .at) (l .bits) (l .error) (l .inv .0) (rw (count-by g (a .raised .now) (s .pre .0 .ok)) at (c .loop-test .left));
+      stated = l .inv .1 .stated;
+    }
+
+pub write-blocks-spec : {M : Type 1} → statement M
+write-blocks-spec =
+    tie.close
+    (tie.spec
+    Inv-loop
+    μ-loop
+    mul-count
+    loop-holds
+    write-macroblock-requires
+    same-length
+    same-length-2
+    same-length-3
+    same-length-4
+    same-length-5
+    returns
+    tell-requires
+    cast-bits
+    add-bits
+    cast-error
+    add-error
+    add-k
+    loop-less
+    loop-again
+    same-length-6
+    same-length-7
+    same-length-8
+    same-length-9
+    same-length-10
+    returns-2)

@@ -1,0 +1,75 @@
+-- Refused, or written to its end and told. Assumes nothing.
+use mathlib.Core.Path.{sym, _∙_}
+use Rattle.bits.specs.Bits.{bitsOf}
+use Rattle.macroblock.specs.Macroblock.{Given}
+use Rattle.macroblock.specs.Choice.{Task}
+use Rattle.macroblock_choice.specs.Chosen.{taskBy}
+use Rattle.macroblock.specs.Slices.{Slices}
+use Rattle.macroblock.specs.Inner.{givenBy}
+use Rattle.plane_enc.specs.StatedLaws.{in-none}
+use Rattle.plane_enc.specs.WriterLaws.{refusal-is, write-accepted, call-refused, call-written}
+use borrow.Author.Needs.{needs}
+use Rattle.plane_enc.proofs.svq1_enc_inter.encode_inter_plane_stated.Statement.{statement}
+use Rattle.plane_enc.proofs.svq1_enc_inter.encode_inter_plane_stated.Tie as tie
+
+write-refusal-requires : tie.Need-write-refusal-requires
+write-refusal-requires c κs = search needs
+
+returns : tie.Need-returns
+returns c =
+    let a = c .before .before .before .before .before .before .before .before .before .before .before .args in
+    let g : Given = givenBy (a .canvas) (a .reference .now) (a .book .now) (a .codebook .now) in
+    let t : Task = taskBy (a .source .now) (a .lambda) (a .radius) (a .four) in
+    let u : Slices = record { recon = a .recon .now; vx = a .vx .now; vy = a .vy .now } in
+    record {
+      written = call-refused g t (a .out .now) (a .start) u _ (c .before .write-refusal .ensures ∙ refusal-is g t (a .out .now) (a .start) u) (c .if1 .taken);
+      stated = sym (in-none g t (bitsOf (a .out .now)) (a .start) u (a .stated .now));
+    }
+
+write-accepted-requires : tie.Need-write-accepted-requires
+write-accepted-requires c κs =
+    let a = c .before .before .before .before .before .before .before .before .before .before .before .before .before .before .before .before .args in
+    let g : Given = givenBy (a .canvas) (a .reference .now) (a .book .now) (a .codebook .now) in
+    let t : Task = taskBy (a .source .now) (a .lambda) (a .radius) (a .four) in
+    let u : Slices = record { recon = a .recon .now; vx = a .vx .now; vy = a .vy .now } in
+    write-accepted g t (a .out .now) (a .start) u (sym (c .before .before .before .before .before .before .write-refusal .ensures ∙ refusal-is g t (a .out .now) (a .start) u) ∙ c .before .before .before .before .before .if1 .left)
+
+same-length : tie.Need-same-length
+same-length c = search needs
+
+same-length-2 : tie.Need-same-length-2
+same-length-2 c = search needs
+
+same-length-3 : tie.Need-same-length-3
+same-length-3 c = search needs
+
+same-length-4 : tie.Need-same-length-4
+same-length-4 c = search needs
+
+same-length-5 : tie.Need-same-length-5
+same-length-5 c = search needs
+
+returns-2 : tie.Need-returns-2
+returns-2 c =
+    let a = c .before .before .before .before .before .before .before .before .before .before .before .before .before .before .before .before .before .before .before .before .before .before .before .before .before .before .before .args in
+    let g : Given = givenBy (a .canvas) (a .reference .now) (a .book .now) (a .codebook .now) in
+    let t : Task = taskBy (a .source .now) (a .lambda) (a .radius) (a .four) in
+    let u : Slices = record { recon = a .recon .now; vx = a .vx .now; vy = a .vy .now } in
+    record {
+      written = call-written g t (a .out .now) (a .start) u _ _ _ (sym (c .before .before .before .before .before .before .before .before .before .before .before .before .before .before .before .before .before .write-refusal .ensures ∙ refusal-is g t (a .out .now) (a .start) u) ∙ c .before .before .before .before .before .before .before .before .before .before .before .before .before .before .before .before .if1 .left) (c .before .before .before .before .before .before .before .before .before .before .write-accepted .ensures .written);
+      stated = c .before .before .before .before .before .before .before .before .before .before .write-accepted .ensures .stated;
+    }
+
+pub encode-inter-plane-stated-spec : {M : Type 1} → statement M
+encode-inter-plane-stated-spec =
+    tie.close
+    (tie.spec
+    write-refusal-requires
+    returns
+    write-accepted-requires
+    same-length
+    same-length-2
+    same-length-3
+    same-length-4
+    same-length-5
+    returns-2)

@@ -1,0 +1,113 @@
+-- Laws of what the writer tells: a slice keeps its length, one macroblock more, and the loop's turns.
+-- Assumes nothing.
+use mathlib.Core.Path.{_≡_, refl, sym, _∙_}
+use mathlib.Core.List.{List, [], _∷_, _++_}
+use Prim.Native.Nat.{ℕ, zero, suc, _+_, _*_, _/_, _≤_, _<_, min}
+use native.Mathlib.Omega.{arith}
+use native.Mathlib.Numerals.{add-one}
+use native.Mathlib.Decide.{decLt}
+use lib.ListN.{length, drop, set, length-append, length-drop}
+use lib.Seq.{sets, sets-eq, take-at, drop-append-add, drop-drop}
+use borrow.Author.Tests.{lt-ltb, le-ltb}
+use Rattle.macroblock.specs.Mode.{modePosition}
+use Rattle.macroblock.specs.Macroblock.{Given}
+use Rattle.macroblock.specs.Choice.{Task}
+use Rattle.macroblock.specs.Slices.{Slices, laid}
+use Rattle.macroblock_enc.specs.declared.inner.writing.WrittenMb.{WrittenMb}
+use Rattle.macroblock_enc.specs.Written.{MbWritten, mbChoice}
+use Rattle.plane.specs.Run.{after}
+use Rattle.plane.specs.Plane.{written, stepStated, writingAt}
+use Rattle.plane_enc.specs.WriterLaws.{fits-if}
+use Rattle.plane_enc.specs.Stated.{threeOf, statedTo, statedIn, told, Telling}
+
+-- ---- three numbers in a list
+module _ (l : List ℕ) (k a b c : ℕ) where
+  pub told-there : k < length l / 3 → set (set (set l (3 * k) a) (3 * k + 1) b) (3 * k + 2) c ≡ told l k (a ∷ b ∷ c ∷ [])
+  unfolding told
+  told-there h =
+      let two : 3 * k + 2 ≡ suc (suc (3 * k)) = omega arith in
+      rw (lt-ltb k (length l / 3) h, add-one, two)
+
+  pub told-past : length l / 3 ≤ k → l ≡ told l k (a ∷ b ∷ c ∷ [])
+  unfolding told
+  told-past h = rw (le-ltb k (length l / 3) h)
+
+-- behind k macroblocks that are told
+stored : (p held three : List ℕ) (k : ℕ) → length three ≡ 3 → length p ≡ 3 * k → 3 * k + 3 ≤ length held
+    → sets (p ++ drop (3 * k) held) (3 * k) three ≡ p ++ three ++ drop (3 * suc k) held
+stored p held three k z e h =
+    let long : 3 * k + length three ≤ length (p ++ drop (3 * k) held) = simp (length-append, length-drop) (omega arith) in
+    let n : 3 * k + length three ≡ length p + 3 = omega arith in
+    let m : 3 * k + 3 ≡ 3 * suc k = omega arith in
+    let rest : drop (3 * k + length three) (p ++ drop (3 * k) held) ≡ drop (3 * suc k) held = rw (n, drop-append-add, drop-drop, m) in
+    sets-eq three (p ++ drop (3 * k) held) (3 * k) long ∙ rw (take-at p (drop (3 * k) held) (3 * k) e, rest)
+
+-- ---- the macroblocks of a plane
+module _ (g : Given) (t : Task) (out : List ℕ) (start : ℕ) (s : Slices) where
+  length-to : (n : ℕ) → length (statedTo g t out start s n) ≡ 3 * n
+  unfolding statedTo
+  length-to zero = refl
+  length-to (suc n) = rw (length-append, length-to n) (omega arith)
+
+  module _ (held : List ℕ) where
+    pub length-in : (n : ℕ) → length (statedIn g t out start s held n) ≡ length held
+    unfolding statedIn
+    length-in n = rw (length-append, length-to, length-drop) (omega arith)
+
+    pub in-none : statedIn g t out start s held 0 ≡ held
+    unfolding statedIn statedTo
+    in-none =
+        let z : min 0 (length held / 3) ≡ 0 = omega arith in
+        rw z
+
+    in-room : (n : ℕ) → n ≤ length held / 3 → statedIn g t out start s held n ≡ statedTo g t out start s n ++ drop (3 * n) held
+    unfolding statedIn
+    in-room n h =
+        let m : min n (length held / 3) ≡ n = omega arith in
+        rw m
+
+    full : (k : ℕ) → length held / 3 ≤ k → statedIn g t out start s held k ≡ statedIn g t out start s held (suc k)
+    unfolding statedIn
+    full k h =
+        let m : min k (length held / 3) ≡ min (suc k) (length held / 3) = omega arith in
+        rw m
+
+    module _ (k : ℕ) where
+      abbrev next : List ℕ
+      next = threeOf (stepStated g t k (writingAt g t out start s k))
+
+      told-room : k < length held / 3 → told (statedIn g t out start s held k) k next ≡ statedIn g t out start s held (suc k)
+      unfolding told statedTo
+      told-room h =
+          let test = lt-ltb k (length held / 3) h in
+          let room : k ≤ length held / 3 = omega arith in
+          rw (length-in, test, in-room k room, in-room (suc k) h) (stored (statedTo g t out start s k) held next k refl (length-to k) (omega arith))
+
+      told-full : length held / 3 ≤ k → told (statedIn g t out start s held k) k next ≡ statedIn g t out start s held (suc k)
+      unfolding told
+      told-full h = rw (length-in, le-ltb k (length held / 3) h) (full k h)
+
+      one-more : told (statedIn g t out start s held k) k next ≡ statedIn g t out start s held (suc k)
+      one-more = go (decLt k (length held / 3))
+        where
+          go : Dec (k < length held / 3) → told (statedIn g t out start s held k) k next ≡ statedIn g t out start s held (suc k)
+          go (yes h) = told-room h
+          go (no h) = told-full (omega arith)
+
+    -- ---- the loop
+    pub telling-begun : Telling g t out start s held s held 0
+    unfolding after
+    telling-begun = record { slices = refl; stated = sym in-none }
+
+    module _ (k : ℕ) (into : List ℕ) (at : ℕ) (u : Slices) (r : WrittenMb) (left : List ℕ) (v : Slices) (m : MbWritten g t k into at u r left v) where
+      pub telling-turn : (l l' : List ℕ) → r .refused ≡ 0 → Telling g t out start s held u l k → l' ≡ told l k (modePosition (r .mode) ∷ r .bits ∷ r .error ∷ [])
+          → Telling g t out start s held v l' (k + 1)
+      unfolding after written
+      telling-turn l l' z i e =
+          let f = fits-if g t k into at u 0 0 r left v m z in
+          let w : v ≡ laid g k (mbChoice g t k u) u = rw f at (m .slices) in
+          let three : modePosition (r .mode) ∷ r .bits ∷ r .error ∷ [] ≡ next k = rw (m .mode, m .bits, m .error, i .slices) in
+          record {
+            slices = rw (add-one k, w, i .slices);
+            stated = rw (add-one k, e, i .stated, three) (one-more k);
+          }

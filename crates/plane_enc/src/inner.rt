@@ -1,0 +1,221 @@
+// A plane, written: its refusals, and its macroblocks one behind the other.
+ghost use mathlib.Core.Path.{_≡_};
+ghost use mathlib.Core.List.{[], _∷_};
+ghost use Prim.Native.Nat.{_*_};
+ghost use lib.ListN.{length};
+ghost use Rattle.book.specs.Book.{codebookBytes};
+ghost use Rattle.macroblock_choice.specs.Chosen.{taskBy};
+ghost use Rattle.macroblock.specs.Inner.{givenBy};
+ghost use Rattle.macroblock.specs.Mode.{modePosition};
+ghost use Rattle.plane.specs.Reader.{PlaneReady, PlaneAccepted};
+ghost use Rattle.plane_enc.specs.Stated.{told, ToldThrough};
+ghost use Rattle.plane_enc.specs.Writer.{writeRefusalBy};
+use super::svq1_enc_inter::WriteEnd;
+use codebook::inner::raise_codebook;
+use macroblock::svq1_enc_inter::Svq1MbMode;
+use macroblock_enc::inner::writing::write_macroblock;
+use plane::inner::read_refusal;
+use vectors::svq1_plane::Svq1PlaneCanvas;
+use vectors::svq1_plane::plane_refusal;
+
+// The refusals of the writer: the reader's, and 2 for a source of another size behind 1; 0 for none. The source, the output and the result slices are
+// given by their lengths.
+pub fn write_refusal(
+    canvas: Svq1PlaneCanvas,
+    source: usize,
+    reference: &[u8],
+    book: &[u8],
+    codebook: &[u8],
+    bytes: usize,
+    start: usize,
+    recon: usize,
+    vx: usize,
+    vy: usize,
+) -> u8
+    ensures { λ r. ⌜ r ≡ writeRefusalBy (givenBy canvas (now (reference .entry)) (now (book .entry)) (now (codebook .entry))) source bytes start recon vx vy ⌝ }
+{
+    let width = canvas.width;
+    let height = canvas.height;
+    let plane = plane_refusal(reference, width, height, canvas.stride, canvas.rows);
+    if plane == 1 {
+        return 1;
+    }
+    if source != width * height {
+        return 2;
+    }
+    read_refusal(
+        canvas,
+        reference,
+        book,
+        codebook,
+        bytes,
+        start,
+        recon,
+        vx,
+        vy,
+    )
+}
+
+// A macroblock's mode, bits and error at its place, where the slice has room for all three.
+fn tell(stated: &mut [u32], k: usize, mode: Svq1MbMode, bits: u32, error: u32)
+    ensures { λ _. ⌜ now (stated .exit) ≡ told (now (stated .entry)) k (modePosition mode ∷ bits ∷ error ∷ []) ⌝ }
+{
+    let position = mode.position();
+    if stated.len() / 3 <= k {
+        return;
+    }
+    let at = 3 * k;
+    stated[at] = position as u32;
+    stated[at + 1] = bits;
+    stated[at + 2] = error;
+}
+
+// A plane that no refusal meets, written from bit `start` on, macroblock by macroblock, each told in `stated`. `raised` is the raised codebook.
+fn write_blocks(
+    canvas: Svq1PlaneCanvas,
+    source: &[u8],
+    reference: &[u8],
+    book: &[u8],
+    codebook: &[u8],
+    raised: &[u8],
+    lambda: u64,
+    radius: u8,
+    four: bool,
+    out: &mut [u8],
+    start: usize,
+    recon: &mut [u8],
+    vx: &mut [u8],
+    vy: &mut [u8],
+    stated: &mut [u32],
+) -> WriteEnd
+    requires { ⌜ PlaneReady (givenBy canvas (now reference) (now book) (now codebook)) (now raised) (record { recon = now recon; vx = now vx; vy = now vy }) (length (now out)) start × (length (now source) ≡ canvas .width * canvas .height) ⌝ }
+    ensures { λ r. ⌜ ToldThrough (givenBy canvas (now (reference .entry)) (now (book .entry)) (now (codebook .entry))) (taskBy (now (source .entry)) lambda radius four) (now (out .entry)) start (record { recon = now (recon .entry); vx = now (vx .entry); vy = now (vy .entry) }) (now (stated .entry)) r (now (out .exit)) (record { recon = now (recon .exit); vx = now (vx .exit); vy = now (vy .exit) }) (now (stated .exit)) ⌝ }
+{
+    let count = canvas.rows / 16 * (canvas.stride / 16);
+    let mut k = 0;
+    let mut at = start;
+    let mut bits = 0;
+    let mut error = 0;
+    while k < count {
+        let r = write_macroblock(
+            canvas,
+            source,
+            reference,
+            book,
+            codebook,
+            raised,
+            lambda,
+            radius,
+            four,
+            out,
+            at,
+            k,
+            recon,
+            vx,
+            vy,
+        );
+        if r.refused != 0 {
+            return WriteEnd {
+                refused: r.refused,
+                done: k,
+                next: at,
+                bits,
+                error,
+            };
+        }
+        let mode = r.mode;
+        tell(stated, k, mode, r.bits, r.error);
+        at = r.next;
+        bits += r.bits as u64;
+        error += r.error as u64;
+        k += 1;
+    }
+    WriteEnd {
+        refused: 0,
+        done: k,
+        next: at,
+        bits,
+        error,
+    }
+}
+
+// The same; the codebook is raised into `raised` first.
+fn write_raised(
+    canvas: Svq1PlaneCanvas,
+    source: &[u8],
+    reference: &[u8],
+    book: &[u8],
+    codebook: &[u8],
+    lambda: u64,
+    radius: u8,
+    four: bool,
+    out: &mut [u8],
+    start: usize,
+    recon: &mut [u8],
+    vx: &mut [u8],
+    vy: &mut [u8],
+    stated: &mut [u32],
+    raised: &mut [u8],
+) -> WriteEnd
+    requires { ⌜ PlaneAccepted (givenBy canvas (now reference) (now book) (now codebook)) (record { recon = now recon; vx = now vx; vy = now vy }) (length (now out)) start × (length (now source) ≡ canvas .width * canvas .height) × (length (now raised) ≡ codebookBytes) ⌝ }
+    ensures { λ r. ⌜ ToldThrough (givenBy canvas (now (reference .entry)) (now (book .entry)) (now (codebook .entry))) (taskBy (now (source .entry)) lambda radius four) (now (out .entry)) start (record { recon = now (recon .entry); vx = now (vx .entry); vy = now (vy .entry) }) (now (stated .entry)) r (now (out .exit)) (record { recon = now (recon .exit); vx = now (vx .exit); vy = now (vy .exit) }) (now (stated .exit)) ⌝ }
+{
+    raise_codebook(codebook, raised);
+    write_blocks(
+        canvas,
+        source,
+        reference,
+        book,
+        codebook,
+        raised,
+        lambda,
+        radius,
+        four,
+        out,
+        start,
+        recon,
+        vx,
+        vy,
+        stated,
+    )
+}
+
+// The same with room of its own for the raised codebook.
+pub fn write_accepted(
+    canvas: Svq1PlaneCanvas,
+    source: &[u8],
+    reference: &[u8],
+    book: &[u8],
+    codebook: &[u8],
+    lambda: u64,
+    radius: u8,
+    four: bool,
+    out: &mut [u8],
+    start: usize,
+    recon: &mut [u8],
+    vx: &mut [u8],
+    vy: &mut [u8],
+    stated: &mut [u32],
+) -> WriteEnd
+    requires { ⌜ PlaneAccepted (givenBy canvas (now reference) (now book) (now codebook)) (record { recon = now recon; vx = now vx; vy = now vy }) (length (now out)) start × (length (now source) ≡ canvas .width * canvas .height) ⌝ }
+    ensures { λ r. ⌜ ToldThrough (givenBy canvas (now (reference .entry)) (now (book .entry)) (now (codebook .entry))) (taskBy (now (source .entry)) lambda radius four) (now (out .entry)) start (record { recon = now (recon .entry); vx = now (vx .entry); vy = now (vy .entry) }) (now (stated .entry)) r (now (out .exit)) (record { recon = now (recon .exit); vx = now (vx .exit); vy = now (vy .exit) }) (now (stated .exit)) ⌝ }
+{
+    let mut raised = [0u8; 23040];
+    write_raised(
+        canvas,
+        source,
+        reference,
+        book,
+        codebook,
+        lambda,
+        radius,
+        four,
+        out,
+        start,
+        recon,
+        vx,
+        vy,
+        stated,
+        &mut raised,
+    )
+}

@@ -1,0 +1,117 @@
+// The plane writer.
+ghost use Rattle.macroblock_choice.specs.Chosen.{taskBy};
+ghost use Rattle.macroblock.specs.Inner.{givenBy};
+ghost use Rattle.plane.specs.Calls.{PlaneWritten};
+ghost use Rattle.plane_enc.specs.Stated.{PlaneStated};
+ghost use Rattle.plane_enc.specs.Writer.{endOf};
+use super::inner::write_accepted;
+use super::inner::write_refusal;
+use vectors::svq1_plane::Svq1PlaneCanvas;
+
+// What writing a plane answers: the number of a refusal, or 0; the macroblocks done, which with 22 is the index of the one that does not fit;
+// the next bit; and the bits and the squared error of the macroblocks done.
+pub struct WriteEnd {
+    pub refused: u8,
+    pub done: usize,
+    pub next: usize,
+    pub bits: u64,
+    pub error: u64,
+}
+
+// An inter plane, written from bit `start` of `out` on against a reference whose canvas is given: its samples as a reader shows them into `recon`,
+// and its block vectors, a byte a component, into `vx` and `vy`. A plane that ends early leaves the macroblocks before that one; a refused call leaves
+// everything lent as it was.
+pub fn encode_inter_plane(
+    canvas: Svq1PlaneCanvas,
+    source: &[u8],
+    reference: &[u8],
+    book: &[u8],
+    codebook: &[u8],
+    lambda: u64,
+    radius: u8,
+    four: bool,
+    out: &mut [u8],
+    start: usize,
+    recon: &mut [u8],
+    vx: &mut [u8],
+    vy: &mut [u8],
+) -> WriteEnd
+    ensures { λ r. ⌜ PlaneWritten (givenBy canvas (now (reference .entry)) (now (book .entry)) (now (codebook .entry))) (taskBy (now (source .entry)) lambda radius four) (now (out .entry)) start (record { recon = now (recon .entry); vx = now (vx .entry); vy = now (vy .entry) }) (endOf r) (now (out .exit)) (now (recon .exit)) (now (vx .exit)) (now (vy .exit)) ⌝ }
+{
+    let mut none = [0u32; 1];
+    encode_inter_plane_stated(
+        canvas,
+        source,
+        reference,
+        book,
+        codebook,
+        lambda,
+        radius,
+        four,
+        out,
+        start,
+        recon,
+        vx,
+        vy,
+        &mut none,
+    )
+}
+
+// The same, and told in `stated` for each macroblock done: its mode's position in the mode table, its bits and its error, three numbers a macroblock, as far as
+// there is room for all three.
+pub fn encode_inter_plane_stated(
+    canvas: Svq1PlaneCanvas,
+    source: &[u8],
+    reference: &[u8],
+    book: &[u8],
+    codebook: &[u8],
+    lambda: u64,
+    radius: u8,
+    four: bool,
+    out: &mut [u8],
+    start: usize,
+    recon: &mut [u8],
+    vx: &mut [u8],
+    vy: &mut [u8],
+    stated: &mut [u32],
+) -> WriteEnd
+    ensures { λ r. ⌜ PlaneStated (givenBy canvas (now (reference .entry)) (now (book .entry)) (now (codebook .entry))) (taskBy (now (source .entry)) lambda radius four) (now (out .entry)) start (record { recon = now (recon .entry); vx = now (vx .entry); vy = now (vy .entry) }) (now (stated .entry)) (endOf r) (now (out .exit)) (now (recon .exit)) (now (vx .exit)) (now (vy .exit)) (now (stated .exit)) ⌝ }
+{
+    let refused = write_refusal(
+        canvas,
+        source.len(),
+        reference,
+        book,
+        codebook,
+        out.len(),
+        start,
+        recon.len(),
+        vx.len(),
+        vy.len(),
+    );
+    if refused != 0 {
+        return WriteEnd {
+            refused,
+            done: 0,
+            next: 0,
+            bits: 0,
+            error: 0,
+        };
+    }
+    write_accepted(
+        canvas,
+        source,
+        reference,
+        book,
+        codebook,
+        lambda,
+        radius,
+        four,
+        out,
+        start,
+        recon,
+        vx,
+        vy,
+        stated,
+    )
+}
