@@ -1,4 +1,4 @@
--- What the functions of `inner` ask and leave.
+-- What the functions of `inner` ask and leave (document 01, refusals 21, 22, 24, as a caller meets them).
 use Prim.Native.Nat.{ℕ, _+_, _*_, _^_, _≤_}
 use mathlib.Core.Path.{_≡_}
 use mathlib.Core.List.{List}

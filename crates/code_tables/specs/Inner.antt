@@ -1,4 +1,4 @@
--- What the functions of `inner` ask and find.
+-- What the functions of `inner` ask and find (document 01, refusals 5 and 6, as a caller meets them; "Reading").
 use Prim.Native.Nat.{ℕ, _/_, _≤_, _<_}
 use mathlib.Core.Path.{_≡_}
 use mathlib.Core.Bool.{true, false}

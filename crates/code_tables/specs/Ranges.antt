@@ -1,4 +1,4 @@
--- Codes as ranges of 32-bit numbers: those that begin with the code's bits. One of two codes begins the other exactly where their ranges meet, by which refusal 7 is tested quickly.
+-- Codes as ranges of 32-bit numbers: those that begin with the code's bits. One of two codes begins the other exactly where their ranges meet, by which refusal 7 of document 01 is tested quickly.
 use Prim.Native.Nat.{ℕ, _+_, _-_, _*_, _^_}
 use mathlib.Core.Bool.{Bool, true, _&&_}
 use mathlib.Core.List.{List, [], _∷_}

@@ -1,4 +1,4 @@
--- What the leaf search may assume, and what it hands back.
+-- What the leaf search may assume, and what it hands back (document 01, `svq1_enc_leaf.rs`, over the definitions of Leaf).
 use mathlib.Core.Path.{_≡_}
 use mathlib.Core.Bool.{Bool}
 use mathlib.Core.List.{List}

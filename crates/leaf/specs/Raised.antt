@@ -1,4 +1,4 @@
--- The unsigned numbers that the leaf search computes with, and the signed ones that they stand for: each is kept plus a bias.
+-- The unsigned numbers that the leaf search computes with, and the signed ones that they stand for: each is kept plus a bias (over the definitions of Leaf).
 use mathlib.Core.Path.{_≡_}
 use mathlib.Core.List.{List, [], _∷_, map}
 use Prim.Native.Nat.{ℕ, _+_, _*_, _≤_}

@@ -1,4 +1,4 @@
--- What showing a leaf asks.
+-- What showing a leaf asks (document 01, "Reading", over the definitions of leaf/Leaf).
 use mathlib.Core.Path.{_≡_}
 use mathlib.Core.List.{List}
 use Prim.Native.Nat.{ℕ, _+_, _*_, _≤_, _<_, min}

@@ -1,4 +1,4 @@
--- The block records of the code as the definitions' nodes.
+-- The block records of the code as the definitions' nodes (document 01, "Rust forms that need another build").
 use mathlib.Core.List.{List, map}
 use Prim.Native.Nat.{ℕ}
 use Rattle.leaf.specs.Raised.{leafOf}

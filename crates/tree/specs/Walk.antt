@@ -1,4 +1,4 @@
--- What the functions of `walk` ask, write and find.
+-- What the functions of `walk` ask, write and find (document 01, `svq1_enc_tree.rs`, "Reading", over the definitions of TreeBits).
 use mathlib.Core.Path.{_≡_}
 use mathlib.Core.List.{List, [], _∷_}
 use Prim.Native.Nat.{ℕ, zero, suc, _*_, _≤_}

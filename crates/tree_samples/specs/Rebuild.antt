@@ -1,4 +1,4 @@
--- What the reconstruction of a tree asks and leaves; leaves are shown by the raised codebook.
+-- What the reconstruction of a tree asks and leaves; leaves are shown by the raised codebook (document 01, `svq1_enc_tree.rs`: `plan_reconstruction`).
 use mathlib.Core.Path.{_≡_}
 use mathlib.Core.List.{List}
 use Prim.Native.Nat.{ℕ, _≤_, _<_}
