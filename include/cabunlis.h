@@ -3,7 +3,7 @@
  *
  * Link: rt staticlib host, then
  *     cc program.c -Iinclude target/staticlib/libhost.a
- * No other library is needed. C99 and later, C++98 and later.
+ * The library is for x86-64 (ELF) and calls memcpy, memmove and memset, nothing else. C99 and later, C++98 and later.
  *
  * What every function here has in common
  *
@@ -18,9 +18,36 @@
  * Words
  *
  * A plane of width x height samples is written against a reference: a canvas of stride x rows samples, row by row, where stride
- * and rows are width and height rounded up to a multiple of 16. It is divided into 16 x 16 macroblocks, row by row, so there are
- * (stride / 16) * (rows / 16). An 8 x 8 block (row r, column c) has its motion vector, in half samples, at r * (stride / 8) + c of
- * vx and vy, a two's complement byte each. A bit string is bytes, the highest bit of a byte first.
+ * and rows are width and height rounded up to a multiple of 16. The first `width` samples of its first `height` rows are the
+ * plane's; the others may hold anything, but they are predicted from like the rest, so the reader has to be lent the same
+ * reference as the writer. What a call leaves in `recon` is such a canvas, and serves as it is as the reference of the next plane.
+ *
+ * The canvas is divided into 16 x 16 macroblocks, row by row, so there are (stride / 16) * (rows / 16). An 8 x 8 block (row r,
+ * column c) has its motion vector, in half samples and from -32 to 31 on each axis, at r * (stride / 8) + c of vx and vy, a two's
+ * complement byte each: four a macroblock, the same one four times where it has one, zeros where it is skipped or intra. Samples
+ * that a vector reads outside the canvas are the nearest ones at its edge.
+ *
+ * A bit string is bytes, the highest bit of a byte first. Bits are counted from the first of the slice, whatever the start bit.
+ *
+ * A plane of 176 x 144 written, and read back
+ *
+ *     enum { W = 176, H = 144, BLOCKS = (W / 16) * (H / 16) };
+ *     static uint8_t book[CABUNLIS_BOOK_BYTES], codebook[CABUNLIS_CODEBOOK_BYTES];
+ *     static uint8_t source[W * H], reference[W * H], recon[W * H], vx[4 * BLOCKS], vy[4 * BLOCKS];
+ *     uint32_t stated[3 * BLOCKS];
+ *
+ *     cabunlis_house_book(book, sizeof book);
+ *     cabunlis_house_codebook(codebook, sizeof codebook);
+ *     size_t room = cabunlis_plane_room_under(W, H, book, sizeof book).bytes;
+ *     uint8_t *out = malloc(room);
+ *     struct cabunlis_answer a = cabunlis_encode_inter_plane(
+ *         W, H, W, H, source, sizeof source, reference, sizeof reference, book, sizeof book, codebook, sizeof codebook,
+ *         32, 8, 1, out, room, 0, recon, sizeof recon, vx, sizeof vx, vy, sizeof vy, stated, 3 * BLOCKS);
+ *     // a.refusal is 0, a.done is BLOCKS, a.next is the plane's last bit + 1: send (a.next + 7) / 8 bytes
+ *     struct cabunlis_answer b = cabunlis_decode_inter_plane(
+ *         W, H, W, H, reference, sizeof reference, book, sizeof book, codebook, sizeof codebook,
+ *         out, (a.next + 7) / 8, 0, recon, sizeof recon, vx, sizeof vx, vy, sizeof vy);
+ *     // b.next is a.next, and recon, vx and vy are what the writer left
  */
 #ifndef CABUNLIS_H
 #define CABUNLIS_H
@@ -36,20 +63,27 @@ extern "C" {
 #define CABUNLIS_LARGEST_SIDE 1024
 
 /*
- * A book: 932 entries of three bytes, the code's high byte, its low byte and its length in bits. In order: 4 modes (INTER,
- * INTER_4MV, INTRA, SKIP), 64 vector differences (-32 to 31), 256 intra means, 512 inter means (-256 to 255), then 48 entries of
- * the intra stages and 48 of the inter stages (eight for each level, 0 to 5: skip, then 0 to 6 stages).
+ * A book: 932 entries of three bytes, the code's high byte, its low byte and its length in bits, 1 to 32; a code of more than 16
+ * bits begins with zeros. In order: 4 modes (INTER, INTER_4MV, INTRA, SKIP), 64 vector differences (-32 to 31), 256 intra means,
+ * 512 inter means (-256 to 255), then 48 entries of the intra stages and 48 of the inter stages (eight for each level, 0 to 5:
+ * skip, then 0 to 6 stages). That makes sixteen tables: four, and six of eight entries for each half's stages.
  */
 #define CABUNLIS_BOOK_BYTES 2796
 
-/* A codebook: signed bytes, the pages in the order of document 01. */
+/*
+ * A codebook: signed bytes, two's complement. A page has six stages of sixteen vectors, one behind the other, each as long as a
+ * block of its level: level 3 is 8 x 8 samples, level 2 is 8 wide and 4 high, level 1 is 4 x 4, level 0 is 4 wide and 2 high.
+ * Levels 4 and 5 have no page. Where a page begins, intra and inter: level 3 at 0 and 6,144, level 2 at 12,288 and 15,360, level 1
+ * at 18,432 and 19,968, level 0 at 21,504 and 22,272. A vector's samples go row by row; those of levels 3 and 2 by tiles of 4 x 4,
+ * tile by tile in rows, each row by row.
+ */
 #define CABUNLIS_CODEBOOK_BYTES 23040
 
 /* The longest bit string, in bytes. */
 #define CABUNLIS_MOST_BYTES ((size_t)1 << 28)
 
-/* Stack that a call may take, in bytes. Measured (host/stack.c): writer 44,416, reader 44,096, a book file 8,104,
- * a room under a book 4,296, the others next to nothing. */
+/* Stack that a call may take, in bytes. Measured on x86-64: writer 44,416, reader 44,096, a book file 8,104, a room under a book
+ * 4,296, the others next to nothing. */
 #define CABUNLIS_STACK_BYTES 49152
 
 /* The refusals that a C host can meet. */
@@ -65,7 +99,7 @@ enum cabunlis_refusal {
     CABUNLIS_REFERENCE = 4,
     /* book or codebook of another size; a line of a book file malformed, missing or doubled */
     CABUNLIS_TABLES = 5,
-    /* a code's length outside 1..32, or its value not below 2^length */
+    /* a code's length outside 1 to 32, or its value not below 2^length */
     CABUNLIS_CODE = 6,
     /* in one of the sixteen tables a code begins another or equals it */
     CABUNLIS_PREFIX = 7,
@@ -73,9 +107,9 @@ enum cabunlis_refusal {
     CABUNLIS_NO_CODE = 10,
     /* reader: an intra leaf that skips, or stages at level 4 or 5 */
     CABUNLIS_LEAF = 11,
-    /* vx or vy shorter than four bytes a macroblock, or recon length not stride x rows */
+    /* vx or vy shorter than four bytes a macroblock (longer is fine, the rest stays), or recon length not stride x rows */
     CABUNLIS_RESULTS = 20,
-    /* bit string longer than CABUNLIS_MOST_BYTES, or start bit beyond its end */
+    /* bit string longer than CABUNLIS_MOST_BYTES, or start bit beyond its end: above 8 x its length */
     CABUNLIS_BITS = 21,
     /* writer: the next macroblock does not fit */
     CABUNLIS_FULL = 22,
@@ -85,14 +119,14 @@ enum cabunlis_refusal {
 
 /*
  * What a plane call answers. Where refusal is 10, 11, 22 or 24 the call came to the macroblock of index `macroblock`: those before
- * it are done, with their bits, samples and vectors, and the rest is untouched. With any other refusal nothing is done and every
- * other field is 0. The lowest number that applies is answered, 20 and 21 behind 1 to 7.
+ * it are done, with their bits, samples and vectors, the rest is untouched, and `next` is where it begins. With any other refusal
+ * nothing is done and every other field is 0. The lowest number that applies is answered, 20 and 21 behind 1 to 7.
  */
 struct cabunlis_answer {
     uint32_t refusal;
     size_t macroblock; /* its index with 10, 11, 22 and 24, else 0 */
     size_t done;       /* macroblocks done */
-    size_t next;       /* the bit behind them */
+    size_t next;       /* the bit behind them, counted from the first of the slice */
     uint64_t bits;     /* writer: their bits; reader: 0 */
     uint64_t error;    /* writer: their squared error against the source, its last column and row repeated; reader: 0 */
 };
@@ -108,12 +142,16 @@ enum cabunlis_mode {
 /*
  * Writes a plane from bit `start` of `out` on.
  *
- * lambda weighs bits against squared error (any 64-bit number); radius is the search's, in whole samples; four vectors a
- * macroblock are tried unless `four` is 0.
+ * lambda weighs bits against squared error: a macroblock is coded in the way of least error + lambda x bits. Any 64-bit number is
+ * taken; 0 buys every gain, 32 is a fair start. radius is the search's, any number from 0 to 255: the zero vector is tried, then
+ * those that lie up to so many whole samples to each side of the vector predicted from the neighbours, then the half samples around
+ * the best; so a vector may be longer than the radius, and one above 31 finds nothing more. Four vectors a macroblock are tried
+ * unless `four` is 0. Time grows with the number of macroblocks, and a little with the radius.
  *
- * Leaves: in `out` the bits of the macroblocks done, zeros behind them to the end of their last byte, everything else as it was; in
- * `recon` their samples as a reader shows them; in `vx` and `vy` their vectors; in `stated` three numbers for each macroblock done,
- * as far as it has room for all three: its mode (enum cabunlis_mode), its bits, its squared error. `stated` may be empty.
+ * Leaves: in `out` the bits of the macroblocks done, zeros behind them to the end of their last byte, everything else as it was,
+ * the bits before `start` too (where none is done, every byte); in `recon` their samples as a reader shows them; in `vx` and `vy`
+ * their vectors; in `stated` three numbers for each macroblock done, as far as it has room for all three: its mode (enum
+ * cabunlis_mode), its bits, its squared error. `stated` may be empty.
  *
  * Refusals: 1 to 7, 20, 21; 22 with the macroblock that does not fit.
  */
@@ -162,8 +200,10 @@ struct cabunlis_room cabunlis_plane_room(size_t width, size_t height);
 struct cabunlis_room cabunlis_plane_room_under(size_t width, size_t height, const uint8_t *book, size_t book_length);
 
 /*
- * Reads a book file (932 lines `table,position,length,code`, in any order, each entry once) into `book`, which is written whole, or
- * not at all where the file is refused. Answers 0 or a refusal: 5 (also where `book` has another length), 6, 7.
+ * Reads a book file into `book`, which is written whole, or not at all where the file is refused. The file has 932 lines
+ * `table,position,length,code`, each ended by a line feed, in any order, each entry once: table is mode, vector, intramean,
+ * intermean, intrastage or interstage, position the entry's place in it from 0 on, all numbers decimal and without leading zeros,
+ * as in `mode,3,1,1`. Answers 0 or a refusal: 5 (also where `book` has another length), 6, 7.
  */
 uint32_t cabunlis_read_book_file(const uint8_t *file, size_t file_length, uint8_t *book, size_t book_length);
 
