@@ -13,12 +13,12 @@ use super::plane_text::put_end;
 use super::plane_text::put_flat;
 use super::plane_text::put_written;
 use super::sums::count_of;
+use canvas::svq1_plane::Svq1PlaneCanvas;
 use plane::svq1_plane::ReadEnd;
 use plane::svq1_plane::decode_inter_plane;
 use plane_enc::svq1_enc_inter::WriteEnd;
 use plane_enc::svq1_enc_inter::encode_inter_plane;
 use text::put_text;
-use vectors::svq1_plane::Svq1PlaneCanvas;
 
 const SOURCE: u8 = 100;
 

@@ -11,9 +11,9 @@ use super::plane_text::RADIUS;
 use super::plane_text::put_asked;
 use super::plane_text::put_flat;
 use super::plane_text::put_written;
+use canvas::svq1_plane::Svq1PlaneCanvas;
 use plane_enc::svq1_enc_inter::WriteEnd;
 use plane_enc::svq1_enc_inter::encode_inter_plane;
-use vectors::svq1_plane::Svq1PlaneCanvas;
 
 const SAMPLE: u8 = 100;
 

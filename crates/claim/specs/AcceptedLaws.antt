@@ -14,7 +14,7 @@ use Rattle.bits.specs.BasicsLaws.{both-true, or-none, unless-none, length-value
 use Rattle.bits.specs.Calls.{startRefusal}
 use Rattle.book.specs.Book.{dataRefusal}
 use Rattle.book.specs.BookLaws.{data-passes}
-use Rattle.vectors.specs.Canvas.{largestSide, sideOk, padded16, sizeRefusal, canvasRefusal}
+use Rattle.canvas.specs.Canvas.{largestSide, sideOk, padded16, sizeRefusal, canvasRefusal}
 use Rattle.macroblock.specs.Macroblock.{Given, cols, rows}
 use Rattle.macroblock.specs.Choice.{Task, paddedSource}
 use Rattle.macroblock.specs.MacroblockLaws.{Fine}

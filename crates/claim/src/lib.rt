@@ -4,11 +4,11 @@ ghost use Rattle.macroblock.specs.Inner.{givenBy};
 ghost use Rattle.plane.specs.Reader as reader;
 ghost use Rattle.plane_enc.specs.Writer as writer;
 ghost use Rattle.claim.specs.RoundTrip.{RoundTrip};
+use canvas::svq1_plane::Svq1PlaneCanvas;
 use plane::svq1_plane::ReadEnd;
 use plane::svq1_plane::decode_inter_plane;
 use plane_enc::svq1_enc_inter::WriteEnd;
 use plane_enc::svq1_enc_inter::encode_inter_plane;
-use vectors::svq1_plane::Svq1PlaneCanvas;
 
 // What the writer answered, and the reader.
 pub struct TripEnd {

@@ -7,7 +7,7 @@ use lib.ListN.{getD}
 use lib.IntN.{ℤ, pos, negsuc, _+ℤ_}
 use lib.Signed.{shrZ}
 use Rattle.bits.specs.Basics.{pick, valuesFrom}
-use Rattle.vectors.specs.Canvas.{Canvas}
+use Rattle.canvas.specs.Canvas.{Canvas}
 use Rattle.vectors.specs.declared.svq1_motion_predictor.Svq1Mv.{Svq1Mv}
 
 abbrev pub even : ℤ → Bool

@@ -10,7 +10,7 @@ use lib.ListN.{length}
 use Rattle.bits.specs.Basics.{pick, Bytes, valuesFrom}
 use Rattle.bits.specs.BasicsLaws.{length-values}
 use Rattle.vectors.specs.declared.svq1_motion_predictor.Svq1Mv.{Svq1Mv}
-use Rattle.vectors.specs.Canvas.{Canvas}
+use Rattle.canvas.specs.Canvas.{Canvas}
 use Rattle.compensation.specs.Compensation.{even, mean2, mean4, sampleAt, halfSample, movedSample, movedBlock}
 
 pub bytes-list : (f : ℕ → ℕ) → ((j : ℕ) → f j < 256) → (n j : ℕ) → Bytes (valuesFrom f n j)

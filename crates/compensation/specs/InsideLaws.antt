@@ -15,7 +15,7 @@ use lib.Seq.{ext-getD}
 use borrow.Author.Tests.{leb-true, eq-eqb, ne-eqb}
 use Rattle.bits.specs.Basics.{valuesFrom}
 use Rattle.bits.specs.BasicsLaws.{both-true, length-values, value-at}
-use Rattle.vectors.specs.Canvas.{Canvas}
+use Rattle.canvas.specs.Canvas.{Canvas}
 use Rattle.compensation.specs.Compensation.{mean2, mean4, halfSample, movedSample}
 use Rattle.mv_cache.specs.Grid.{entryOf, putPart}
 use Rattle.mv_cache.specs.PutLaws.{putTo, put-all}

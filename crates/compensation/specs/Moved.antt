@@ -8,7 +8,7 @@ use lib.Dec.{leb}
 use lib.ListN.{length, set}
 use Rattle.bits.specs.Basics.{valuesFrom}
 use Rattle.vectors.specs.declared.svq1_motion_predictor.Svq1Mv.{Svq1Mv}
-use Rattle.vectors.specs.Canvas.{Canvas, largestSide, padded16}
+use Rattle.canvas.specs.Canvas.{Canvas, largestSide, padded16}
 use Rattle.compensation.specs.Compensation.{movedSample}
 use Rattle.mv_cache.specs.Grid.{entryOf, putPart}
 use Rattle.compensation.specs.Rows.{Sides, cell}

@@ -14,7 +14,7 @@ use borrow.Author.Tests.{lt-ltb, le-ltb, eq-eqb, ne-eqb}
 use Rattle.bits.specs.Basics.{pick, valuesFrom}
 use Rattle.bits.specs.BasicsLaws.{length-values, value-at}
 use Rattle.vectors.specs.declared.svq1_motion_predictor.Svq1Mv.{Svq1Mv}
-use Rattle.vectors.specs.Canvas.{Canvas}
+use Rattle.canvas.specs.Canvas.{Canvas}
 use Rattle.compensation.specs.Compensation.{even, clampTo, sampleAt, mean2, mean4, halfSample, movedSample}
 use Rattle.mv_cache.specs.Grid.{entryOf}
 use Rattle.mv_cache.specs.GridLaws.{Holds, in-owner}

@@ -12,7 +12,7 @@ use Rattle.bits.specs.Basics.{valuesFrom}
 use Rattle.bits.specs.BasicsLaws.{length-values, value-at}
 use Rattle.vectors.specs.declared.svq1_motion_predictor.Svq1Mv.{Svq1Mv}
 use Rattle.vectors.specs.Vectors.{zeroMv}
-use Rattle.vectors.specs.Canvas.{Canvas}
+use Rattle.canvas.specs.Canvas.{Canvas}
 use Rattle.compensation.specs.Compensation.{movedSample, movedBlock}
 use Rattle.mv_cache.specs.Grid.{owner, placeIn, entryOf, putPart}
 use Rattle.mv_cache.specs.GridLaws.{length-put, put-own, put-other, owner-in}

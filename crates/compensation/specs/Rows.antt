@@ -5,7 +5,7 @@ use mathlib.Core.List.{List}
 use lib.Dec.{eqb, leb}
 use lib.ListN.{length, getD}
 use Rattle.bits.specs.Basics.{pick, gap, sum}
-use Rattle.vectors.specs.Canvas.{Canvas}
+use Rattle.canvas.specs.Canvas.{Canvas}
 use Rattle.compensation.specs.Compensation.{mean2, mean4}
 use Rattle.compensation.specs.declared.inner.error.Taken.{Taken}
 

@@ -6,9 +6,9 @@ ghost use Rattle.bits.specs.Basics.{pick};
 ghost use Rattle.macroblock.specs.Inner.{givenBy};
 ghost use Rattle.macroblock_choice.specs.Chosen.{taskBy};
 ghost use Rattle.host.specs.Host.{midPlane, hostAnswer, HostWritten, HostRead};
+use canvas::svq1_plane::Svq1PlaneCanvas;
 use plane::svq1_plane::decode_inter_plane;
 use plane_enc::svq1_enc_inter::encode_inter_plane_stated;
-use vectors::svq1_plane::Svq1PlaneCanvas;
 
 // What a plane call answers. The reader's totals are 0.
 #[repr(C)]

@@ -15,7 +15,7 @@ use Rattle.bits.specs.Basics.{orElse, unless}
 use Rattle.bits.specs.BasicsLaws.{or-none}
 use Rattle.book.specs.Book.{codebookBytes}
 use Rattle.book_file.specs.BookFile.{fileRefusal}
-use Rattle.vectors.specs.Canvas.{padded16, sizeRefusal, canvasRefusal}
+use Rattle.canvas.specs.Canvas.{padded16, sizeRefusal, canvasRefusal}
 use Rattle.job_file.specs.Job.{Job, mostWidth, mostHeight, jobIn}
 use Rattle.job_file.specs.JobLaws.{job-small}
 use Rattle.jobs.specs.Listing.{Files, filesRefusal, jobText, listing}

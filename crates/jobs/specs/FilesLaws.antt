@@ -16,8 +16,8 @@ use Rattle.book.specs.Book.{bookBytes, codebookBytes, bookRefusal, dataRefusal}
 use Rattle.book_file.specs.BookFile.{fileRefusal, fileBook}
 use Rattle.book_file.specs.BookFileLaws.{accepted}
 use Rattle.book_file.specs.Scan.{BookFileRead, readFileRefusal, readFileBook}
-use Rattle.vectors.specs.Canvas.{Canvas, largestSide, sideOk, padded16, sizeRefusal, canvasRefusal}
-use Rattle.vectors.specs.CanvasLaws.{size-passes}
+use Rattle.canvas.specs.Canvas.{Canvas, largestSide, sideOk, padded16, sizeRefusal, canvasRefusal}
+use Rattle.canvas.specs.CanvasLaws.{size-passes}
 use Rattle.macroblock.specs.Macroblock.{Given}
 use Rattle.macroblock.specs.Choice.{Task}
 use Rattle.plane.specs.Plane.{count}

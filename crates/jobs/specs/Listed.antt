@@ -7,8 +7,8 @@ use lib.ListN.{length, take, drop, replicate}
 use Rattle.bits.specs.Basics.{pick, orElse, unless}
 use Rattle.book.specs.Book.{codebookBytes}
 use Rattle.book_file.specs.BookFile.{fileRefusal, fileBook}
-use Rattle.vectors.specs.Canvas.{Canvas, padded16, sizeRefusal, canvasRefusal}
-use Rattle.vectors.specs.declared.svq1_plane.Svq1PlaneCanvas.{Svq1PlaneCanvas}
+use Rattle.canvas.specs.Canvas.{Canvas, padded16, sizeRefusal, canvasRefusal}
+use Rattle.canvas.specs.declared.svq1_plane.Svq1PlaneCanvas.{Svq1PlaneCanvas}
 use Rattle.macroblock.specs.Macroblock.{Given}
 use Rattle.macroblock.specs.Choice.{Task}
 use Rattle.plane_enc.specs.declared.svq1_enc_inter.WriteEnd.{WriteEnd}

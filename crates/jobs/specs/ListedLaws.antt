@@ -15,8 +15,8 @@ use Rattle.bits.specs.BasicsLaws.{or-next, or-none}
 use Rattle.bits.specs.Bits.{bitsOf}
 use Rattle.bits.specs.Calls.{startRefusal}
 use Rattle.book.specs.Book.{dataRefusal}
-use Rattle.vectors.specs.Canvas.{sizeRefusal, canvasRefusal}
-use Rattle.vectors.specs.CanvasLaws.{plane-passes}
+use Rattle.canvas.specs.Canvas.{sizeRefusal, canvasRefusal}
+use Rattle.canvas.specs.CanvasLaws.{plane-passes}
 use Rattle.macroblock.specs.declared.svq1_enc_inter.Svq1MbMode.{Svq1MbMode}
 use Rattle.macroblock.specs.declared.svq1_enc_inter.Svq1MbMode.the-variants.{Inter, Inter4Mv, Intra, Skip}
 use Rattle.macroblock.specs.Mode.{modePosition}

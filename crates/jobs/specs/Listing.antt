@@ -9,7 +9,7 @@ use Rattle.bits.specs.Bits.{bitsOf}
 use Rattle.book.specs.Book.{codebookBytes}
 use Rattle.text.specs.Text.{decimal, lineOf}
 use Rattle.book_file.specs.BookFile.{fileRefusal, fileBook}
-use Rattle.vectors.specs.Canvas.{padded16, sizeRefusal, canvasRefusal}
+use Rattle.canvas.specs.Canvas.{padded16, sizeRefusal, canvasRefusal}
 use Rattle.macroblock.specs.declared.svq1_enc_inter.Svq1MbMode.{Svq1MbMode}
 use Rattle.macroblock.specs.declared.svq1_enc_inter.Svq1MbMode.the-variants.{Inter, Inter4Mv, Intra, Skip}
 use Rattle.macroblock.specs.Macroblock.{Given, cols}

@@ -15,13 +15,13 @@ ghost use Rattle.jobs.specs.Listed.{listingRoom, Listed, filesBy, canvas
 use super::lines::put_lines;
 use super::lines::put_refused;
 use super::lines::put_total_line;
+use canvas::svq1_plane::Svq1PlaneCanvas;
+use canvas::svq1_plane::plane_refusal;
 use job_file::JobRead;
 use job_file::ListingJob;
 use job_file::read_job;
 use plane_enc::svq1_enc_inter::WriteEnd;
 use plane_enc::svq1_enc_inter::encode_inter_plane_stated;
-use vectors::svq1_plane::Svq1PlaneCanvas;
-use vectors::svq1_plane::plane_refusal;
 
 // The canvas of a plane of the program's sizes.
 fn canvas_of(width: usize, height: usize) -> Svq1PlaneCanvas

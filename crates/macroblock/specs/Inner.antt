@@ -1,14 +1,14 @@
 -- What the functions of `inner` are lent, as the refusals of a plane call leave it (document 01, refusals 1 to 7 and 20).
-use mathlib.Core.List.{List}
+use mathlib.Core.List.{List, []}
 use mathlib.Core.Path.{_≡_}
 use Prim.Native.Nat.{ℕ, _*_, _≤_}
 use lib.ListN.{length}
 use Rattle.book.specs.Book.{dataRefusal}
 use Rattle.codebook.specs.Raised.{raisedCodebook}
-use Rattle.vectors.specs.Canvas.{sizeRefusal, canvasRefusal}
+use Rattle.canvas.specs.Canvas.{sizeRefusal, canvasRefusal}
 use Rattle.macroblock.specs.Macroblock.{Given, cols, rows}
 use Rattle.macroblock.specs.Slices.{Slices}
-use Rattle.vectors.specs.declared.svq1_plane.Svq1PlaneCanvas.{Svq1PlaneCanvas}
+use Rattle.canvas.specs.declared.svq1_plane.Svq1PlaneCanvas.{Svq1PlaneCanvas}
 
 -- what a call is given, by its parameters
 abbrev pub givenBy : Svq1PlaneCanvas → List ℕ → List ℕ → List ℕ → Given
@@ -32,3 +32,7 @@ pub record Held (g : Given) (s : Slices) : Type 0 where
   pub recon-whole : length (s .recon) ≡ g .reference .stride * g .reference .rows
   pub vx-long : 4 * (rows g * cols g) ≤ length (s .vx)
   pub vy-long : 4 * (rows g * cols g) ≤ length (s .vy)
+
+-- a macroblock's bits look at nothing but the book
+abbrev pub byBook : List ℕ → Given
+byBook book = record { width = 0; height = 0; reference = record { samples = []; stride = 0; rows = 0 }; book = book; codebook = [] }

@@ -12,8 +12,8 @@ use Rattle.book.specs.BookLaws.{data-passes}
 use Rattle.mv_cache.specs.Cache as cache
 use Rattle.mv_cache.specs.Grid.{owner}
 use Rattle.mv_cache.specs.GridLaws.{in-owner}
-use Rattle.vectors.specs.Canvas.{sizeRefusal}
-use Rattle.vectors.specs.CanvasLaws.{Fitting, plane-passes}
+use Rattle.canvas.specs.Canvas.{sizeRefusal}
+use Rattle.canvas.specs.CanvasLaws.{Fitting, plane-passes}
 use Rattle.macroblock.specs.Macroblock.{Given, cols, rows}
 use Rattle.macroblock.specs.Slices.{Slices}
 use Rattle.macroblock.specs.Inner.{Accepted, Held}

@@ -6,14 +6,9 @@ pub mod Reading
 pub mod Slices
 pub mod Inner
 pub mod Motions
-pub mod Finding
 pub mod Samples
-pub mod MacroblockRead
 pub mod SamplesLaws
 pub mod InnerLaws
-pub mod FindingLaws
-pub mod MacroblockReadLaws
 pub mod LayLaws
 pub mod MacroblockLaws
-pub mod Coding
-pub mod CodingLaws
+pub mod Laying

@@ -12,7 +12,7 @@ use Rattle.codebook.specs.Codebook.{vectorAt}
 use Rattle.vectors.specs.declared.svq1_motion_predictor.Svq1Mv.{Svq1Mv}
 use Rattle.vectors.specs.Vectors.{zeroMv, placeOf}
 use Rattle.mv_cache.specs.Neighbours.{Near, forOne, forFirst, forSecond, forThird, forFourth}
-use Rattle.vectors.specs.Canvas.{Canvas, blocksAlong}
+use Rattle.canvas.specs.Canvas.{Canvas, blocksAlong}
 use Rattle.compensation.specs.Compensation.{movedSample, movedBlock}
 use Rattle.mv_cache.specs.Grid.{part}
 use Rattle.tree.specs.TreeBits.{Node, treeBits, treeShown}

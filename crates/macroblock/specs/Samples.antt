@@ -9,14 +9,14 @@ use Rattle.book.specs.declared.svq1_vlc.Svq1Half.{Svq1Half}
 use Rattle.codebook.specs.Raised.{raisedCodebook}
 use Rattle.vectors.specs.declared.svq1_motion_predictor.Svq1Mv.{Svq1Mv}
 use Rattle.vectors.specs.Vectors.{zeroMv}
-use Rattle.vectors.specs.Canvas.{Canvas, largestSide, blocksAlong}
+use Rattle.canvas.specs.Canvas.{Canvas, largestSide, blocksAlong}
 use Rattle.compensation.specs.Compensation.{movedSample}
 use Rattle.mv_cache.specs.Grid.{putPart}
 use Rattle.mv_cache.specs.GridLaws.{Holds}
 use Rattle.compensation.specs.Moved.{Placed}
 use Rattle.tree.specs.TreeBits.{Node}
 use Rattle.tree.specs.Walk.{SoundTree}
-use Rattle.vectors.specs.declared.svq1_plane.Svq1PlaneCanvas.{Svq1PlaneCanvas}
+use Rattle.canvas.specs.declared.svq1_plane.Svq1PlaneCanvas.{Svq1PlaneCanvas}
 use Rattle.macroblock.specs.Macroblock.{Choice, vectorFor, shown}
 use Rattle.macroblock.specs.Inner.{givenBy}
 

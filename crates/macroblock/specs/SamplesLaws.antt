@@ -13,7 +13,7 @@ use Rattle.bits.specs.Basics.{All, signedByte}
 use Rattle.bits.specs.BasicsLaws.{length-values, value-at}
 use Rattle.vectors.specs.declared.svq1_motion_predictor.Svq1Mv.{Svq1Mv}
 use Rattle.vectors.specs.Vectors.{zeroMv}
-use Rattle.vectors.specs.Canvas.{Canvas, blocksAlong}
+use Rattle.canvas.specs.Canvas.{Canvas, blocksAlong}
 use Rattle.compensation.specs.Compensation.{movedSample, movedBlock}
 use Rattle.compensation.specs.CompensationLaws.{length-moved}
 use Rattle.mv_cache.specs.Cache.{Stored}
@@ -31,7 +31,7 @@ use Rattle.tree.specs.TreeBits.{Node}
 use Rattle.tree.specs.Walk.{SoundTree}
 use Rattle.macroblock.specs.declared.svq1_enc_inter.MbMotion.{MbMotion}
 use Rattle.macroblock.specs.declared.svq1_enc_inter.MbMotion.the-variants.{None, One, Four}
-use Rattle.vectors.specs.declared.svq1_plane.Svq1PlaneCanvas.{Svq1PlaneCanvas}
+use Rattle.canvas.specs.declared.svq1_plane.Svq1PlaneCanvas.{Svq1PlaneCanvas}
 use Rattle.macroblock.specs.Macroblock.{Given, Motion, still, single, four, skipped, coded, halfOf, leftOf, topOf, referenceBlock, baseline, shown}
 use Rattle.macroblock.specs.Inner.{givenBy}
 use Rattle.macroblock.specs.Motions.{motionOf}

@@ -11,7 +11,7 @@ use Rattle.vectors.specs.Vectors.{zeroMv}
 use Rattle.mv_cache.specs.Neighbours.{Near}
 use Rattle.tree.specs.declared.svq1_enc_tree.Block.{Block}
 use Rattle.tree.specs.Nodes.{treeOf}
-use Rattle.plan.specs.Planned.{costOf}
+use Rattle.costs.specs.Cost.{costOf}
 use Rattle.tree.specs.TreeBits.{planTree}
 use Rattle.macroblock_choice.specs.declared.inner.candidates.MbCandidate.{MbCandidate}
 use Rattle.macroblock.specs.declared.svq1_enc_inter.MbMotion.{MbMotion}
@@ -20,7 +20,8 @@ use Rattle.macroblock.specs.declared.svq1_enc_inter.Svq1MbMode.the-variants as 
 use Rattle.macroblock.specs.Macroblock.{Given, Motion, Choice, coded, modeOf, motionMode, vectorsOf, shown, motionBits, modeBits, choiceBits}
 use Rattle.macroblock.specs.Choice.{Task, target, planningFor, bestOf}
 use Rattle.macroblock.specs.Motions.{motionOf}
-use Rattle.macroblock.specs.Finding.{byBook, choiceBy}
+use Rattle.macroblock.specs.Inner.{byBook}
+use Rattle.macroblock.specs.Laying.{choiceBy}
 
 -- SKIP, or not
 abbrev pub skips : Svq1MbMode → Bool

@@ -12,10 +12,10 @@ use Rattle.leaf.specs.Leaf.{sse}
 use Rattle.vectors.specs.declared.svq1_motion_predictor.Svq1Mv.{Svq1Mv}
 use Rattle.mv_cache.specs.Neighbours.{Near}
 use Rattle.mv_cache.specs.Grid.{part}
-use Rattle.vectors.specs.Canvas.{blocksAlong}
+use Rattle.canvas.specs.Canvas.{blocksAlong}
 use Rattle.tree.specs.declared.svq1_enc_tree.Block.{Block}
 use Rattle.tree.specs.Nodes.{treeOf}
-use Rattle.plan.specs.Planned.{costOf}
+use Rattle.costs.specs.Cost.{costOf}
 use Rattle.tree.specs.TreeBits.{Node, treeBits}
 use Rattle.macroblock_choice.specs.declared.inner.candidates.MbCandidate.{MbCandidate}
 use Rattle.macroblock.specs.declared.svq1_enc_inter.MbMotion.{MbMotion}
@@ -23,7 +23,8 @@ use Rattle.macroblock.specs.declared.svq1_enc_inter.Svq1MbMode.the-variants as 
 use Rattle.macroblock.specs.Macroblock.{Given, Motion, still, single, four, Choice, skipped, coded, modeOf, motionMode, halfOf, vectorsOf, referenceBlock, shown, vectorBits, motionBits, modeBits, choiceBits}
 use Rattle.macroblock.specs.Choice.{Task, target, singleTried, fourTried, motionsTried, tried, weightOf, beats, bestOf, chosen}
 use Rattle.macroblock.specs.Motions.{motionOf}
-use Rattle.macroblock.specs.Finding.{byBook, choiceBy}
+use Rattle.macroblock.specs.Inner.{byBook}
+use Rattle.macroblock.specs.Laying.{choiceBy}
 use Rattle.macroblock_choice.specs.Candidates.{skips, choiceOf, Stated, Skipping, CandidateOf, preferred, codedFor, Tried}
 
 -- ---- SKIP

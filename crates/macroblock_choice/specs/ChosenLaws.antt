@@ -20,7 +20,7 @@ use Rattle.plan.specs.PlanClaimLaws.{Planned, plan-bits, plan-error, plan-short
 use Rattle.tree.specs.TreeBits.{planTree, treeBits}
 use Rattle.macroblock_choice.specs.declared.inner.candidates.MbCandidate.{MbCandidate}
 use Rattle.macroblock.specs.declared.svq1_enc_inter.MbMotion.{MbMotion}
-use Rattle.vectors.specs.declared.svq1_plane.Svq1PlaneCanvas.{Svq1PlaneCanvas}
+use Rattle.canvas.specs.declared.svq1_plane.Svq1PlaneCanvas.{Svq1PlaneCanvas}
 use Rattle.macroblock.specs.Macroblock.{Given, rows, Motion, skipped, coded, halfOf, baseline, shown}
 use Rattle.macroblock.specs.MacroblockLaws.{Fine, baseline-block}
 use Rattle.macroblock.specs.Choice.{Task, target, skipsLeaves, planningFor, singleTried, fourTried}

@@ -11,10 +11,10 @@ use Rattle.codebook.specs.RaisedLaws.{raised-length}
 use Rattle.mv_cache.specs.Neighbours.{Near}
 use Rattle.mv_cache.specs.NeighboursLaws.{Around, around}
 use Rattle.tree.specs.Nodes.{treeOf}
-use Rattle.plan.specs.PlanCallLaws.{plan-sound}
+use Rattle.plan.specs.SoundLaws.{plan-sound}
 use Rattle.tree.specs.Walk.{SoundTree}
 use Rattle.macroblock_choice.specs.declared.inner.candidates.MbCandidate.{MbCandidate}
-use Rattle.vectors.specs.declared.svq1_plane.Svq1PlaneCanvas.{Svq1PlaneCanvas}
+use Rattle.canvas.specs.declared.svq1_plane.Svq1PlaneCanvas.{Svq1PlaneCanvas}
 use Rattle.macroblock.specs.Macroblock.{Given, cols, rows, Motion, coded, modeOf, halfOf}
 use Rattle.macroblock.specs.MacroblockLaws.{Fine, Good, chosen-good, Codables, planned-for, motions-codable, all-map, chosen-one}
 use Rattle.macroblock.specs.Choice.{Task, planningFor, motionsTried, tried, weightOf, chosen}

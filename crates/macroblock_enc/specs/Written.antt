@@ -12,22 +12,21 @@ use Rattle.book.specs.Book.{tablesOf, bookRefusal}
 use Rattle.codebook.specs.Raised.{raisedCodebook}
 use Rattle.mv_cache.specs.Neighbours.{Near}
 use Rattle.mv_cache.specs.NeighboursLaws.{Ranged}
-use Rattle.vectors.specs.Canvas.{blocksAlong}
+use Rattle.canvas.specs.Canvas.{blocksAlong}
 use Rattle.tree.specs.Nodes.{treeOf}
 use Rattle.tree.specs.Plan.{Weight}
 use Rattle.tree.specs.TreeBits.{Node, treeBits}
 use Rattle.tree.specs.Walk.{SoundTree}
 use Rattle.macroblock_choice.specs.declared.inner.candidates.MbCandidate.{MbCandidate}
 use Rattle.macroblock_enc.specs.declared.inner.writing.WrittenMb.{WrittenMb}
-use Rattle.vectors.specs.declared.svq1_plane.Svq1PlaneCanvas.{Svq1PlaneCanvas}
+use Rattle.canvas.specs.declared.svq1_plane.Svq1PlaneCanvas.{Svq1PlaneCanvas}
 use Rattle.macroblock.specs.Macroblock.{Given, cols, rows, Motion, Choice, skipped, coded, modeOf, halfOf, vectorsOf, motionBits, choiceBits}
 use Rattle.macroblock.specs.MacroblockLaws.{Codables}
 use Rattle.macroblock.specs.Choice.{Task, weightOf, chosen}
 use Rattle.macroblock.specs.Slices.{Slices, near, laid}
-use Rattle.macroblock.specs.Inner.{givenBy, Accepted, Held}
-use Rattle.macroblock.specs.MacroblockRead.{ShowingIf, Laying}
+use Rattle.macroblock.specs.Inner.{givenBy, Accepted, Held, byBook}
+use Rattle.macroblock.specs.Laying.{ShowingIf, Laying}
 use Rattle.macroblock.specs.Motions.{motionOf}
-use Rattle.macroblock.specs.Finding.{byBook}
 use Rattle.macroblock_choice.specs.Candidates.{skips, choiceOf}
 
 -- ---- bits

@@ -16,15 +16,14 @@ use Rattle.tree.specs.TreeBits.{Node, treeBits}
 use Rattle.tree.specs.Walk.{SoundTree, TreeRoom}
 use Rattle.macroblock_choice.specs.declared.inner.candidates.MbCandidate.{MbCandidate}
 use Rattle.macroblock.specs.declared.svq1_enc_inter.Svq1MbMode.{Svq1MbMode}
-use Rattle.vectors.specs.declared.svq1_plane.Svq1PlaneCanvas.{Svq1PlaneCanvas}
+use Rattle.canvas.specs.declared.svq1_plane.Svq1PlaneCanvas.{Svq1PlaneCanvas}
 use Rattle.macroblock.specs.Macroblock.{Motion, skipped, coded, modeOf, halfOf, vectorsOf, motionBits, modeBits, choiceBits}
 use Rattle.macroblock.specs.MacroblockLaws.{Codables}
 use Rattle.macroblock.specs.Motions.{motionOf}
-use Rattle.macroblock.specs.Inner.{givenBy}
-use Rattle.macroblock.specs.Finding.{byBook, choiceBy}
-use Rattle.macroblock.specs.MacroblockRead.{LaysChoice}
+use Rattle.macroblock.specs.Inner.{givenBy, byBook}
+use Rattle.macroblock.specs.Laying.{choiceBy, LaysChoice}
 use Rattle.macroblock.specs.LayLaws.{laid-is}
-use Rattle.macroblock.specs.CodingLaws.{first-fits, second-fits}
+use Rattle.macroblock_bits.specs.CodingLaws.{first-fits, second-fits}
 use Rattle.macroblock_choice.specs.Candidates.{skips, choiceOf}
 use Rattle.macroblock_enc.specs.Written.{Codes, CodedRoom, PutReady, LaysCandidate, WriteReady, CandidateWritten, CandidateLaid}
 

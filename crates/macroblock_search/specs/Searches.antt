@@ -12,14 +12,14 @@ use Rattle.vectors.specs.Vectors.{zeroMv}
 use Rattle.vectors.specs.VectorsLaws.{Codable}
 use Rattle.mv_cache.specs.Neighbours.{Near}
 use Rattle.motion.specs.Search.{Search, searched}
-use Rattle.vectors.specs.Canvas.{largestSide, blocksAlong}
-use Rattle.vectors.specs.CanvasLaws.{Fitting}
+use Rattle.canvas.specs.Canvas.{largestSide, blocksAlong}
+use Rattle.canvas.specs.CanvasLaws.{Fitting}
 use Rattle.tree.specs.Blocks.{gather}
 use Rattle.macroblock_search.specs.declared.inner.motions.FoundMotion.{FoundMotion}
 use Rattle.macroblock_search.specs.declared.inner.searches.FoundMv.{FoundMv}
 use Rattle.macroblock_search.specs.declared.inner.searches.FoundPair.{FoundPair}
 use Rattle.macroblock.specs.declared.svq1_enc_inter.MbMotion.the-variants.{None, One, Four}
-use Rattle.vectors.specs.declared.svq1_plane.Svq1PlaneCanvas.{Svq1PlaneCanvas}
+use Rattle.canvas.specs.declared.svq1_plane.Svq1PlaneCanvas.{Svq1PlaneCanvas}
 use Rattle.macroblock.specs.Macroblock.{Given, Motion, coded, vectorsOf}
 use Rattle.macroblock.specs.MacroblockLaws.{Codables}
 use Rattle.macroblock.specs.Choice.{Task, target, ifFound}

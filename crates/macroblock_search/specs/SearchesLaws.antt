@@ -16,7 +16,7 @@ use Rattle.motion.specs.declared.svq1_enc_inter.Searched.the-variants.{Vector, 
 use Rattle.vectors.specs.VectorsLaws.{Codable, Inside}
 use Rattle.mv_cache.specs.Neighbours.{Near, forOne, forFirst, forSecond, forThird, forFourth}
 use Rattle.motion.specs.Search.{Search, searched, foundAnswer}
-use Rattle.vectors.specs.Canvas.{blocksAlong}
+use Rattle.canvas.specs.Canvas.{blocksAlong}
 use Rattle.motion.specs.SearchCall.{searchedAnswer}
 use Rattle.motion.specs.SearchCallLaws.{Passes, answer-searched}
 use Rattle.motion.specs.SearchLaws.{found}
@@ -25,7 +25,7 @@ use Rattle.tree_samples.specs.Rows.{Rows}
 use Rattle.macroblock_search.specs.declared.inner.motions.FoundMotion.{FoundMotion}
 use Rattle.macroblock_search.specs.declared.inner.searches.FoundMv.{FoundMv}
 use Rattle.macroblock_search.specs.declared.inner.searches.FoundPair.{FoundPair}
-use Rattle.vectors.specs.declared.svq1_plane.Svq1PlaneCanvas.{Svq1PlaneCanvas}
+use Rattle.canvas.specs.declared.svq1_plane.Svq1PlaneCanvas.{Svq1PlaneCanvas}
 use Rattle.macroblock.specs.Macroblock.{Given, Motion, still, four}
 use Rattle.macroblock.specs.MacroblockLaws.{Codables}
 use Rattle.macroblock.specs.Choice.{Task, target, ifFound, singleTried, fourTried}

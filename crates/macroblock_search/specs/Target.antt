@@ -4,7 +4,7 @@ use mathlib.Core.List.{List}
 use Prim.Native.Nat.{ℕ, _+_, _-_, _*_, _/_, _%_, _≤_, _<_, min}
 use lib.ListN.{length, getD}
 use Rattle.bits.specs.Basics.{valuesFrom}
-use Rattle.vectors.specs.Canvas.{largestSide, blocksAlong}
+use Rattle.canvas.specs.Canvas.{largestSide, blocksAlong}
 
 -- sample j of macroblock k of a source of width × height
 unfoldable pub targetSample : ℕ → ℕ → List ℕ → ℕ → ℕ → ℕ

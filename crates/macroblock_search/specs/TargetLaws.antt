@@ -14,7 +14,7 @@ use Rattle.mv_cache.specs.Grid.{entryOf, part}
 use Rattle.compensation.specs.Moved.{rowSet}
 use Rattle.compensation.specs.MovedLaws.{place-in}
 use Rattle.compensation.specs.InsideLaws.{row-same}
-use Rattle.vectors.specs.Canvas.{largestSide, blocksAlong, padded16}
+use Rattle.canvas.specs.Canvas.{largestSide, blocksAlong, padded16}
 use Rattle.macroblock.specs.Macroblock.{Given, cols, rows}
 use Rattle.macroblock.specs.Choice.{Task, paddedSource, target}
 use Rattle.macroblock_search.specs.Target.{targetSample, targetOf, Sources, Filled}

@@ -12,7 +12,7 @@ use Rattle.motion.specs.declared.inner.search.Spot.{Spot}
 use Rattle.motion.specs.declared.inner.search.Candidate.{Candidate}
 use Rattle.motion.specs.declared.inner.search.Span.{Span}
 use Rattle.motion.specs.Search.{Search, Best, nothing, best, centre, aroundTo}
-use Rattle.vectors.specs.Canvas.{largestSide, padded16}
+use Rattle.canvas.specs.Canvas.{largestSide, padded16}
 use Rattle.compensation.specs.Rows.{Sides}
 
 -- a component is raised by 1024, so that no candidate falls below 0; raised numbers and places stay below the end

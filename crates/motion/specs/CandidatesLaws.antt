@@ -19,7 +19,7 @@ use Rattle.compensation.specs.declared.inner.error.Taken.{Taken}
 use Rattle.motion.specs.declared.inner.search.Spot.{Spot}
 use Rattle.motion.specs.declared.inner.search.Candidate.{Candidate}
 use Rattle.vectors.specs.Vectors.{inRange, codable}
-use Rattle.vectors.specs.Canvas.{Canvas}
+use Rattle.canvas.specs.Canvas.{Canvas}
 use Rattle.compensation.specs.Compensation.{halfSample, movedSample, movedBlock}
 use Rattle.motion.specs.Search.{Search, inWindow, allowed, errorOf, Best, nothing, best, lowers, consider, fullAt, centre}
 use Rattle.compensation.specs.Rows.{cell, rowAt, early, ReadIn}

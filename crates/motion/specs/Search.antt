@@ -11,7 +11,7 @@ use Rattle.bits.specs.Basics.{pick, orElse, unless}
 use Rattle.bits.specs.Calls.{Answer, done, refused, unlessRefused}
 use Rattle.vectors.specs.declared.svq1_motion_predictor.Svq1Mv.{Svq1Mv}
 use Rattle.vectors.specs.Vectors.{zeroMv, inRange, codable}
-use Rattle.vectors.specs.Canvas.{Canvas, sizeRefusal, canvasRefusal}
+use Rattle.canvas.specs.Canvas.{Canvas, sizeRefusal, canvasRefusal}
 use Rattle.compensation.specs.Compensation.{movedBlock}
 use Rattle.compensation.specs.Error.{sad}
 

@@ -14,8 +14,8 @@ use Rattle.bits.specs.Calls.{refused}
 use Rattle.motion.specs.declared.inner.search.Spot.{Spot}
 use Rattle.vectors.specs.Vectors.{inRange}
 use Rattle.vectors.specs.VectorsLaws.{InRange, range-pos, range-neg}
-use Rattle.vectors.specs.CanvasLaws.{Fitting, plane-passes}
-use Rattle.vectors.specs.Canvas.{Canvas, largestSide, padded16, sizeRefusal, canvasRefusal}
+use Rattle.canvas.specs.CanvasLaws.{Fitting, plane-passes}
+use Rattle.canvas.specs.Canvas.{Canvas, largestSide, padded16, sizeRefusal, canvasRefusal}
 use Rattle.motion.specs.Search.{Search, searchOk, searchRefusal, searchBest, vectorOf, searched, foundAnswer, searchAnswer}
 use Rattle.compensation.specs.Rows.{Sides}
 use Rattle.motion.specs.Candidates.{spotSearch, Ready}

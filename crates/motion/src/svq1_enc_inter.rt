@@ -9,8 +9,8 @@ ghost use Rattle.motion.specs.SearchCall.{searchedAnswer, eitherSide, bl
 use super::inner::search::Candidate;
 use super::inner::search::Spot;
 use super::inner::search::search_best;
+use canvas::svq1_plane::plane_refusal;
 use vectors::svq1_motion_predictor::Svq1Mv;
-use vectors::svq1_plane::plane_refusal;
 
 // What a search answers: the vector, or the number of the refusal.
 pub enum Searched {

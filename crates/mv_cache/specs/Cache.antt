@@ -9,7 +9,7 @@ use Rattle.mv_cache.specs.declared.svq1_mv_cache.NearBlocks.{NearBlocks}
 use Rattle.mv_cache.specs.Neighbours.{Near}
 use Rattle.mv_cache.specs.Grid.{putPart}
 use Rattle.mv_cache.specs.GridLaws.{Holds}
-use Rattle.vectors.specs.Canvas.{largestSide, blocksAlong}
+use Rattle.canvas.specs.Canvas.{largestSide, blocksAlong}
 
 -- the neighbours as the code holds them
 abbrev pub nearFrom : NearBlocks → Near

@@ -15,7 +15,7 @@ use Rattle.bits.specs.Basics.{signedOf, signedByte}
 use Rattle.vectors.specs.declared.svq1_motion_predictor.Neighbour.the-variants.{Absent, Present}
 use Rattle.vectors.specs.VectorsLaws.{InRange, range-pos, range-neg}
 use Rattle.mv_cache.specs.Neighbours.{storedAt, neighbourAt}
-use Rattle.vectors.specs.Canvas.{largestSide, blocksAlong}
+use Rattle.canvas.specs.Canvas.{largestSide, blocksAlong}
 use Rattle.mv_cache.specs.Cache.{Slices, Room}
 use Rattle.mv_cache.specs.Grid.{owner}
 use Rattle.mv_cache.specs.GridLaws.{in-owner}

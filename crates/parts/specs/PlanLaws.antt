@@ -11,9 +11,9 @@ use borrow.Author.Tests.{eq-eqb, ne-eqb}
 use Rattle.leaf.specs.LeafCall.{BlockIn}
 use Rattle.tree.specs.Blocks.{blockCount}
 use Rattle.tree.specs.Nodes.{treeOf}
-use Rattle.plan.specs.PlanCall.{PlanAnswered}
+use Rattle.plan_call.specs.PlanCall.{PlanAnswered}
 use Rattle.tree.specs.TreeBits.{Node, Off, planAnswer}
-use Rattle.plan.specs.declared.svq1_enc_tree.PlanAnswer.{PlanAnswer}
+use Rattle.plan_call.specs.declared.svq1_enc_tree.PlanAnswer.{PlanAnswer}
 use Rattle.parts.specs.declared.inner.NodePart.{NodePart}
 use Rattle.parts.specs.LeafLaws.{filled-back}
 use Rattle.parts.specs.Node.{bareNode, nodePart}

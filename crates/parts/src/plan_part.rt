@@ -9,7 +9,7 @@ ghost use Rattle.parts.specs.Node.{bareNode, nodePart};
 ghost use Rattle.parts.specs.Plan.{nodeParts, madePart, noPlan, planPart};
 use super::inner::NodePart;
 use super::inner::leaf_node;
-use plan::svq1_enc_tree::plan_macroblock;
+use plan_call::svq1_enc_tree::plan_macroblock;
 use tree::svq1_enc_tree::Block;
 use tree::svq1_enc_tree::TreeNode;
 

@@ -7,5 +7,6 @@ pub mod Planned
 pub mod PlannedLaws
 pub mod Planning
 pub mod PlanningLaws
-pub mod PlanCall
-pub mod PlanCallLaws
+pub mod SoundLaws
+pub mod FrontLaws
+pub mod Front

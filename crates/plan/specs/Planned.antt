@@ -7,9 +7,6 @@ use Rattle.bits.specs.Basics.{pick}
 use Rattle.tree.specs.Plan.{Weight, cost, joined, flagged, cheaper}
 use Rattle.plan.specs.declared.svq1_enc_tree.PlannedBlock.{PlannedBlock}
 
-abbrev pub costOf : ℕ → ℕ → ℕ → ℕ
-costOf lambda bits err = cost lambda (record { bits = bits; err = err })
-
 -- bits and an error as a weight, and what a record weighs
 abbrev pub weight : ℕ → ℕ → Weight
 weight n e = record { bits = n; err = e }

@@ -9,7 +9,7 @@ use Rattle.bits.specs.Basics.{pick, orElse, unless}
 use Rattle.bits.specs.Bits.{bitsOf}
 use Rattle.bits.specs.Calls.{startRefusal}
 use Rattle.book.specs.Book.{dataRefusal}
-use Rattle.vectors.specs.Canvas.{sizeRefusal, canvasRefusal}
+use Rattle.canvas.specs.Canvas.{sizeRefusal, canvasRefusal}
 use Rattle.macroblock.specs.Macroblock.{Given}
 use Rattle.macroblock.specs.Choice.{Task}
 use Rattle.plane.specs.Run.{End}

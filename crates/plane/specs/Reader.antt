@@ -10,7 +10,7 @@ use Rattle.bits.specs.Bits.{bitsOf}
 use Rattle.bits.specs.Calls.{startRefusal}
 use Rattle.bits.specs.Inner.{Fits}
 use Rattle.book.specs.Book.{dataRefusal}
-use Rattle.vectors.specs.Canvas.{sizeRefusal, canvasRefusal}
+use Rattle.canvas.specs.Canvas.{sizeRefusal, canvasRefusal}
 use Rattle.macroblock.specs.Macroblock.{Given}
 use Rattle.macroblock.specs.Slices.{Slices}
 use Rattle.macroblock.specs.Inner.{Accepted, Held}

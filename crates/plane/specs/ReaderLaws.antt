@@ -18,15 +18,15 @@ use Rattle.code_tables.specs.Codes.{got, bad}
 use Rattle.bits.specs.Calls.{startRefusal}
 use Rattle.book.specs.Book.{dataRefusal}
 use Rattle.mv_cache.specs.GridLaws.{length-put}
-use Rattle.vectors.specs.Canvas.{largestSide, blocksAlong, padded16, sizeRefusal, canvasRefusal}
-use Rattle.vectors.specs.CanvasLaws.{Fitting, plane-passes}
+use Rattle.canvas.specs.Canvas.{largestSide, blocksAlong, padded16, sizeRefusal, canvasRefusal}
+use Rattle.canvas.specs.CanvasLaws.{Fitting, plane-passes}
 use Rattle.macroblock.specs.Macroblock.{Given, cols, rows, Choice}
 use Rattle.macroblock.specs.Reading.{readMacroblock}
 use Rattle.macroblock.specs.Slices.{Slices, near, laid}
 use Rattle.macroblock.specs.Inner.{Accepted, Held}
 use Rattle.macroblock.specs.InnerLaws.{fits}
-use Rattle.macroblock.specs.declared.inner.reading.ReadMb.{ReadMb}
-use Rattle.macroblock.specs.MacroblockRead.{Ready, MbRead}
+use Rattle.macroblock_dec.specs.declared.inner.reading.ReadMb.{ReadMb}
+use Rattle.macroblock_dec.specs.MacroblockRead.{Ready, MbRead}
 use Rattle.plane.specs.declared.svq1_plane.ReadEnd.{ReadEnd}
 use Rattle.plane.specs.Run.{Step, on, stop, run}
 use Rattle.plane.specs.RunLaws.{turned, stopped, ended}

@@ -3,14 +3,14 @@ ghost use mathlib.Core.Path.{_≡_};
 ghost use Prim.Native.Nat.{_*_, _≤_};
 ghost use lib.ListN.{length};
 ghost use Rattle.book.specs.Book.{codebookBytes};
-ghost use Rattle.vectors.specs.Canvas.{largestSide, blocksAlong};
+ghost use Rattle.canvas.specs.Canvas.{largestSide, blocksAlong};
 ghost use Rattle.macroblock.specs.Inner.{givenBy};
 ghost use Rattle.plane.specs.Reader.{lengthsRefusal, readRefusalBy, PlaneReady, PlaneAccepted, ReadThrough};
 use super::svq1_plane::ReadEnd;
+use canvas::svq1_plane::Svq1PlaneCanvas;
+use canvas::svq1_plane::plane_refusal;
 use codebook::inner::raise_codebook;
-use macroblock::inner::reading::read_macroblock;
-use vectors::svq1_plane::Svq1PlaneCanvas;
-use vectors::svq1_plane::plane_refusal;
+use macroblock_dec::inner::reading::read_macroblock;
 
 // 20 of a plane of cols x rows macroblocks and `size` samples, by the lengths of its result slices; 0 for none.
 pub fn slices_refusal(

@@ -4,7 +4,7 @@ ghost use Rattle.plane.specs.Calls.{PlaneRead};
 ghost use Rattle.plane.specs.Reader.{endOf};
 use super::inner::read_accepted;
 use super::inner::read_refusal;
-use vectors::svq1_plane::Svq1PlaneCanvas;
+use canvas::svq1_plane::Svq1PlaneCanvas;
 
 // What reading a plane answers: the number of a refusal, or 0; the macroblocks done, which with 10, 11 and 24 is the index of the one refused;
 // and the next bit.

@@ -17,8 +17,8 @@ use Rattle.bits.specs.BitsLaws.{length-bitsOf}
 use Rattle.bits.specs.Calls.{startRefusal}
 use Rattle.book.specs.Book.{dataRefusal}
 use Rattle.mv_cache.specs.NeighboursLaws.{Ranged, ranged-put, stored-x, stored-y}
-use Rattle.vectors.specs.Canvas.{largestSide, sideOk, padded16, sizeRefusal, canvasRefusal}
-use Rattle.vectors.specs.CanvasLaws.{size-passes}
+use Rattle.canvas.specs.Canvas.{largestSide, sideOk, padded16, sizeRefusal, canvasRefusal}
+use Rattle.canvas.specs.CanvasLaws.{size-passes}
 use Rattle.vectors.specs.VectorsLaws.{Inside}
 use Rattle.macroblock.specs.Macroblock.{Given, cols, Choice, vectorsOf, shown, choiceBits}
 use Rattle.macroblock.specs.MacroblockLaws.{Fine, Good, chosen-good, target-block, near-24}

@@ -11,12 +11,12 @@ ghost use Rattle.plane.specs.Reader.{PlaneReady, PlaneAccepted};
 ghost use Rattle.plane_enc.specs.Stated.{told, ToldThrough};
 ghost use Rattle.plane_enc.specs.Writer.{writeRefusalBy};
 use super::svq1_enc_inter::WriteEnd;
+use canvas::svq1_plane::Svq1PlaneCanvas;
+use canvas::svq1_plane::plane_refusal;
 use codebook::inner::raise_codebook;
 use macroblock::svq1_enc_inter::Svq1MbMode;
 use macroblock_enc::inner::writing::write_macroblock;
 use plane::inner::read_refusal;
-use vectors::svq1_plane::Svq1PlaneCanvas;
-use vectors::svq1_plane::plane_refusal;
 
 // The refusals of the writer: the reader's, and 2 for a source of another size behind 1; 0 for none. The source, the output and the result slices are
 // given by their lengths.

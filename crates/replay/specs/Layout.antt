@@ -5,7 +5,7 @@ use mathlib.Core.List.{List, [], _∷_}
 use lib.Dec.{eqb, leb, ltb}
 use lib.ListN.{length, take, drop, getD}
 use Rattle.bits.specs.Basics.{pick}
-use Rattle.vectors.specs.Canvas.{padded16}
+use Rattle.canvas.specs.Canvas.{padded16}
 use Rattle.replay.specs.declared.file.Scene.{Scene}
 use Rattle.replay.specs.declared.file.SceneRead.{SceneRead}
 use Rattle.replay.specs.declared.file.SceneRead.the-variants as scene

@@ -11,7 +11,7 @@ use lib.ListN.{length, take, drop, getD, length-drop}
 use lib.Seq.{drop-cons, drop-length, getD-drop}
 use borrow.Author.Tests.{eq-eqb, ne-eqb, le-leb, lt-leb, lt-ltb, le-ltb, leb-true}
 use Rattle.bits.specs.Basics.{pick, Bytes}
-use Rattle.vectors.specs.Canvas.{padded16}
+use Rattle.canvas.specs.Canvas.{padded16}
 use Rattle.replay.specs.declared.file.Scene.{Scene}
 use Rattle.replay.specs.declared.file.SceneRead.{SceneRead}
 use Rattle.replay.specs.declared.file.SceneRead.the-variants as scene

@@ -2,9 +2,9 @@
 ghost use mathlib.Core.Path.{_≡_};
 ghost use Prim.Native.Nat.{_+_, _/_, _≤_};
 ghost use lib.ListN.{length, getD};
-ghost use Rattle.vectors.specs.Canvas.{padded16};
+ghost use Rattle.canvas.specs.Canvas.{padded16};
 ghost use Rattle.replay.specs.Layout.{partOf, numberOf, bytesFor, mostSide, mostSize, Begun, sizedIn, sceneIn, measuredIn, jobIn};
-use vectors::svq1_plane::Svq1PlaneCanvas;
+use canvas::svq1_plane::Svq1PlaneCanvas;
 
 // A scene: the canvas of its planes; the samples of its source and of its canvas; the places of its source and its reference; how many jobs
 // it has, and the place of the first.

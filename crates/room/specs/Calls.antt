@@ -5,7 +5,7 @@ use mathlib.Core.Path.{_≡_}
 use lib.Dec.{eqb}
 use Rattle.bits.specs.Basics.{pick, orElse}
 use Rattle.book.specs.Book.{bookRefusal}
-use Rattle.vectors.specs.Canvas.{blocksAlong, sizeRefusal}
+use Rattle.canvas.specs.Canvas.{blocksAlong, sizeRefusal}
 use Rattle.macroblock.specs.Macroblock.{Given}
 use Rattle.room.specs.declared.Room.{Room}
 use Rattle.room.specs.Room.{bookBits, anyBits, roomBytes, Suffices}

@@ -9,8 +9,8 @@ use borrow.Author.Tests.{ne-eqb}
 use Rattle.bits.specs.Basics.{orElse}
 use Rattle.bits.specs.BasicsLaws.{or-first, or-next}
 use Rattle.book.specs.Book.{bookRefusal}
-use Rattle.vectors.specs.Canvas.{largestSide, blocksAlong, sizeRefusal}
-use Rattle.vectors.specs.CanvasLaws.{size-passes}
+use Rattle.canvas.specs.Canvas.{largestSide, blocksAlong, sizeRefusal}
+use Rattle.canvas.specs.CanvasLaws.{size-passes}
 use Rattle.macroblock.specs.Macroblock.{Given}
 use Rattle.room.specs.declared.Room.{Room}
 use Rattle.room.specs.Room.{bookBits, anyBits, roomBytes, Suffices, OfSize, OfSizeUnder}

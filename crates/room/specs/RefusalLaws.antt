@@ -10,7 +10,7 @@ use Rattle.bits.specs.Basics.{pick, orElse, unless}
 use Rattle.bits.specs.Calls.{startRefusal}
 use Rattle.book.specs.Book.{codebookBytes, bookBytes, codeTableSizes, eachPrefixFree, codesRefusal, bookRefusal, dataRefusal}
 use Rattle.code_tables.specs.Codes.{goodTable}
-use Rattle.vectors.specs.Canvas.{Canvas, sideOk, padded16, sizeRefusal, canvasRefusal}
+use Rattle.canvas.specs.Canvas.{Canvas, sideOk, padded16, sizeRefusal, canvasRefusal}
 use Rattle.macroblock.specs.Macroblock.{Given}
 use Rattle.macroblock.specs.Choice.{Task}
 use Rattle.macroblock.specs.Slices.{Slices}

@@ -12,7 +12,7 @@ use lib.ListN.{length}
 use borrow.Author.Tests.{eq-eqb, ne-eqb, le-leb}
 use Rattle.bits.specs.Bits.{bitsOf}
 use Rattle.bits.specs.BitsLaws.{length-bitsOf, put-length}
-use Rattle.vectors.specs.Canvas.{blocksAlong}
+use Rattle.canvas.specs.Canvas.{blocksAlong}
 use Rattle.macroblock.specs.Macroblock.{Given}
 use Rattle.macroblock.specs.Choice.{Task, weightOf}
 use Rattle.macroblock.specs.MacroblockLaws.{Fine}

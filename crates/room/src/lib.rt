@@ -2,12 +2,12 @@
 ghost use mathlib.Core.Path.{_≡_};
 ghost use Prim.Native.Nat.{_+_, _*_, _≤_, max};
 ghost use Rattle.book.specs.Book.{bookEntries, entries, bookRefusal};
-ghost use Rattle.vectors.specs.Canvas.{largestSide, blocksAlong};
+ghost use Rattle.canvas.specs.Canvas.{largestSide, blocksAlong};
 ghost use Rattle.room.specs.Room.{longest, mostBits, bookBits, anyBits, roomBytes, OfSize, OfSizeUnder};
 ghost use Rattle.room.specs.Calls.{roomAnswer, roomUnderAnswer, RoomTold};
 use book_check::book_refusal;
+use canvas::svq1_plane::size_refusal;
 use code_tables::inner::entry_len;
-use vectors::svq1_plane::size_refusal;
 
 // What a call answers: the number of a refusal and no bytes, or 0 and the bytes.
 pub struct Room {

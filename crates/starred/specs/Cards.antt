@@ -18,7 +18,7 @@ use Rattle.vectors.specs.Vectors.{predicted}
 use Rattle.compensation.specs.Compensation.{mean2, mean4}
 use Rattle.bits.specs.Calls.{done}
 use Rattle.motion.specs.Search.{Search, searchAnswer}
-use Rattle.vectors.specs.Canvas.{padded16}
+use Rattle.canvas.specs.Canvas.{padded16}
 use Rattle.macroblock.specs.Macroblock.{Given}
 use Rattle.macroblock.specs.Choice.{Task}
 use Rattle.plane.specs.Plane.{writePlane}

@@ -1,6 +1,4 @@
 -- The definitions that the contracts of this crate cite; the laws that callers cite stand in the files named `..Laws`.
-pub mod Canvas
-pub mod CanvasLaws
 pub mod Vectors
 pub mod VectorsLaws
 pub mod ClipLaws

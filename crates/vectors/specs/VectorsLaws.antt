@@ -6,7 +6,7 @@ use Prim.Native.Nat.{ℕ, suc, _+_, _-_, _≤_, _<_}
 use native.Mathlib.Omega.{arith}
 use lib.Dec.{leb}
 use lib.IntN.{ℤ, pos, negsuc, _+ℤ_, _-ℤ_, +ℤ-comm, -ℤ-+ℤ-cancel}
-use lib.Signed.{ltZ}
+use lib.Signed.{mag, ltZ}
 use borrow.Author.Tests.{leb-true, le-leb, lt-ltb, le-ltb}
 use Rattle.bits.specs.Basics.{pick}
 use Rattle.bits.specs.BasicsLaws.{both-true}
@@ -113,3 +113,8 @@ predicted-in (Present a) (Present b) Absent h k l = medianMv-in a b zeroMv h k z
 predicted-in (Present a) Absent (Present c) h k l = medianMv-in a zeroMv c h zero-inside l
 predicted-in Absent (Present b) (Present c) h k l = medianMv-in zeroMv b c zero-inside k l
 predicted-in (Present a) (Present b) (Present c) h k l = medianMv-in a b c h k l
+
+-- it fits in 32 bits
+pub difference-small : (d : ℤ) → InRange d → mag d < 2147483648
+difference-small (pos n) h = omega (arith, range-pos n h)
+difference-small (negsuc n) h = omega (arith, range-neg n h)

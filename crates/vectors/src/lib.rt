@@ -1,3 +1,2 @@
-// Sizes and canvases of planes, motion vectors, their predictors and neighbours.
+// Motion vectors and their predictor.
 pub mod svq1_motion_predictor;
-pub mod svq1_plane;

@@ -1,20 +1,19 @@
 // A macroblock as it was read, shown and laid into the result slices.
 ghost use mathlib.Core.Path.{_≡_};
 ghost use lib.ListN.{length};
-ghost use Rattle.vectors.specs.Canvas.{blocksAlong};
+ghost use Rattle.canvas.specs.Canvas.{blocksAlong};
 ghost use Rattle.tree.specs.Nodes.{treeOf};
 ghost use Rattle.macroblock.specs.Macroblock.{halfOf};
 ghost use Rattle.macroblock.specs.Motions.{motionOf};
 ghost use Rattle.macroblock.specs.Samples.{Shows};
-ghost use Rattle.macroblock.specs.MacroblockRead.{ShowingIf, Laying, LaysChoice};
-ghost use Rattle.macroblock.specs.Finding.{choiceBy};
+ghost use Rattle.macroblock.specs.Laying.{ShowingIf, Laying, LaysChoice, choiceBy};
 use super::super::svq1_enc_inter::MbMotion;
 use super::samples::lay_block;
 use super::samples::show_coded;
 use super::samples::take_block;
+use canvas::svq1_plane::Svq1PlaneCanvas;
 use tree::svq1_enc_tree::Block;
 use vectors::svq1_motion_predictor::Svq1Mv;
-use vectors::svq1_plane::Svq1PlaneCanvas;
 
 // The samples of macroblock k as it was read. `base` is scratch.
 fn show_choice(

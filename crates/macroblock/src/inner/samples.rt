@@ -7,7 +7,7 @@ ghost use Rattle.bits.specs.Basics.{All};
 ghost use Rattle.mv_cache.specs.Cache.{Slices};
 ghost use Rattle.mv_cache.specs.Grid.{part, putPart};
 ghost use Rattle.compensation.specs.Moved.{Placed};
-ghost use Rattle.vectors.specs.Canvas.{blocksAlong};
+ghost use Rattle.canvas.specs.Canvas.{blocksAlong};
 ghost use Rattle.vectors.specs.VectorsLaws.{Inside};
 ghost use Rattle.vectors.specs.declared.svq1_motion_predictor.Svq1Mv.{Svq1Mv};
 ghost use Rattle.tree.specs.Nodes.{treeOf};
@@ -17,6 +17,7 @@ ghost use Rattle.macroblock.specs.Inner.{givenBy};
 ghost use Rattle.macroblock.specs.Samples.{Stands, Room, Laid, Showing, Shows, quarters};
 use super::super::svq1_enc_inter::MbMotion;
 use book::svq1_vlc::Svq1Half;
+use canvas::svq1_plane::Svq1PlaneCanvas;
 use compensation::inner::mc::mc_macroblock;
 use compensation::inner::mc::mc_quarter;
 use mv_cache::inner::store_vectors;
@@ -24,7 +25,6 @@ use tree::svq1_enc_tree::Block;
 use tree_samples::rebuild::rebuild;
 use vectors::svq1_motion_predictor::Svq1Mv;
 use vectors::svq1_motion_predictor::zero_vector;
-use vectors::svq1_plane::Svq1PlaneCanvas;
 
 // Macroblock k of a plane, whose canvas has this stride and so many rows: the block that a zero vector reads.
 pub fn take_block(

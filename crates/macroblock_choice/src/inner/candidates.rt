@@ -8,26 +8,26 @@ ghost use Rattle.book.specs.Book.{bookRefusal};
 ghost use Rattle.vectors.specs.declared.svq1_motion_predictor.Svq1Mv.{Svq1Mv};
 ghost use Rattle.mv_cache.specs.Neighbours.{Near};
 ghost use Rattle.mv_cache.specs.Cache.{nearFrom};
-ghost use Rattle.vectors.specs.Canvas.{blocksAlong};
+ghost use Rattle.canvas.specs.Canvas.{blocksAlong};
 ghost use Rattle.macroblock.specs.Macroblock.{skipped, motionMode};
 ghost use Rattle.macroblock.specs.MacroblockLaws.{Codables};
 ghost use Rattle.macroblock.specs.Motions.{motionOf};
 ghost use Rattle.macroblock.specs.Inner.{givenBy};
 ghost use Rattle.macroblock.specs.Samples.{Stands};
 ghost use Rattle.macroblock_choice.specs.Candidates.{choiceOf, preferred, Stated, Skipping, CandidateOf};
+use canvas::svq1_plane::Svq1PlaneCanvas;
+use costs::svq1_enc_tree::cost;
 use leaf_samples::inner::distance_of;
-use macroblock::inner::coding::mb_mode_bits;
-use macroblock::inner::coding::motion_bits;
-use macroblock::inner::reading::no_blocks;
 use macroblock::inner::samples::take_block;
 use macroblock::svq1_enc_inter::MbMotion;
 use macroblock::svq1_enc_inter::Svq1MbMode;
+use macroblock_bits::inner::mb_mode_bits;
+use macroblock_bits::inner::motion_bits;
+use macroblock_dec::inner::reading::no_blocks;
 use mv_cache::svq1_mv_cache::NearBlocks;
-use plan::svq1_enc_tree::cost;
 use tree::svq1_enc_tree::Block;
 use vectors::svq1_motion_predictor::Svq1Mv;
 use vectors::svq1_motion_predictor::zero_vector;
-use vectors::svq1_plane::Svq1PlaneCanvas;
 
 // A way to code a macroblock: its mode, its motion with the vectors that its four blocks store, its tree, all its bits, and its error.
 pub struct MbCandidate {

@@ -13,13 +13,13 @@ use super::super::inner::candidates::MbCandidate;
 use super::super::inner::candidates::better;
 use super::super::inner::candidates::skip_candidate;
 use super::super::inner::plans::coded_candidate;
+use canvas::svq1_plane::Svq1PlaneCanvas;
 use macroblock_search::inner::motions::FoundMotion;
 use macroblock_search::inner::motions::four_motion;
 use macroblock_search::inner::motions::single_motion;
 use macroblock_search::inner::motions::still_found;
 use macroblock_search::inner::target::target_block;
 use mv_cache::svq1_mv_cache::NearBlocks;
-use vectors::svq1_plane::Svq1PlaneCanvas;
 
 // The best so far, or a motion that was found, if it is better.
 fn try_motion(

@@ -11,6 +11,7 @@ ghost use Rattle.plan.specs.Planning.{PlanFound};
 use super::super::inner::candidates::MbCandidate;
 use super::super::inner::candidates::candidate_of;
 use book::svq1_vlc::Svq1Half;
+use canvas::svq1_plane::Svq1PlaneCanvas;
 use macroblock::inner::samples::baseline_of;
 use macroblock::inner::samples::half_of;
 use macroblock::svq1_enc_inter::MbMotion;
@@ -18,7 +19,6 @@ use mv_cache::svq1_mv_cache::NearBlocks;
 use plan::inner::plan;
 use plan::svq1_enc_tree::MbPlan;
 use vectors::svq1_motion_predictor::Svq1Mv;
-use vectors::svq1_plane::Svq1PlaneCanvas;
 
 // Leaves may skip in the inter half.
 fn skips_leaves(half: Svq1Half) -> bool

@@ -9,17 +9,17 @@ ghost use Rattle.tree.specs.Nodes.{treeOf};
 ghost use Rattle.tree.specs.TreeBits.{treeBits};
 ghost use Rattle.macroblock.specs.Macroblock.{halfOf, motionBits, choiceBits};
 ghost use Rattle.macroblock.specs.Motions.{motionOf};
-ghost use Rattle.macroblock.specs.Finding.{byBook};
+ghost use Rattle.macroblock.specs.Inner.{byBook, givenBy};
 ghost use Rattle.macroblock_choice.specs.Candidates.{skips, choiceOf};
 ghost use Rattle.macroblock_enc.specs.Written.{CodedRoom, PutReady, LayReady, LaysCandidate, WriteReady, CandidateWritten, CandidateLaid, MbReady, MbWritten};
 ghost use Rattle.macroblock_choice.specs.Chosen.{taskBy};
-ghost use Rattle.macroblock.specs.Inner.{givenBy};
-use macroblock::inner::coding::put_mode;
-use macroblock::inner::coding::put_motion;
+use canvas::svq1_plane::Svq1PlaneCanvas;
 use macroblock::inner::laying::lay_choice;
 use macroblock::inner::samples::half_of;
 use macroblock::svq1_enc_inter::MbMotion;
 use macroblock::svq1_enc_inter::Svq1MbMode;
+use macroblock_bits::inner::put_mode;
+use macroblock_bits::inner::put_motion;
 use macroblock_choice::inner::candidates::MbCandidate;
 use macroblock_choice::inner::choice::choose_macroblock;
 use macroblock_search::inner::target::blocks_along;
@@ -28,7 +28,6 @@ use mv_cache::svq1_mv_cache::NearBlocks;
 use tree::svq1_enc_tree::Block;
 use tree::walk::emit;
 use vectors::svq1_motion_predictor::Svq1Mv;
-use vectors::svq1_plane::Svq1PlaneCanvas;
 
 fn is_skip(mode: Svq1MbMode) -> bool
     ensures { λ r. ⌜ r ≡ skips mode ⌝ }

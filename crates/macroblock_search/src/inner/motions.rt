@@ -12,12 +12,12 @@ use super::super::inner::searches::corner_of;
 use super::super::inner::searches::find_vector;
 use super::super::inner::searches::first_pair;
 use super::super::inner::searches::second_pair;
+use canvas::svq1_plane::Svq1PlaneCanvas;
 use macroblock::svq1_enc_inter::MbMotion;
 use mv_cache::svq1_mv_cache::NearBlocks;
 use mv_cache::svq1_mv_cache::predict_one;
 use vectors::svq1_motion_predictor::Svq1Mv;
 use vectors::svq1_motion_predictor::zero_vector;
-use vectors::svq1_plane::Svq1PlaneCanvas;
 
 // A motion to try, if there is one, with the vectors that its four blocks store.
 pub struct FoundMotion {

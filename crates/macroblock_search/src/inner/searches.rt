@@ -3,7 +3,7 @@ ghost use mathlib.Core.Path.{_≡_};
 ghost use mathlib.Core.Bool.{false};
 ghost use Prim.Native.Nat.{_*_, _/_, _%_, _<_};
 ghost use lib.ListN.{length};
-ghost use Rattle.vectors.specs.Canvas.{blocksAlong};
+ghost use Rattle.canvas.specs.Canvas.{blocksAlong};
 ghost use Rattle.motion.specs.Search.{searched};
 ghost use Rattle.motion.specs.SearchCallLaws.{Passes};
 ghost use Rattle.vectors.specs.VectorsLaws.{Inside};
@@ -12,6 +12,7 @@ ghost use Rattle.mv_cache.specs.Neighbours.{forFirst, forSecond, forThird, forF
 ghost use Rattle.mv_cache.specs.Cache.{nearFrom};
 ghost use Rattle.macroblock_search.specs.Searches.{searchBy, quarterBy, Searching, Cornered, vectorFound, PairFound};
 use super::super::inner::target::blocks_along;
+use canvas::svq1_plane::Svq1PlaneCanvas;
 use motion::svq1_enc_inter::Searched;
 use motion::svq1_enc_inter::search_motion_vector;
 use mv_cache::svq1_mv_cache::NearBlocks;
@@ -22,7 +23,6 @@ use mv_cache::svq1_mv_cache::predict_third;
 use tree_samples::inner::gather_block;
 use vectors::svq1_motion_predictor::Svq1Mv;
 use vectors::svq1_motion_predictor::zero_vector;
-use vectors::svq1_plane::Svq1PlaneCanvas;
 
 // A vector, if it was found.
 pub struct FoundMv {

@@ -3,9 +3,9 @@ ghost use mathlib.Core.Path.{_≡_};
 ghost use Prim.Native.Nat.{_+_, _<_, _≤_, min};
 ghost use lib.ListN.{length, getD};
 ghost use Rattle.compensation.specs.Moved.{rowSet};
-ghost use Rattle.vectors.specs.Canvas.{largestSide, blocksAlong};
+ghost use Rattle.canvas.specs.Canvas.{largestSide, blocksAlong};
 ghost use Rattle.macroblock_search.specs.Target.{Sources, targetOf};
-use vectors::svq1_plane::Svq1PlaneCanvas;
+use canvas::svq1_plane::Svq1PlaneCanvas;
 
 // Macroblocks along a side.
 pub fn blocks_along(n: usize) -> usize

@@ -1,6 +1,6 @@
 -- The tests in the order of the refusals; the book file last. Assumes nothing.
 use native.Mathlib.Omega.{arith}
-use Rattle.vectors.specs.Canvas.{Canvas}
+use Rattle.canvas.specs.Canvas.{Canvas}
 use Rattle.jobs.specs.FilesLaws.{files-size, files-product, files-source, files-canvas, files-codebook, files-book}
 use borrow.Author.Needs.{needs}
 use Rattle.jobs.proofs.listing.files_refusal.Statement.{statement}

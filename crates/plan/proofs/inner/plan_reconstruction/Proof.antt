@@ -4,7 +4,7 @@ use native.Mathlib.Omega.{arith}
 use Rattle.book.specs.Level.{width, area}
 use Rattle.tree.specs.GeometryLaws.{area-most}
 use Rattle.tree_samples.specs.RebuildLaws.{cut-length}
-use Rattle.plan.specs.PlanCallLaws.{front-lies, front-shown}
+use Rattle.plan.specs.FrontLaws.{front-lies, front-shown}
 use borrow.Author.Needs.{needs}
 use Rattle.plan.proofs.inner.plan_reconstruction.Statement.{statement}
 use Rattle.plan.proofs.inner.plan_reconstruction.Tie as tie

@@ -1,7 +1,7 @@
 -- A full-sample place is the case in which both offsets are 0.
 use mathlib.Core.Path.{refl}
 use native.Mathlib.Omega.{arith}
-use Rattle.vectors.specs.Canvas.{Canvas}
+use Rattle.canvas.specs.Canvas.{Canvas}
 use Rattle.compensation.specs.RowsLaws.{read-full, summed-full}
 use borrow.Author.Needs.{needs}
 use Rattle.compensation.proofs.inner.error.block_error.Statement.{statement}

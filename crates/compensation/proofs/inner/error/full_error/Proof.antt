@@ -1,7 +1,7 @@
 -- The side is one of two.
 use mathlib.Core.Path.{refl}
 use native.Mathlib.Omega.{arith}
-use Rattle.vectors.specs.Canvas.{Canvas}
+use Rattle.canvas.specs.Canvas.{Canvas}
 use Rattle.compensation.specs.RowsLaws.{read-full, summed-full}
 use Rattle.compensation.proofs.inner.error.full_error.Statement.{statement}
 use Rattle.compensation.proofs.inner.error.full_error.Tie as tie

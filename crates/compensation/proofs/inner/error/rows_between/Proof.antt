@@ -1,5 +1,5 @@
 -- The definition's early sum, from here on with what is summed, is the one from the start; a row is at most 4,080, so 64 bits hold it.
-use Rattle.vectors.specs.Canvas.{Canvas}
+use Rattle.canvas.specs.Canvas.{Canvas}
 use mathlib.Core.Path.{_≡_}
 use Prim.Native.Nat.{_-_, _*_, _≤_}
 use Rattle.compensation.specs.Rows.{rowAt, early}

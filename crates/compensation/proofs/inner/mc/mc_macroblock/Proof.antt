@@ -1,6 +1,6 @@
 -- One part of side 16 sets every sample, so nothing of the old ones is left.
 use mathlib.Core.Path.{_∙_}
-use Rattle.vectors.specs.Canvas.{Canvas}
+use Rattle.canvas.specs.Canvas.{Canvas}
 use Rattle.compensation.specs.PartsLaws.{whole-moved}
 use borrow.Author.Needs.{needs}
 use Rattle.compensation.proofs.inner.mc.mc_macroblock.Statement.{statement}

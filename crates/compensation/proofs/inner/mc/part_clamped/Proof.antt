@@ -1,7 +1,7 @@
 -- The first j samples of the part are put where its order puts them; each is the definition's at its place.
 use mathlib.Core.Path.{_≡_, _∙_, ap}
 use Prim.Native.Nat.{ℕ, _-_, _*_, _≤_}
-use Rattle.vectors.specs.Canvas.{Canvas}
+use Rattle.canvas.specs.Canvas.{Canvas}
 use Rattle.mv_cache.specs.Grid.{entryOf}
 use Rattle.mv_cache.specs.PutLaws.{putTo, put-none, put-more}
 use Rattle.compensation.specs.Moved.{downMv}

@@ -3,7 +3,7 @@ use Rattle.bits.specs.Basics.{valuesFrom}
 use Rattle.compensation.specs.Rows.{cell}
 use mathlib.Core.Path.{_≡_, _∙_, ap}
 use Prim.Native.Nat.{ℕ, _+_, _-_, _*_, _/_, _%_, _≤_}
-use Rattle.vectors.specs.Canvas.{Canvas}
+use Rattle.canvas.specs.Canvas.{Canvas}
 use Rattle.mv_cache.specs.PutLaws.{putTo}
 use Rattle.compensation.specs.MovedLaws.{cols-some}
 use Rattle.compensation.specs.InsideLaws.{cellValues, part-begin, part-next, part-end, row-place, row-first, row-read}

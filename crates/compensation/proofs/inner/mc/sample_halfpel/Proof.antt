@@ -1,6 +1,6 @@
 -- Half of a raised number is the raised floor of the half, and its remainder tells whether it lies between samples.
 use borrow.Author.Tests.{eq-eqb, ne-eqb}
-use Rattle.vectors.specs.Canvas.{Canvas}
+use Rattle.canvas.specs.Canvas.{Canvas}
 use Rattle.compensation.specs.MovedLaws.{half-is}
 use borrow.Author.Needs.{needs}
 use Rattle.compensation.proofs.inner.mc.sample_halfpel.Statement.{statement}

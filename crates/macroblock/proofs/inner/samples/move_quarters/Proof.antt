@@ -1,6 +1,6 @@
 -- Each quarter behind the one before it. Assumes nothing.
 use mathlib.Core.Path.{refl}
-use Rattle.vectors.specs.Canvas.{Canvas}
+use Rattle.canvas.specs.Canvas.{Canvas}
 use Rattle.macroblock.specs.SamplesLaws.{quarters-moved}
 use borrow.Author.Needs.{needs}
 use Rattle.macroblock.proofs.inner.samples.move_quarters.Statement.{statement}

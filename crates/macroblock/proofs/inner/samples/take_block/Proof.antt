@@ -1,6 +1,6 @@
 -- The block that a zero vector reads is the macroblock. Assumes nothing.
 use mathlib.Core.Path.{_∙_}
-use Rattle.vectors.specs.Canvas.{Canvas}
+use Rattle.canvas.specs.Canvas.{Canvas}
 use Rattle.macroblock.specs.SamplesLaws.{still-block}
 use borrow.Author.Needs.{needs}
 use Rattle.macroblock.proofs.inner.samples.take_block.Statement.{statement}

@@ -4,7 +4,7 @@ use native.Mathlib.Omega.{arith}
 use lib.ListN.{length}
 use Rattle.macroblock.specs.Macroblock.{motionMode, modeBits}
 use Rattle.macroblock.specs.Motions.{motionOf}
-use Rattle.macroblock.specs.Finding.{byBook}
+use Rattle.macroblock.specs.Inner.{byBook}
 use borrow.Author.Needs.{needs}
 use Rattle.macroblock_choice.proofs.inner.candidates.candidate_of.Statement.{statement}
 use Rattle.macroblock_choice.proofs.inner.candidates.candidate_of.Tie as tie

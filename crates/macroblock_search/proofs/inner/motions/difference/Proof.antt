@@ -3,7 +3,7 @@ use mathlib.Core.Path.{refl}
 use lib.IntN.{_-ℤ_}
 use mir.ValLaws.{toZ-ofZ}
 use mir.Syntax.{w32}
-use Rattle.macroblock.specs.CodingLaws.{difference-small}
+use Rattle.vectors.specs.VectorsLaws.{difference-small}
 use Rattle.macroblock_search.proofs.inner.motions.difference.Statement.{statement}
 use Rattle.macroblock_search.proofs.inner.motions.difference.Tie as tie
 

@@ -3,7 +3,7 @@ use mathlib.Core.Path.{_≡_, refl, sym, _∙_}
 use Prim.Native.Nat.{_+_, _-_, _/_, _%_}
 use native.Mathlib.Omega.{arith}
 use borrow.Author.Tests.{not-true, not-false}
-use Rattle.vectors.specs.Canvas.{Canvas}
+use Rattle.canvas.specs.Canvas.{Canvas}
 use Rattle.compensation.specs.RowsLaws.{read-full, summed-full}
 use Rattle.motion.specs.CandidatesLaws.{Both, not-x, better, no-better, held, reads-x, reads-y, read-in, judged}
 use borrow.Author.Needs.{needs}

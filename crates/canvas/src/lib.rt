@@ -1,0 +1,2 @@
+// Sizes of planes, and the canvases that hold them.
+pub mod svq1_plane;

@@ -1,0 +1,79 @@
+// Planes and their canvases, and refusals 1, 3 and 4.
+ghost use mathlib.Core.Path.{_≡_};
+ghost use Prim.Native.Nat.{_≤_};
+ghost use Rattle.bits.specs.Basics.{orElse};
+ghost use Rattle.canvas.specs.Canvas.{largestSide, padded16, sideOk, sizeRefusal, canvasRefusal};
+
+// The side of a macroblock in samples.
+pub const MB_DIM: usize = 16;
+
+// A plane's size, and that of its canvas: the size rounded up to whole macroblocks. Its samples are lent beside it.
+pub struct Svq1PlaneCanvas {
+    pub width: usize,
+    pub height: usize,
+    pub stride: usize,
+    pub rows: usize,
+}
+
+fn side_ok(n: usize) -> bool
+    ensures { λ r. ⌜ r ≡ sideOk n ⌝ }
+{
+    if n < 1 {
+        return false;
+    }
+    n <= 1024
+}
+
+// Refusal 1: a width or height of 0 or above the largest; 0 for none.
+pub fn size_refusal(width: usize, height: usize) -> u8
+    ensures { λ r. ⌜ r ≡ sizeRefusal width height ⌝ }
+{
+    if !side_ok(width) {
+        return 1;
+    }
+    if !side_ok(height) {
+        return 1;
+    }
+    0
+}
+
+fn rounded_up(n: usize) -> usize
+    requires { ⌜ n ≤ largestSide ⌝ }
+    ensures { λ r. ⌜ (r ≡ padded16 n) × (r ≤ padded16 largestSide) ⌝ }
+{
+    16 * ((n + 15) / 16)
+}
+
+// Of a canvas for a size that passes.
+fn canvas_refusal(reference: &[u8], width: usize, height: usize, stride: usize, rows: usize) -> u8
+    requires { ⌜ (width ≤ largestSide) × (height ≤ largestSide) ⌝ }
+    ensures { λ r. ⌜ r ≡ canvasRefusal width height (record { samples = now (reference .entry); stride = stride; rows = rows }) ⌝ }
+{
+    if stride != rounded_up(width) {
+        return 3;
+    }
+    if rows != rounded_up(height) {
+        return 3;
+    }
+    if reference.len() != stride * rows {
+        return 4;
+    }
+    0
+}
+
+// The refusals 1, 3 and 4 of a plane and its canvas; 0 for none.
+pub fn plane_refusal(
+    reference: &[u8],
+    width: usize,
+    height: usize,
+    stride: usize,
+    rows: usize,
+) -> u8
+    ensures { λ r. ⌜ r ≡ orElse (sizeRefusal width height) (canvasRefusal width height (record { samples = now (reference .entry); stride = stride; rows = rows })) ⌝ }
+{
+    let n = size_refusal(width, height);
+    if n != 0 {
+        return n;
+    }
+    canvas_refusal(reference, width, height, stride, rows)
+}

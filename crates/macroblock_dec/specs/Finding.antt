@@ -1,0 +1,94 @@
+-- What reading finds at a bit: a refusal's number, or a value and the bit behind it (document 01, "Reading", refusals 10, 11, 24).
+use mathlib.Core.Path.{_≡_}
+use mathlib.Core.Bool.{false}
+use mathlib.Core.List.{List, [], _∷_}
+use Prim.Native.Nat.{ℕ, zero, suc, _*_, _/_, _≤_, _<_}
+use lib.Dec.{eqb}
+use lib.ListN.{length, drop, getD}
+use Rattle.bits.specs.Basics.{pick, All}
+use Rattle.bits.specs.Bits.{bitsOf}
+use Rattle.code_tables.specs.Codes.{codesOf, Got, got, bad, then, takeCode}
+use Rattle.book.specs.Book.{vectorTable}
+use Rattle.book.specs.declared.svq1_vlc.Svq1Half.{Svq1Half}
+use Rattle.vectors.specs.declared.svq1_motion_predictor.Svq1Mv.{Svq1Mv}
+use Rattle.vectors.specs.Vectors.{zeroMv}
+use Rattle.vectors.specs.VectorsLaws.{Inside}
+use Rattle.mv_cache.specs.Neighbours.{Near, forOne, forFirst, forSecond, forThird, forFourth}
+use Rattle.tree.specs.declared.walk.ReadTree.{ReadTree}
+use Rattle.tree.specs.Nodes.{treeOf}
+use Rattle.tree.specs.TreeBits.{Node}
+use Rattle.tree.specs.Walk.{SoundTree}
+use Rattle.macroblock_dec.specs.declared.inner.codes.ReadPosition.{ReadPosition}
+use Rattle.macroblock_dec.specs.declared.inner.reading.ReadMotion.{ReadMotion}
+use Rattle.macroblock_dec.specs.declared.inner.reading.ReadChoice.{ReadChoice}
+use Rattle.macroblock.specs.Macroblock.{Given, Motion, still, single, four, Choice, coded, halfOf, vectorsOf}
+use Rattle.macroblock.specs.Laying.{choiceBy}
+use Rattle.macroblock.specs.Motions.{motionOf}
+use Rattle.macroblock.specs.Reading.{readVector}
+
+-- an answer as reading gives it: a value and the bits left, or the refusal
+abbrev pub gotBy : {A : Type 0} → ℕ → A → ℕ → List ℕ → Got A
+gotBy refused a next bits = pick (eqb refused 0) (got a (drop next bits)) (bad refused)
+
+-- the answer is what reading the bits of s gives, and the bit behind it lies in s
+pub record Found {A : Type 0} (s : List ℕ) (g : Got A) (refused : ℕ) (a : A) (next : ℕ) : Type 0 where
+  pub is : gotBy refused a next (bitsOf s) ≡ g
+  pub within : next ≤ 8 * length s
+
+-- a code of a table, and its position there
+pub record PositionFound (s : List ℕ) (at : ℕ) (table : List ℕ) (r : ReadPosition) : Type 0 where
+  pub found : Found s (takeCode (codesOf table) (drop at (bitsOf s))) (r .refused) (r .position) (r .next)
+  pub there : r .position < length table / 3
+
+-- the positions of two differences
+pub record Pair : Type 0 where
+  pub x : ℕ
+  pub y : ℕ
+
+unfoldable pub readPair : List ℕ → List ℕ → Got Pair
+readPair book bits =
+    then (takeCode (codesOf (vectorTable book)) bits) λ a r.
+    then (takeCode (codesOf (vectorTable book)) r) λ b q.
+    got (record { x = a; y = b }) q
+
+-- ---- motions
+-- four vectors, each predicted from those before it
+unfoldable pub readFour : Given → Near → List ℕ → Got (List Svq1Mv)
+readFour g n bits =
+    then (readVector g (forFirst n) bits) λ a r1.
+    then (readVector g (forSecond n a) r1) λ b r2.
+    then (readVector g (forThird n a b) r2) λ c r3.
+    then (readVector g (forFourth a b c) r3) λ d r4. got (a ∷ b ∷ c ∷ d ∷ []) r4
+
+abbrev pub fourOf : List Svq1Mv → Motion
+fourOf vs = four (getD vs 0 zeroMv) (getD vs 1 zeroMv) (getD vs 2 zeroMv) (getD vs 3 zeroMv)
+
+-- the motion behind the mode at a position: 0 INTER, 1 INTER_4MV, else none
+unfoldable pub readMotion : Given → Near → ℕ → List ℕ → Got Motion
+readMotion g n zero bits = then (readVector g (forOne n) bits) λ v r. got (single v) r
+readMotion g n (suc zero) bits = then (readFour g n bits) λ vs r. got (fourOf vs) r
+readMotion g n (suc (suc k)) bits = got still bits
+
+-- a motion, and the vectors that it leaves
+pub record MotionFound (s : List ℕ) (g : Got Motion) (r : ReadMotion) : Type 0 where
+  pub found : Found s g (r .refused) (motionOf (r .motion) (r .vectors)) (r .next)
+  pub vectors-are : r .vectors ≡ vectorsOf (coded (motionOf (r .motion) (r .vectors)) [])
+  pub inside : All Inside (r .vectors)
+
+-- a tree that can be shown
+pub record TreeFound (s : List ℕ) (g : Got (List Node)) (h : Svq1Half) (r : ReadTree) : Type 0 where
+  pub found : Found s g (r .refused) (treeOf (r .blocks)) (r .next)
+  pub sound : r .refused ≡ 0 → SoundTree h (treeOf (r .blocks))
+
+abbrev pub readMotionOf : ReadChoice → Motion
+readMotionOf r = motionOf (r .motion) (r .vectors)
+
+abbrev pub choiceOf : ReadChoice → Choice
+choiceOf r = choiceBy (r .skip) (readMotionOf r) (treeOf (r .blocks))
+
+-- what it is, the vectors that it leaves, and that its tree can be shown
+pub record ChoiceFound (s : List ℕ) (g : Got Choice) (r : ReadChoice) : Type 0 where
+  pub found : Found s g (r .refused) (choiceOf r) (r .next)
+  pub vectors-are : r .vectors ≡ vectorsOf (choiceOf r)
+  pub inside : All Inside (r .vectors)
+  pub sound : r .refused ≡ 0 → r .skip ≡ false → SoundTree (halfOf (readMotionOf r)) (treeOf (r .blocks))

@@ -1,0 +1,2 @@
+// One macroblock read.
+pub mod inner;

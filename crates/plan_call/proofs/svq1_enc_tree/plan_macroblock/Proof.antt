@@ -1,0 +1,69 @@
+-- Refused, or planned. Assumes nothing.
+use mathlib.Core.Path.{_≡_, refl, _∙_, sym}
+use Rattle.leaf.specs.LeafCall.{BlockIn, blockRefusal}
+use Rattle.leaf_call.specs.LeafAnswerLaws.{block-passes}
+use Rattle.plan_call.specs.PlanCallLaws.{plan-refused, plan-answered}
+use borrow.Author.Needs.{needs}
+use Rattle.plan_call.proofs.svq1_enc_tree.plan_macroblock.Statement.{statement}
+use Rattle.plan_call.proofs.svq1_enc_tree.plan_macroblock.Tie as tie
+
+block-refusal-requires : tie.Need-block-refusal-requires
+block-refusal-requires c κs = search needs
+
+refused-plan-requires : tie.Need-refused-plan-requires
+refused-plan-requires c κs = search needs
+
+returns : tie.Need-returns
+returns c =
+    let a = c .before .before .before .before .before .before .before .args in
+    let b : BlockIn = record { book = a .book .now; codebook = a .codebook .now; level = a .level; half = a .half; cap = a .cap; allowSkip = a .skip; target = a .target .now; predictor = a .predictor .now } in
+    rw (c .refused-plan .ensures) (plan-refused b (a .lambda) _ (c .before .before .block-refusal .ensures) (c .before .if1 .taken))
+
+slice-aggregate-planned : tie.Need-slice-aggregate-planned
+slice-aggregate-planned c = search needs
+
+half-of-requires : tie.Need-half-of-requires
+half-of-requires c κs = search needs
+
+slice-aggregate-planned-2 : tie.Need-slice-aggregate-planned-2
+slice-aggregate-planned-2 c = search needs
+
+planned-requires : tie.Need-planned-requires
+planned-requires c κs =
+    let a = c .before .before .before .before .before .before .before .before .before .args in
+    let b : BlockIn = record { book = a .book .now; codebook = a .codebook .now; level = a .level; half = a .half; cap = a .cap; allowSkip = a .skip; target = a .target .now; predictor = a .predictor .now } in
+    let none : blockRefusal b ≡ 0 = sym (c .before .before .before .before .block-refusal .ensures) ∙ c .before .before .before .if1 .left in
+    let p = block-passes b none in
+    record {
+      ready = record {
+        known = p .book;
+        codebook-size = p .codebook;
+        room = refl;
+        target = p .target;
+        predictor = p .predictor;
+        stages = p .cap;
+        skips = λ t. c .before .half-of .ensures ∙ p .skip t;
+      };
+      five = p .level;
+      zeros = refl;
+    }
+
+returns-2 : tie.Need-returns-2
+returns-2 c =
+    let a = c .before .before .before .before .before .before .before .before .before .before .before .before .before .args in
+    let b : BlockIn = record { book = a .book .now; codebook = a .codebook .now; level = a .level; half = a .half; cap = a .cap; allowSkip = a .skip; target = a .target .now; predictor = a .predictor .now } in
+    let none : blockRefusal b ≡ 0 = sym (c .before .before .before .before .before .before .before .before .block-refusal .ensures) ∙ c .before .before .before .before .before .before .before .if1 .left in
+    plan-answered b (a .lambda) none _ (c .before .before .before .before .before .half-of .ensures) (c .before .before .before .planned .result) _ (c .before .before .before .planned .ensures)
+
+pub plan-macroblock-spec : {M : Type 1} → statement M
+plan-macroblock-spec =
+    tie.close
+    (tie.spec
+    block-refusal-requires
+    refused-plan-requires
+    returns
+    slice-aggregate-planned
+    half-of-requires
+    slice-aggregate-planned-2
+    planned-requires
+    returns-2)

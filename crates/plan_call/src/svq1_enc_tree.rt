@@ -1,0 +1,114 @@
+// The plan as a call.
+ghost use mathlib.Core.Path.{_≡_};
+ghost use Rattle.plan_call.specs.PlanCall.{refusedPlan, Plannable, PlanShown, PlanAnswered};
+use book::svq1_vlc::Svq1Half;
+use codebook::inner::raise_codebook;
+use leaf_call::svq1_enc_leaf::block_refusal;
+use leaf_call::svq1_enc_leaf::half_of;
+use plan::inner::plan;
+use plan::inner::plan_reconstruction;
+use plan::svq1_enc_tree::MbPlan;
+use tree::svq1_enc_tree::Block;
+use tree::svq1_enc_tree::TreeNode;
+
+// What a plan call answers: 0 with the plan's bits, its error, its tree and the samples that it shows; or a refusal's number and nothing else.
+pub struct PlanAnswer {
+    pub refused: u8,
+    pub bits: u32,
+    pub error: u32,
+    pub blocks: [Block; 63],
+    pub samples: [u8; 256],
+}
+
+fn refused_plan(refused: u8) -> PlanAnswer
+    ensures { λ r. ⌜ r ≡ refusedPlan refused ⌝ }
+{
+    PlanAnswer {
+        refused,
+        bits: 0,
+        error: 0,
+        blocks: [Block {
+            node: TreeNode::Off,
+            stages: [0u8; 6],
+        }; 63],
+        samples: [0u8; 256],
+    }
+}
+
+// A plan that no refusal meets; `raised` is room for the raised codebook, and what the plan shows comes to the front of `samples`.
+fn planned(
+    book: &[u8],
+    codebook: &[u8],
+    raised: &mut [u8],
+    d: usize,
+    half: Svq1Half,
+    target: &[u8],
+    predictor: &[u8],
+    most: usize,
+    skip: bool,
+    lambda: u64,
+    samples: &mut [u8],
+) -> MbPlan
+    requires { ⌜ Plannable (now book) (now codebook) (now raised) d half (now target) (now predictor) most skip (now samples) ⌝ }
+    ensures { λ r. ⌜ PlanShown (now (book .entry)) (now (codebook .entry)) d half (now (target .entry)) (now (predictor .entry)) most skip lambda r (now (samples .exit)) ⌝ }
+{
+    raise_codebook(codebook, raised);
+    let p = plan(
+        half,
+        book,
+        codebook,
+        raised,
+        most,
+        skip,
+        lambda,
+        d,
+        target,
+        predictor,
+    );
+    let blocks = p.blocks;
+    plan_reconstruction(blocks, half, predictor, raised, d, samples);
+    p
+}
+
+// The plan of a block of any level on its own.
+pub fn plan_macroblock(
+    book: &[u8],
+    codebook: &[u8],
+    level: u8,
+    half: u8,
+    target: &[u8],
+    predictor: &[u8],
+    cap: u8,
+    skip: bool,
+    lambda: u64,
+) -> PlanAnswer
+    ensures { λ r. ⌜ PlanAnswered (record { book = now (book .entry); codebook = now (codebook .entry); level = level; half = half; cap = cap; allowSkip = skip; target = now (target .entry); predictor = now (predictor .entry) }) lambda r ⌝ }
+{
+    let refusal = block_refusal(book, codebook, level, half, target, predictor, cap, skip);
+    if refusal != 0 {
+        return refused_plan(refusal);
+    }
+    let mut raised = [0u8; 23040];
+    let mut samples = [0u8; 256];
+    let p = planned(
+        book,
+        codebook,
+        &mut raised,
+        level as usize,
+        half_of(half),
+        target,
+        predictor,
+        cap as usize,
+        skip,
+        lambda,
+        &mut samples,
+    );
+    let blocks = p.blocks;
+    PlanAnswer {
+        refused: 0,
+        bits: p.bits,
+        error: p.error,
+        blocks,
+        samples,
+    }
+}
