@@ -4,7 +4,7 @@ use Prim.Native.Nat.{ℕ, _-_, _≤_}
 use native.Mathlib.Omega.{arith}
 use borrow.Author.Needs.{needs}
 use lib.ListN.{length}
-use Rattle.mv_cache.specs.PutLaws.{putTo, put-none, put-more, put-all, length-to, entry-steps}
+use Rattle.mv_cache.specs.PutLaws.{putTo, put-none, put-more, put-all, length-to, Steps, entry-steps}
 use Rattle.mv_cache.proofs.inner.store_bytes.Statement.{statement}
 use Rattle.mv_cache.proofs.inner.store_bytes.Tie as tie
 
@@ -17,6 +17,13 @@ abbrev μ-loop : tie.MeasureT-loop
 loop-holds : tie.Need-loop-holds Inv-loop μ-loop
 loop-holds c = (omega arith, put-none 2 _ _ _ _)
 
+-- entry j of the macroblock lies in the slice
+entry : (c : tie.In-loop Inv-loop μ-loop) → Steps 2 (c .before .before .args .cols) (c .before .before .args .k) (c .before .loop .j) (length (c .before .before .args .s .now))
+entry c =
+    let a = c .before .before .args in
+    let p = c .before .before .pre in
+    entry-steps 2 (a .cols) (omega arith) (p .wide) (a .k) (c .before .loop .j) (a .s .now) (p .holds) (search needs)
+
 element-copy-out-s : tie.Need-element-copy-out-s Inv-loop μ-loop
 element-copy-out-s c = search needs
 
@@ -24,54 +31,35 @@ div-s : tie.Need-div-s Inv-loop μ-loop
 div-s c = search needs
 
 mul-s : tie.Need-mul-s Inv-loop μ-loop
-mul-s c =
-    let a = c .before .before .before .args in
-    let p = c .before .before .before .pre in
-    omega (arith, entry-steps 2 (a .cols) (omega arith) (p .wide) (a .k) (c .before .before .loop .j) (a .s .now) (p .holds) (search needs))
+mul-s c = omega (arith, entry (c .before))
 
 add-s : tie.Need-add-s Inv-loop μ-loop
-add-s c =
-    let a = c .before .before .before .args in
-    let p = c .before .before .before .pre in
-    omega (arith, entry-steps 2 (a .cols) (omega arith) (p .wide) (a .k) (c .before .before .loop .j) (a .s .now) (p .holds) (search needs))
+add-s c = omega (arith, entry (c .before))
 
 mul-s-2 : tie.Need-mul-s-2 Inv-loop μ-loop
 mul-s-2 c = omega arith
 
 mul-s-3 : tie.Need-mul-s-3 Inv-loop μ-loop
-mul-s-3 c =
-    let a = c .before .before .before .args in
-    let p = c .before .before .before .pre in
-    omega (arith, entry-steps 2 (a .cols) (omega arith) (p .wide) (a .k) (c .before .before .loop .j) (a .s .now) (p .holds) (search needs))
+mul-s-3 c = omega (arith, entry (c .before))
 
 rem-s : tie.Need-rem-s Inv-loop μ-loop
 rem-s c = search needs
 
 mul-s-4 : tie.Need-mul-s-4 Inv-loop μ-loop
-mul-s-4 c =
-    let a = c .before .before .before .args in
-    let p = c .before .before .before .pre in
-    omega (arith, entry-steps 2 (a .cols) (omega arith) (p .wide) (a .k) (c .before .before .loop .j) (a .s .now) (p .holds) (search needs))
+mul-s-4 c = omega (arith, entry (c .before))
 
 add-s-2 : tie.Need-add-s-2 Inv-loop μ-loop
-add-s-2 c =
-    let a = c .before .before .before .args in
-    let p = c .before .before .before .pre in
-    omega (arith, entry-steps 2 (a .cols) (omega arith) (p .wide) (a .k) (c .before .before .loop .j) (a .s .now) (p .holds) (search needs))
+add-s-2 c = omega (arith, entry (c .before))
 
 add-s-3 : tie.Need-add-s-3 Inv-loop μ-loop
-add-s-3 c =
-    let a = c .before .before .before .args in
-    let p = c .before .before .before .pre in
-    omega (arith, entry-steps 2 (a .cols) (omega arith) (p .wide) (a .k) (c .before .before .loop .j) (a .s .now) (p .holds) (search needs))
+add-s-3 c = omega (arith, entry (c .before))
 
 slice-write-s : tie.Need-slice-write-s Inv-loop μ-loop
 slice-write-s c =
     let a = c .before .before .before .args in
-    let p = c .before .before .before .pre in
     let l = c .before .before .loop in
     rw (l .inv .1, length-to 2 (a .cols) (a .k) (a .v .now) (l .j) (a .s .now))
-    (entry-steps 2 (a .cols) (omega arith) (p .wide) (a .k) (l .j) (a .s .now) (p .holds) (search needs) .all)
+    (entry (c .before) .all)
 
 add-j : tie.Need-add-j Inv-loop μ-loop
 add-j c = search needs

@@ -2,8 +2,8 @@
 use Rattle.canvas.specs.Canvas.{Canvas}
 use mathlib.Core.Path.{_≡_}
 use Prim.Native.Nat.{_-_, _*_, _≤_}
-use Rattle.compensation.specs.Rows.{rowAt, early}
-use Rattle.compensation.specs.RowsLaws.{row-in}
+use Rattle.compensation.specs.Rows.{rowAt, early, ReadIn}
+use Rattle.compensation.specs.RowsLaws.{RowIn, row-in}
 use Rattle.compensation.specs.EarlyLaws.{begin, turn, stop, end}
 use native.Mathlib.Omega.{arith}
 use borrow.Author.Needs.{needs}
@@ -19,41 +19,29 @@ abbrev μ-loop : tie.MeasureT-loop
 loop-holds : tie.Need-loop-holds Inv-loop μ-loop
 loop-holds c = (omega arith, begin _ _ _, omega arith)
 
-mul-row-between : tie.Need-mul-row-between Inv-loop μ-loop
-mul-row-between c =
+-- row i lies in the block and in the canvas, which are not large
+row : (c : tie.In-loop Inv-loop μ-loop)
+    → RowIn (c .before .before .before .before .args .t .now) (record { samples = c .before .before .before .before .args .reference .now; stride = c .before .before .before .before .args .stride; rows = c .before .before .before .before .args .rows }) (c .before .before .before .before .args .n) (c .before .before .before .before .args .ox) (c .before .before .before .before .args .oy) (c .before .before .before .before .args .x0) (c .before .before .before .before .args .y0) (c .before .loop .i)
+    × ReadIn (c .before .before .before .before .args .t .now) (record { samples = c .before .before .before .before .args .reference .now; stride = c .before .before .before .before .args .stride; rows = c .before .before .before .before .args .rows }) (c .before .before .before .before .args .n) (c .before .before .before .before .args .ox) (c .before .before .before .before .args .oy) (c .before .before .before .before .args .x0) (c .before .before .before .before .args .y0)
+row c =
     let a = c .before .before .before .before .args in
-    let r = c .before .before .before .before .pre in
-    let v : Canvas = record { samples = a .reference .now; stride = a .stride; rows = a .rows } in
-    omega (arith, r, row-in (a .t .now) v (a .n) (a .ox) (a .oy) (a .x0) (a .y0) (c .before .loop .i) (r .0) (c .loop-test .taken))
+    let r = c .before .before .before .before .pre .0 in
+    (row-in (a .t .now) _ (a .n) (a .ox) (a .oy) (a .x0) (a .y0) (c .before .loop .i) r (c .loop-test .taken), r)
+
+mul-row-between : tie.Need-mul-row-between Inv-loop μ-loop
+mul-row-between c = omega (arith, row c)
 
 add-row-between : tie.Need-add-row-between Inv-loop μ-loop
-add-row-between c =
-    let a = c .before .before .before .before .args in
-    let r = c .before .before .before .before .pre in
-    let v : Canvas = record { samples = a .reference .now; stride = a .stride; rows = a .rows } in
-    omega (arith, r, row-in (a .t .now) v (a .n) (a .ox) (a .oy) (a .x0) (a .y0) (c .before .loop .i) (r .0) (c .loop-test .taken))
+add-row-between c = omega (arith, row c)
 
 mul-row-between-2 : tie.Need-mul-row-between-2 Inv-loop μ-loop
-mul-row-between-2 c =
-    let a = c .before .before .before .before .args in
-    let r = c .before .before .before .before .pre in
-    let v : Canvas = record { samples = a .reference .now; stride = a .stride; rows = a .rows } in
-    omega (arith, r, row-in (a .t .now) v (a .n) (a .ox) (a .oy) (a .x0) (a .y0) (c .before .loop .i) (r .0) (c .loop-test .taken))
+mul-row-between-2 c = omega (arith, row c)
 
 add-row-between-2 : tie.Need-add-row-between-2 Inv-loop μ-loop
-add-row-between-2 c =
-    let a = c .before .before .before .before .args in
-    let r = c .before .before .before .before .pre in
-    let v : Canvas = record { samples = a .reference .now; stride = a .stride; rows = a .rows } in
-    omega (arith, r, row-in (a .t .now) v (a .n) (a .ox) (a .oy) (a .x0) (a .y0) (c .before .loop .i) (r .0) (c .loop-test .taken))
+add-row-between-2 c = omega (arith, row c)
 
 row-between-requires : tie.Need-row-between-requires Inv-loop μ-loop
-row-between-requires c κs =
-    let a = c .before .before .before .before .args in
-    let r = c .before .before .before .before .pre in
-    let v : Canvas = record { samples = a .reference .now; stride = a .stride; rows = a .rows } in
-    let f = row-in (a .t .now) v (a .n) (a .ox) (a .oy) (a .x0) (a .y0) (c .before .loop .i) (r .0) (c .loop-test .taken) in
-    (r .0 .side, r .0 .ox-bit, r .0 .oy-bit, r .1, f .target, f .canvas)
+row-between-requires c κs = let f = row c in (f .1 .side, f .1 .ox-bit, f .1 .oy-bit, c .before .before .before .before .pre .1, f .0 .target, f .0 .canvas)
 
 cast-sum : tie.Need-cast-sum Inv-loop μ-loop
 cast-sum c = omega (arith, c .before .before .before .before .before .pre .0 .side)

@@ -2,8 +2,8 @@
 use Rattle.canvas.specs.Canvas.{Canvas}
 use mathlib.Core.Path.{_≡_, refl, _∙_}
 use Prim.Native.Nat.{_+_, _-_, _*_, _≤_}
-use Rattle.compensation.specs.Rows.{rowAt, early}
-use Rattle.compensation.specs.RowsLaws.{row-in, row-full, part-len}
+use Rattle.compensation.specs.Rows.{rowAt, early, ReadIn}
+use Rattle.compensation.specs.RowsLaws.{RowIn, row-in, row-full, part-len}
 use Rattle.compensation.specs.EarlyLaws.{begin, turn, stop, end}
 use native.Mathlib.Omega.{arith}
 use borrow.Author.Needs.{needs}
@@ -19,40 +19,29 @@ abbrev μ-loop : tie.MeasureT-loop
 loop-holds : tie.Need-loop-holds Inv-loop μ-loop
 loop-holds c = (omega arith, begin _ _ _, omega arith)
 
-mul-a : tie.Need-mul-a Inv-loop μ-loop
-mul-a c =
+-- row i lies in the block and in the canvas, which are not large
+row : (c : tie.In-loop Inv-loop μ-loop)
+    → RowIn (c .before .before .before .before .args .t .now) (record { samples = c .before .before .before .before .args .reference .now; stride = c .before .before .before .before .args .stride; rows = c .before .before .before .before .args .rows }) (c .before .before .before .before .args .n) 0 0 (c .before .before .before .before .args .x0) (c .before .before .before .before .args .y0) (c .before .loop .i)
+    × ReadIn (c .before .before .before .before .args .t .now) (record { samples = c .before .before .before .before .args .reference .now; stride = c .before .before .before .before .args .stride; rows = c .before .before .before .before .args .rows }) (c .before .before .before .before .args .n) 0 0 (c .before .before .before .before .args .x0) (c .before .before .before .before .args .y0)
+row c =
     let a = c .before .before .before .before .args in
     let r = c .before .before .before .before .pre in
-    let v : Canvas = record { samples = a .reference .now; stride = a .stride; rows = a .rows } in
-    omega (arith, r, row-in (a .t .now) v (a .n) 0 0 (a .x0) (a .y0) (c .before .loop .i) (r) (c .loop-test .taken))
+    (row-in (a .t .now) _ (a .n) 0 0 (a .x0) (a .y0) (c .before .loop .i) r (c .loop-test .taken), r)
+
+mul-a : tie.Need-mul-a Inv-loop μ-loop
+mul-a c = omega (arith, row c)
 
 add-p : tie.Need-add-p Inv-loop μ-loop
-add-p c =
-    let a = c .before .before .before .before .args in
-    let r = c .before .before .before .before .pre in
-    let v : Canvas = record { samples = a .reference .now; stride = a .stride; rows = a .rows } in
-    omega (arith, r, row-in (a .t .now) v (a .n) 0 0 (a .x0) (a .y0) (c .before .loop .i) (r) (c .loop-test .taken))
+add-p c = omega (arith, row c)
 
 mul-p : tie.Need-mul-p Inv-loop μ-loop
-mul-p c =
-    let a = c .before .before .before .before .args in
-    let r = c .before .before .before .before .pre in
-    let v : Canvas = record { samples = a .reference .now; stride = a .stride; rows = a .rows } in
-    omega (arith, r, row-in (a .t .now) v (a .n) 0 0 (a .x0) (a .y0) (c .before .loop .i) (r) (c .loop-test .taken))
+mul-p c = omega (arith, row c)
 
 add-p-2 : tie.Need-add-p-2 Inv-loop μ-loop
-add-p-2 c =
-    let a = c .before .before .before .before .args in
-    let r = c .before .before .before .before .pre in
-    let v : Canvas = record { samples = a .reference .now; stride = a .stride; rows = a .rows } in
-    omega (arith, r, row-in (a .t .now) v (a .n) 0 0 (a .x0) (a .y0) (c .before .loop .i) (r) (c .loop-test .taken))
+add-p-2 c = omega (arith, row c)
 
 add-sum-full : tie.Need-add-sum-full Inv-loop μ-loop
-add-sum-full c =
-    let a = c .before .before .before .before .args in
-    let r = c .before .before .before .before .pre in
-    let v : Canvas = record { samples = a .reference .now; stride = a .stride; rows = a .rows } in
-    omega (arith, r, row-in (a .t .now) v (a .n) 0 0 (a .x0) (a .y0) (c .before .loop .i) (r) (c .loop-test .taken))
+add-sum-full c = omega (arith, row c)
 
 sub-sum-full : tie.Need-sub-sum-full Inv-loop μ-loop
 sub-sum-full c = search needs
@@ -61,18 +50,10 @@ part-sum-full-start : tie.Need-part-sum-full-start Inv-loop μ-loop
 part-sum-full-start c = search needs
 
 part-sum-full-end : tie.Need-part-sum-full-end Inv-loop μ-loop
-part-sum-full-end c =
-    let a = c .before .before .before .before .args in
-    let r = c .before .before .before .before .pre in
-    let v : Canvas = record { samples = a .reference .now; stride = a .stride; rows = a .rows } in
-    omega (arith, r, row-in (a .t .now) v (a .n) 0 0 (a .x0) (a .y0) (c .before .loop .i) (r) (c .loop-test .taken))
+part-sum-full-end c = omega (arith, row c)
 
 add-sum-full-2 : tie.Need-add-sum-full-2 Inv-loop μ-loop
-add-sum-full-2 c =
-    let a = c .before .before .before .before .before .args in
-    let r = c .before .before .before .before .before .pre in
-    let v : Canvas = record { samples = a .reference .now; stride = a .stride; rows = a .rows } in
-    omega (arith, r, row-in (a .t .now) v (a .n) 0 0 (a .x0) (a .y0) (c .before .before .loop .i) (r) (c .before .loop-test .taken))
+add-sum-full-2 c = omega (arith, row (c .before))
 
 sub-sum-full-2 : tie.Need-sub-sum-full-2 Inv-loop μ-loop
 sub-sum-full-2 c = search needs
@@ -81,19 +62,13 @@ part-sum-full-start-2 : tie.Need-part-sum-full-start-2 Inv-loop μ-loop
 part-sum-full-start-2 c = search needs
 
 part-sum-full-end-2 : tie.Need-part-sum-full-end-2 Inv-loop μ-loop
-part-sum-full-end-2 c =
-    let a = c .before .before .before .before .before .args in
-    let r = c .before .before .before .before .before .pre in
-    let v : Canvas = record { samples = a .reference .now; stride = a .stride; rows = a .rows } in
-    omega (arith, r, row-in (a .t .now) v (a .n) 0 0 (a .x0) (a .y0) (c .before .before .loop .i) (r) (c .before .loop-test .taken))
+part-sum-full-end-2 c = omega (arith, row (c .before))
 
 sum-full-requires : tie.Need-sum-full-requires Inv-loop μ-loop
 sum-full-requires c κs =
     let a = c .before .before .before .before .before .before .args in
-    let r = c .before .before .before .before .before .before .pre in
-    let v : Canvas = record { samples = a .reference .now; stride = a .stride; rows = a .rows } in
-    let f = row-in (a .t .now) v (a .n) 0 0 (a .x0) (a .y0) (c .before .before .before .loop .i) r (c .before .before .loop-test .taken) in
-    (r .side .most, part-len (a .t .now) _ (a .n) (f .target), part-len (a .reference .now) ((a .y0 + c .before .before .before .loop .i) * a .stride + a .x0) (a .n) (omega (arith, f .canvas)))
+    let f = row (c .before .before) in
+    (f .1 .side .most, part-len (a .t .now) _ (a .n) (f .0 .target), part-len (a .reference .now) ((a .y0 + c .before .before .before .loop .i) * a .stride + a .x0) (a .n) (omega (arith, f .0 .canvas)))
 
 cast-sum : tie.Need-cast-sum Inv-loop μ-loop
 cast-sum c = omega (arith, c .before .before .before .before .before .before .before .pre .side)

@@ -3,8 +3,8 @@ use mathlib.Core.Path.{_≡_, _∙_, ap}
 use Prim.Native.Nat.{ℕ, _-_, _*_, _≤_}
 use Rattle.canvas.specs.Canvas.{Canvas}
 use Rattle.mv_cache.specs.Grid.{entryOf}
-use Rattle.mv_cache.specs.PutLaws.{putTo, put-none, put-more}
-use Rattle.compensation.specs.Moved.{downMv}
+use Rattle.mv_cache.specs.PutLaws.{putTo, put-none, put-more, Steps}
+use Rattle.compensation.specs.Moved.{downMv, Placed}
 use Rattle.compensation.specs.MovedLaws.{moved-is, part-steps, square-most, side-some, cols-some, partValues, part-value, part-done}
 use native.Mathlib.Omega.{arith}
 use Rattle.compensation.proofs.inner.mc.part_clamped.Statement.{statement}
@@ -22,105 +22,74 @@ mul-n c = let a = c .before .args in omega (arith, square-most (a .s) (a .cols) 
 loop-holds : tie.Need-loop-holds Inv-loop μ-loop
 loop-holds c = (omega arith, put-none _ _ _ _ _)
 
+-- a turn's sample: its place in the part, and a macroblock and a vector that are not large
+known : (c : tie.In-loop Inv-loop μ-loop)
+    → Steps (c .before .before .before .args .s) (c .before .before .before .args .cols) (c .before .before .before .args .q) (c .before .loop .j) 256
+    × Placed (record { samples = c .before .before .before .args .reference .now; stride = c .before .before .before .args .stride; rows = c .before .before .before .args .rows }) (c .before .before .before .args .x) (c .before .before .before .args .y)
+    × (c .before .before .before .args .ux ≤ 6442450944) × (c .before .before .before .args .uy ≤ 6442450944)
+known c =
+    let a = c .before .before .before .args in
+    let r = c .before .before .before .pre in
+    (part-steps (a .s) (a .cols) (a .q) (r .1) (c .before .loop .j) (c .loop-test .taken), r .0, r .2, r .3)
+
 div-i : tie.Need-div-i Inv-loop μ-loop
 div-i c = let a = c .before .before .before .args in cols-some (a .s) (a .cols) (a .q) (c .before .before .before .pre .1)
 
 mul-i : tie.Need-mul-i Inv-loop μ-loop
-mul-i c =
-    let a = c .before .before .before .args in
-    let r = c .before .before .before .pre in
-    omega (arith, r .0, r .2, r .3, part-steps (a .s) (a .cols) (a .q) (r .1) (c .before .loop .j) (c .loop-test .taken))
+mul-i c = omega (arith, known c)
 
 div-i-2 : tie.Need-div-i-2 Inv-loop μ-loop
 div-i-2 c = let a = c .before .before .before .args in side-some (a .s) (a .cols) (a .q) (c .before .before .before .pre .1)
 
 add-i : tie.Need-add-i Inv-loop μ-loop
-add-i c =
-    let a = c .before .before .before .args in
-    let r = c .before .before .before .pre in
-    omega (arith, r .0, r .2, r .3, part-steps (a .s) (a .cols) (a .q) (r .1) (c .before .loop .j) (c .loop-test .taken))
+add-i c = omega (arith, known c)
 
 mul-i-2 : tie.Need-mul-i-2 Inv-loop μ-loop
 mul-i-2 c = omega (arith, c .before .before .before .pre .1 .across)
 
 mul-i-3 : tie.Need-mul-i-3 Inv-loop μ-loop
-mul-i-3 c =
-    let a = c .before .before .before .args in
-    let r = c .before .before .before .pre in
-    omega (arith, r .0, r .2, r .3, part-steps (a .s) (a .cols) (a .q) (r .1) (c .before .loop .j) (c .loop-test .taken))
+mul-i-3 c = omega (arith, known c)
 
 rem-i : tie.Need-rem-i Inv-loop μ-loop
 rem-i c = let a = c .before .before .before .args in cols-some (a .s) (a .cols) (a .q) (c .before .before .before .pre .1)
 
 mul-i-4 : tie.Need-mul-i-4 Inv-loop μ-loop
-mul-i-4 c =
-    let a = c .before .before .before .args in
-    let r = c .before .before .before .pre in
-    omega (arith, r .0, r .2, r .3, part-steps (a .s) (a .cols) (a .q) (r .1) (c .before .loop .j) (c .loop-test .taken))
+mul-i-4 c = omega (arith, known c)
 
 rem-i-2 : tie.Need-rem-i-2 Inv-loop μ-loop
 rem-i-2 c = let a = c .before .before .before .args in side-some (a .s) (a .cols) (a .q) (c .before .before .before .pre .1)
 
 add-i-2 : tie.Need-add-i-2 Inv-loop μ-loop
-add-i-2 c =
-    let a = c .before .before .before .args in
-    let r = c .before .before .before .pre in
-    omega (arith, r .0, r .2, r .3, part-steps (a .s) (a .cols) (a .q) (r .1) (c .before .loop .j) (c .loop-test .taken))
+add-i-2 c = omega (arith, known c)
 
 add-i-3 : tie.Need-add-i-3 Inv-loop μ-loop
-add-i-3 c =
-    let a = c .before .before .before .args in
-    let r = c .before .before .before .pre in
-    omega (arith, r .0, r .2, r .3, part-steps (a .s) (a .cols) (a .q) (r .1) (c .before .loop .j) (c .loop-test .taken))
+add-i-3 c = omega (arith, known c)
 
 add-sample-halfpel : tie.Need-add-sample-halfpel Inv-loop μ-loop
-add-sample-halfpel c =
-    let a = c .before .before .before .args in
-    let r = c .before .before .before .pre in
-    omega (arith, r .0, r .2, r .3, part-steps (a .s) (a .cols) (a .q) (r .1) (c .before .loop .j) (c .loop-test .taken))
+add-sample-halfpel c = omega (arith, known c)
 
 mul-sample-halfpel : tie.Need-mul-sample-halfpel Inv-loop μ-loop
-mul-sample-halfpel c =
-    let a = c .before .before .before .args in
-    let r = c .before .before .before .pre in
-    omega (arith, r .0, r .2, r .3, part-steps (a .s) (a .cols) (a .q) (r .1) (c .before .loop .j) (c .loop-test .taken))
+mul-sample-halfpel c = omega (arith, known c)
 
 add-sample-halfpel-2 : tie.Need-add-sample-halfpel-2 Inv-loop μ-loop
-add-sample-halfpel-2 c =
-    let a = c .before .before .before .args in
-    let r = c .before .before .before .pre in
-    omega (arith, r .0, r .2, r .3, part-steps (a .s) (a .cols) (a .q) (r .1) (c .before .loop .j) (c .loop-test .taken))
+add-sample-halfpel-2 c = omega (arith, known c)
 
 add-sample-halfpel-3 : tie.Need-add-sample-halfpel-3 Inv-loop μ-loop
-add-sample-halfpel-3 c =
-    let a = c .before .before .before .args in
-    let r = c .before .before .before .pre in
-    omega (arith, r .0, r .2, r .3, part-steps (a .s) (a .cols) (a .q) (r .1) (c .before .loop .j) (c .loop-test .taken))
+add-sample-halfpel-3 c = omega (arith, known c)
 
 mul-sample-halfpel-2 : tie.Need-mul-sample-halfpel-2 Inv-loop μ-loop
-mul-sample-halfpel-2 c =
-    let a = c .before .before .before .args in
-    let r = c .before .before .before .pre in
-    omega (arith, r .0, r .2, r .3, part-steps (a .s) (a .cols) (a .q) (r .1) (c .before .loop .j) (c .loop-test .taken))
+mul-sample-halfpel-2 c = omega (arith, known c)
 
 add-sample-halfpel-4 : tie.Need-add-sample-halfpel-4 Inv-loop μ-loop
-add-sample-halfpel-4 c =
-    let a = c .before .before .before .args in
-    let r = c .before .before .before .pre in
-    omega (arith, r .0, r .2, r .3, part-steps (a .s) (a .cols) (a .q) (r .1) (c .before .loop .j) (c .loop-test .taken))
+add-sample-halfpel-4 c = omega (arith, known c)
 
 sample-halfpel-requires : tie.Need-sample-halfpel-requires Inv-loop μ-loop
 sample-halfpel-requires c κs =
-    let a = c .before .before .before .args in
-    let r = c .before .before .before .pre in
-    let h = part-steps (a .s) (a .cols) (a .q) (r .1) (c .before .loop .j) (c .loop-test .taken) in
-    (omega (arith, r .0 .x-in), omega (arith, r .0 .y-in), r .0 .canvas-len, omega (arith, r .2, r .0, h), omega (arith, r .3, r .0, h))
+    let k = known c in
+    (omega (arith, k), omega (arith, k), k .1 .canvas-len, omega (arith, k), omega (arith, k))
 
 element-write-out : tie.Need-element-write-out Inv-loop μ-loop
-element-write-out c =
-    let a = c .before .before .before .before .args in
-    let r = c .before .before .before .before .pre in
-    part-steps (a .s) (a .cols) (a .q) (r .1) (c .before .before .loop .j) (c .before .loop-test .taken) .all
+element-write-out c = known (c .before) .0 .all
 
 add-j : tie.Need-add-j Inv-loop μ-loop
 add-j c = let a = c .before .before .before .before .args in omega (arith, square-most (a .s) (a .cols) (a .q) (c .before .before .before .before .pre .1))

@@ -2,7 +2,8 @@
 use Rattle.bits.specs.Basics.{valuesFrom}
 use Rattle.compensation.specs.Rows.{cell}
 use mathlib.Core.Path.{_≡_, _∙_, ap}
-use Prim.Native.Nat.{ℕ, _+_, _-_, _*_, _/_, _%_, _≤_}
+use Prim.Native.Nat.{ℕ, _+_, _-_, _*_, _/_, _%_, _<_, _≤_}
+use lib.ListN.{length}
 use Rattle.canvas.specs.Canvas.{Canvas}
 use Rattle.mv_cache.specs.PutLaws.{putTo}
 use Rattle.compensation.specs.MovedLaws.{cols-some}
@@ -24,95 +25,57 @@ loop-holds c =
     let d : Canvas = record { samples = a .reference .now; stride = a .stride; rows = a .rows } in
     (omega arith, part-begin d (a .ox) (a .oy) (a .x0) (a .y0) (a .s) (a .cols) (a .q) (r .1) _)
 
+-- a row's places: its first column in the output, its run there, and its run in the canvas
+row : (c : tie.In-loop Inv-loop μ-loop)
+    → (c .before .before .before .args .q / c .before .before .before .args .cols * c .before .before .before .args .s + c .before .loop .i < 256)
+    × ((c .before .before .before .args .q / c .before .before .before .args .cols * c .before .before .before .args .s + c .before .loop .i) * (c .before .before .before .args .s * c .before .before .before .args .cols) + c .before .before .before .args .q % c .before .before .before .args .cols * c .before .before .before .args .s + c .before .before .before .args .s ≤ 256)
+    × ((c .before .before .before .args .y0 + c .before .loop .i) * c .before .before .before .args .stride + c .before .before .before .args .x0 + c .before .before .before .args .oy * c .before .before .before .args .stride + c .before .before .before .args .ox + c .before .before .before .args .s ≤ length (c .before .before .before .args .reference .now))
+row c =
+    let a = c .before .before .before .args in
+    let r = c .before .before .before .pre in
+    let d : Canvas = record { samples = a .reference .now; stride = a .stride; rows = a .rows } in
+    let i = c .before .loop .i in
+    let h = c .loop-test .taken in (
+      row-first d (a .ox) (a .oy) (a .x0) (a .y0) (a .s) (a .cols) (a .q) (r .1) i h,
+      row-place d (a .ox) (a .oy) (a .x0) (a .y0) (a .s) (a .cols) (a .q) (r .1) i h,
+      row-read d (a .ox) (a .oy) (a .x0) (a .y0) (a .s) (a .cols) (a .q) (r .1) i h (r .0),
+    )
+
 div-o : tie.Need-div-o Inv-loop μ-loop
 div-o c = let s = c .before .before .before in cols-some (s .args .s) (s .args .cols) (s .args .q) (s .pre .1)
 
 mul-o : tie.Need-mul-o Inv-loop μ-loop
-mul-o c =
-    let a = c .before .before .before .args in
-    let r = c .before .before .before .pre in
-    let d : Canvas = record { samples = a .reference .now; stride = a .stride; rows = a .rows } in
-    let i = c .before .loop .i in
-    let h = c .loop-test .taken in
-    omega (arith, r .1 .sides .most, row-place d (a .ox) (a .oy) (a .x0) (a .y0) (a .s) (a .cols) (a .q) (r .1) i h, row-first d (a .ox) (a .oy) (a .x0) (a .y0) (a .s) (a .cols) (a .q) (r .1) i h, row-read d (a .ox) (a .oy) (a .x0) (a .y0) (a .s) (a .cols) (a .q) (r .1) i h (r .0))
+mul-o c = omega (arith, row c)
 
 add-o : tie.Need-add-o Inv-loop μ-loop
-add-o c =
-    let a = c .before .before .before .args in
-    let r = c .before .before .before .pre in
-    let d : Canvas = record { samples = a .reference .now; stride = a .stride; rows = a .rows } in
-    let i = c .before .loop .i in
-    let h = c .loop-test .taken in
-    omega (arith, r .1 .sides .most, row-place d (a .ox) (a .oy) (a .x0) (a .y0) (a .s) (a .cols) (a .q) (r .1) i h, row-first d (a .ox) (a .oy) (a .x0) (a .y0) (a .s) (a .cols) (a .q) (r .1) i h, row-read d (a .ox) (a .oy) (a .x0) (a .y0) (a .s) (a .cols) (a .q) (r .1) i h (r .0))
+add-o c = omega (arith, row c)
 
 mul-o-2 : tie.Need-mul-o-2 Inv-loop μ-loop
 mul-o-2 c = omega (arith, c .before .before .before .pre .1 .across)
 
 mul-o-3 : tie.Need-mul-o-3 Inv-loop μ-loop
-mul-o-3 c =
-    let a = c .before .before .before .args in
-    let r = c .before .before .before .pre in
-    let d : Canvas = record { samples = a .reference .now; stride = a .stride; rows = a .rows } in
-    let i = c .before .loop .i in
-    let h = c .loop-test .taken in
-    omega (arith, r .1 .sides .most, row-place d (a .ox) (a .oy) (a .x0) (a .y0) (a .s) (a .cols) (a .q) (r .1) i h, row-first d (a .ox) (a .oy) (a .x0) (a .y0) (a .s) (a .cols) (a .q) (r .1) i h, row-read d (a .ox) (a .oy) (a .x0) (a .y0) (a .s) (a .cols) (a .q) (r .1) i h (r .0))
+mul-o-3 c = omega (arith, row c)
 
 rem-o : tie.Need-rem-o Inv-loop μ-loop
 rem-o c = let s = c .before .before .before in cols-some (s .args .s) (s .args .cols) (s .args .q) (s .pre .1)
 
 mul-o-4 : tie.Need-mul-o-4 Inv-loop μ-loop
-mul-o-4 c =
-    let a = c .before .before .before .args in
-    let r = c .before .before .before .pre in
-    let d : Canvas = record { samples = a .reference .now; stride = a .stride; rows = a .rows } in
-    let i = c .before .loop .i in
-    let h = c .loop-test .taken in
-    omega (arith, r .1 .sides .most, row-place d (a .ox) (a .oy) (a .x0) (a .y0) (a .s) (a .cols) (a .q) (r .1) i h, row-first d (a .ox) (a .oy) (a .x0) (a .y0) (a .s) (a .cols) (a .q) (r .1) i h, row-read d (a .ox) (a .oy) (a .x0) (a .y0) (a .s) (a .cols) (a .q) (r .1) i h (r .0))
+mul-o-4 c = omega (arith, row c)
 
 add-o-2 : tie.Need-add-o-2 Inv-loop μ-loop
-add-o-2 c =
-    let a = c .before .before .before .args in
-    let r = c .before .before .before .pre in
-    let d : Canvas = record { samples = a .reference .now; stride = a .stride; rows = a .rows } in
-    let i = c .before .loop .i in
-    let h = c .loop-test .taken in
-    omega (arith, r .1 .sides .most, row-place d (a .ox) (a .oy) (a .x0) (a .y0) (a .s) (a .cols) (a .q) (r .1) i h, row-first d (a .ox) (a .oy) (a .x0) (a .y0) (a .s) (a .cols) (a .q) (r .1) i h, row-read d (a .ox) (a .oy) (a .x0) (a .y0) (a .s) (a .cols) (a .q) (r .1) i h (r .0))
+add-o-2 c = omega (arith, row c)
 
 add-p : tie.Need-add-p Inv-loop μ-loop
-add-p c =
-    let a = c .before .before .before .args in
-    let r = c .before .before .before .pre in
-    let d : Canvas = record { samples = a .reference .now; stride = a .stride; rows = a .rows } in
-    let i = c .before .loop .i in
-    let h = c .loop-test .taken in
-    omega (arith, r .1 .sides .most, row-place d (a .ox) (a .oy) (a .x0) (a .y0) (a .s) (a .cols) (a .q) (r .1) i h, row-first d (a .ox) (a .oy) (a .x0) (a .y0) (a .s) (a .cols) (a .q) (r .1) i h, row-read d (a .ox) (a .oy) (a .x0) (a .y0) (a .s) (a .cols) (a .q) (r .1) i h (r .0))
+add-p c = omega (arith, row c)
 
 mul-p : tie.Need-mul-p Inv-loop μ-loop
-mul-p c =
-    let a = c .before .before .before .args in
-    let r = c .before .before .before .pre in
-    let d : Canvas = record { samples = a .reference .now; stride = a .stride; rows = a .rows } in
-    let i = c .before .loop .i in
-    let h = c .loop-test .taken in
-    omega (arith, r .1 .sides .most, row-place d (a .ox) (a .oy) (a .x0) (a .y0) (a .s) (a .cols) (a .q) (r .1) i h, row-first d (a .ox) (a .oy) (a .x0) (a .y0) (a .s) (a .cols) (a .q) (r .1) i h, row-read d (a .ox) (a .oy) (a .x0) (a .y0) (a .s) (a .cols) (a .q) (r .1) i h (r .0))
+mul-p c = omega (arith, row c)
 
 add-p-2 : tie.Need-add-p-2 Inv-loop μ-loop
-add-p-2 c =
-    let a = c .before .before .before .args in
-    let r = c .before .before .before .pre in
-    let d : Canvas = record { samples = a .reference .now; stride = a .stride; rows = a .rows } in
-    let i = c .before .loop .i in
-    let h = c .loop-test .taken in
-    omega (arith, r .1 .sides .most, row-place d (a .ox) (a .oy) (a .x0) (a .y0) (a .s) (a .cols) (a .q) (r .1) i h, row-first d (a .ox) (a .oy) (a .x0) (a .y0) (a .s) (a .cols) (a .q) (r .1) i h, row-read d (a .ox) (a .oy) (a .x0) (a .y0) (a .s) (a .cols) (a .q) (r .1) i h (r .0))
+add-p-2 c = omega (arith, row c)
 
 part-row-requires : tie.Need-part-row-requires Inv-loop μ-loop
-part-row-requires c κs =
-    let a = c .before .before .before .before .args in
-    let r = c .before .before .before .before .pre in
-    let d : Canvas = record { samples = a .reference .now; stride = a .stride; rows = a .rows } in
-    let i = c .before .before .loop .i in
-    let h = c .before .loop-test .taken in
-    (row-place d (a .ox) (a .oy) (a .x0) (a .y0) (a .s) (a .cols) (a .q) (r .1) i h, r .0 .ox-bit, r .0 .oy-bit, row-read d (a .ox) (a .oy) (a .x0) (a .y0) (a .s) (a .cols) (a .q) (r .1) i h (r .0))
+part-row-requires c κs = let r = c .before .before .before .before .pre in (row (c .before) .1, r .0 .ox-bit, r .0 .oy-bit, row (c .before) .2)
 
 add-i : tie.Need-add-i Inv-loop μ-loop
 add-i c = omega (arith, c .before .before .before .before .before .pre .1 .sides .most)

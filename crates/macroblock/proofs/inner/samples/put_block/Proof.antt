@@ -4,7 +4,7 @@ use Prim.Native.Nat.{ℕ, _-_, _≤_}
 use native.Mathlib.Omega.{arith}
 use borrow.Author.Needs.{needs}
 use lib.ListN.{length}
-use Rattle.mv_cache.specs.PutLaws.{putTo, put-none, put-more, put-all, length-to, entry-steps}
+use Rattle.mv_cache.specs.PutLaws.{putTo, put-none, put-more, put-all, length-to, Steps, entry-steps}
 use Rattle.macroblock.proofs.inner.samples.put_block.Statement.{statement}
 use Rattle.macroblock.proofs.inner.samples.put_block.Tie as tie
 
@@ -17,6 +17,13 @@ abbrev μ-loop : tie.MeasureT-loop
 loop-holds : tie.Need-loop-holds Inv-loop μ-loop
 loop-holds c = (omega arith, put-none 16 _ _ _ _)
 
+-- entry j of the macroblock lies in the slice
+entry : (c : tie.In-loop Inv-loop μ-loop) → Steps 16 (c .before .before .args .cols) (c .before .before .args .k) (c .before .loop .j) (length (c .before .before .args .plane .now))
+entry c =
+    let a = c .before .before .args in
+    let p = c .before .before .pre in
+    entry-steps 16 (a .cols) (omega arith) (p .wide) (a .k) (c .before .loop .j) (a .plane .now) (p .holds) (search needs)
+
 element-copy-out-plane : tie.Need-element-copy-out-plane Inv-loop μ-loop
 element-copy-out-plane c = search needs
 
@@ -24,54 +31,35 @@ div-plane : tie.Need-div-plane Inv-loop μ-loop
 div-plane c = search needs
 
 mul-plane : tie.Need-mul-plane Inv-loop μ-loop
-mul-plane c =
-    let a = c .before .before .before .args in
-    let p = c .before .before .before .pre in
-    omega (arith, entry-steps 16 (a .cols) (omega arith) (p .wide) (a .k) (c .before .before .loop .j) (a .plane .now) (p .holds) (search needs))
+mul-plane c = omega (arith, entry (c .before))
 
 add-plane : tie.Need-add-plane Inv-loop μ-loop
-add-plane c =
-    let a = c .before .before .before .args in
-    let p = c .before .before .before .pre in
-    omega (arith, entry-steps 16 (a .cols) (omega arith) (p .wide) (a .k) (c .before .before .loop .j) (a .plane .now) (p .holds) (search needs))
+add-plane c = omega (arith, entry (c .before))
 
 mul-plane-2 : tie.Need-mul-plane-2 Inv-loop μ-loop
 mul-plane-2 c = omega arith
 
 mul-plane-3 : tie.Need-mul-plane-3 Inv-loop μ-loop
-mul-plane-3 c =
-    let a = c .before .before .before .args in
-    let p = c .before .before .before .pre in
-    omega (arith, entry-steps 16 (a .cols) (omega arith) (p .wide) (a .k) (c .before .before .loop .j) (a .plane .now) (p .holds) (search needs))
+mul-plane-3 c = omega (arith, entry (c .before))
 
 rem-plane : tie.Need-rem-plane Inv-loop μ-loop
 rem-plane c = search needs
 
 mul-plane-4 : tie.Need-mul-plane-4 Inv-loop μ-loop
-mul-plane-4 c =
-    let a = c .before .before .before .args in
-    let p = c .before .before .before .pre in
-    omega (arith, entry-steps 16 (a .cols) (omega arith) (p .wide) (a .k) (c .before .before .loop .j) (a .plane .now) (p .holds) (search needs))
+mul-plane-4 c = omega (arith, entry (c .before))
 
 add-plane-2 : tie.Need-add-plane-2 Inv-loop μ-loop
-add-plane-2 c =
-    let a = c .before .before .before .args in
-    let p = c .before .before .before .pre in
-    omega (arith, entry-steps 16 (a .cols) (omega arith) (p .wide) (a .k) (c .before .before .loop .j) (a .plane .now) (p .holds) (search needs))
+add-plane-2 c = omega (arith, entry (c .before))
 
 add-plane-3 : tie.Need-add-plane-3 Inv-loop μ-loop
-add-plane-3 c =
-    let a = c .before .before .before .args in
-    let p = c .before .before .before .pre in
-    omega (arith, entry-steps 16 (a .cols) (omega arith) (p .wide) (a .k) (c .before .before .loop .j) (a .plane .now) (p .holds) (search needs))
+add-plane-3 c = omega (arith, entry (c .before))
 
 slice-write-plane : tie.Need-slice-write-plane Inv-loop μ-loop
 slice-write-plane c =
     let a = c .before .before .before .args in
-    let p = c .before .before .before .pre in
     let l = c .before .before .loop in
     rw (l .inv .1, length-to 16 (a .cols) (a .k) (a .v .now) (l .j) (a .plane .now))
-    (entry-steps 16 (a .cols) (omega arith) (p .wide) (a .k) (l .j) (a .plane .now) (p .holds) (search needs) .all)
+    (entry (c .before) .all)
 
 add-j : tie.Need-add-j Inv-loop μ-loop
 add-j c = search needs
