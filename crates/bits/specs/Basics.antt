@@ -20,6 +20,11 @@ All P (x ∷ xs) = P x × All P xs
 abbrev pub Bytes : List ℕ → Type 0
 Bytes xs = (k : ℕ) → getD xs k 0 < 256
 
+-- the elements that pass a test, in their order
+unfoldable pub passing : {A : Type 0} → (A → Bool) → List A → List A
+passing f [] = []
+passing f (x ∷ xs) = pick (f x) (x ∷ passing f xs) (passing f xs)
+
 -- the test holds for every element
 unfoldable pub every : {A : Type 0} → (A → Bool) → List A → Bool
 every f [] = true

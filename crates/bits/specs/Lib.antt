@@ -1,6 +1,7 @@
 -- The definitions that the contracts of this crate cite; the laws that callers cite stand in the files named `..Laws`.
 pub mod Basics
 pub mod BasicsLaws
+pub mod ListLaws
 pub mod SumLaws
 pub mod FillLaws
 pub mod Bits

@@ -1,6 +1,6 @@
--- The claim about a whole plane, written and read back (document 00, demand 3; document 01, "Behind demand 3").
+-- The claim about a whole plane, written and read back (document 00, demand 3; document 01, "Behind demand 3"; document 02, §5).
 use Prim.Native.Nat.{ℕ, suc, _+_, _*_, _≤_, _<_}
-use mathlib.Core.Bool.{Bool}
+use mathlib.Core.Bool.{Bool, true}
 use mathlib.Core.List.{List}
 use mathlib.Core.Path.{_≡_}
 use lib.ListN.{length, take, drop}
@@ -12,7 +12,8 @@ use Rattle.tree.specs.Plan.{total, prunedCost}
 use Rattle.plan.specs.PlanClaim.{largestLambda, planCost}
 use Rattle.macroblock.specs.declared.svq1_enc_inter.Svq1MbMode.the-variants.{Skip}
 use Rattle.macroblock.specs.Macroblock.{Given, cols, Choice, modeBits}
-use Rattle.macroblock.specs.Choice.{Task, paddedSource, target, motionsTried, planningFor, tried, weightOf}
+use Rattle.macroblock.specs.Limit.{canSkipRest}
+use Rattle.macroblock.specs.Choice.{Task, paddedSource, target, motionsTried, planningFor, fitting, weightOf}
 use Rattle.macroblock.specs.Slices.{Slices, near}
 use Rattle.plane.specs.Plane.{count, Writing, wrote, wroteWeight, wroteBits, writePlane, writingAt, readUpTo, readPlane}
 use Rattle.plane.specs.Calls.{writeRefusal, readRefusal, slicesRefusal}
@@ -69,16 +70,18 @@ module _ (g : Given) (t : Task) (out : List ℕ) (start : ℕ) (a : Slices) wher
     pub read-back : (bytes : List ℕ) (d : Slices) → bitsOf bytes ≡ final .out → slicesRefusal g d ≡ 0 → ReadBack g bytes start d stateAt
     -- 5. in each plan every other pruning over the same leaf choices costs at least as much
     pub no-pruning-cheaper : (k : ℕ) → k < count g → All (λ m. (cut : ℕ → Bool) → planCost (planningFor g t k m) ≤ prunedCost (planningFor g t k m) cut) (motionsTried g t k (near g (stateAt k .slices) k))
-    -- 6. no mode tried costs less than the one written
-    pub no-mode-cheaper : (k : ℕ) → k < count g → All (λ c. costOf k (wrote g t k (stateAt k)) ≤ costOf k c) (tried g t k (near g (stateAt k .slices) k))
+    -- 6. no mode tried, and under an allowance no fitting mode, costs less than the one written
+    pub no-mode-cheaper : (k : ℕ) → k < count g → All (λ c. costOf k (wrote g t k (stateAt k)) ≤ costOf k c) (fitting g t k (near g (stateAt k .slices) k) (stateAt k .bits))
     -- 7. squared error plus lambda times bits is never above that of skipping every macroblock
     pub never-above-skipping : final .error + t .lambda * final .bits ≤ sse (paddedSource g t) (g .reference .samples) + t .lambda * (length (modeBits g Skip) * count g)
+    -- under an allowance: it still holds a SKIP code for each macroblock of the planes behind
+    pub within-allowance : canSkipRest (t .limit) g (count g) (final .bits) ≡ true
 
   -- source and reference are byte slices
   pub record InMemory : Type 0 where
     pub source : Bytes (t .source)
     pub reference : Bytes (g .reference .samples)
 
-  -- what has to be shown of every plane: one that no refusal meets, with lambda at most 2^48, written to its last macroblock
+  -- what has to be shown of every plane: one that no refusal meets, with lambda at most 2^48 and an allowance, if any, that holds a SKIP code for each macroblock, written to its last macroblock
   abbrev pub Claimed : Type 0
-  Claimed = InMemory → writeRefusal g t out start a ≡ 0 → t .lambda ≤ largestLambda → writePlane g t (bitsOf out) start a .refusal ≡ 0 → Claim
+  Claimed = canSkipRest (t .limit) g 0 0 ≡ true → InMemory → writeRefusal g t out start a ≡ 0 → t .lambda ≤ largestLambda → writePlane g t (bitsOf out) start a .refusal ≡ 0 → Claim

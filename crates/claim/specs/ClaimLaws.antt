@@ -5,7 +5,7 @@ use Prim.Native.Nat.{ℕ, zero, suc, _+_, _-_, _*_, _≤_, _<_}
 use native.Mathlib.Omega.{arith}
 use native.Mathlib.Nat.{add-zero, zero-add, add-suc, suc-add, le-refl, mul-add, mul-suc}
 use mathlib.Core.Bool.{true}
-use mathlib.Core.List.{List, [], _∷_, _++_, append-assoc, map}
+use mathlib.Core.List.{List, [], _++_, append-assoc, map}
 use lib.ListN.{length, take, drop, length-append, length-drop}
 use lib.Seq.{length-take-le}
 use borrow.Author.Tests.{leb-true}
@@ -22,8 +22,11 @@ use Rattle.tree.specs.Plan.{Weight}
 use Rattle.plan.specs.PlanClaim.{largestLambda}
 use Rattle.macroblock.specs.declared.svq1_enc_inter.Svq1MbMode.the-variants.{Skip}
 use Rattle.macroblock.specs.Macroblock.{Given, cols, rows, Choice, vectorsOf, shown, referenceBlock, modeBits, choiceBits}
-use Rattle.macroblock.specs.Choice.{Task, paddedSource, target, motionsTried, tried, weightOf}
-use Rattle.macroblock.specs.MacroblockLaws.{Good, chosen-good, chosen-least, unpruned}
+use Rattle.macroblock.specs.Limit.{canSkipRest}
+use Rattle.macroblock.specs.Choice.{Task, paddedSource, target, motionsTried, fitting, weightOf}
+use Rattle.bits.specs.ListLaws.{all-any}
+use Rattle.macroblock.specs.MacroblockLaws.{Good, chosen-good, chosen-least, under-skip, unpruned}
+use Rattle.macroblock.specs.LimitLaws.{skip-fits}
 use Rattle.macroblock.specs.InnerLaws.{four-each}
 use Rattle.macroblock.specs.Reading.{readMacroblock}
 use Rattle.plane.specs.Run.{on, End, after}
@@ -31,6 +34,7 @@ use Rattle.plane.specs.RunLaws.{testing, run-on, run-fits}
 use Rattle.macroblock.specs.Slices.{Slices, near, laid}
 use Rattle.plane.specs.Plane.{count, Writing, wrote, wroteWeight, wroteBits, fits, written, toWrite, writePlane, ReadingState, taken, readStep, readUpTo, readPlane}
 use Rattle.plane.specs.Calls.{slicesRefusal, readRefusal}
+use Rattle.plane.specs.LimitLaws.{skip-rest-at}
 use Rattle.plane.specs.SlicesLaws.{Sized, holds-recon, holds-vx, holds-vy, laid-sized, Alike, alike-laid, alike-near, laid-past-vx, laid-past-vy}
 use Rattle.claim.specs.SumLaws.{sse-blocks}
 use Rattle.claim.specs.Claim.{Appended, ReadBack, stateAt, final, costOf, Claimed}
@@ -55,7 +59,7 @@ module _ (g : Given) (t : Task) (ok : Accepted g t) (out : List ℕ) (start : �
   bitsAt k = wroteBits g t k (S k)
 
   good : (k : ℕ) → Good g t (ok .fine) k (near g (S k .slices) k) (W k)
-  good k = chosen-good g t (ok .fine) k (near g (S k .slices) k)
+  good k = chosen-good g t (ok .fine) k (near g (S k .slices) k) (S k .bits)
 
   stated : (k : ℕ) → weigh k .bits ≡ length (bitsAt k)
   unfolding weightOf
@@ -279,31 +283,28 @@ module _ (g : Given) (t : Task) (ok : Accepted g t) (out : List ℕ) (start : �
   skipLength = length (modeBits g Skip)
 
   module _ (low : t .lambda ≤ largestLambda) where
-    pub cheapest : (k : ℕ) → All (λ c. costOf g t out start a k (W k) ≤ costOf g t out start a k c) (tried g t k (near g (S k .slices) k))
-    cheapest k = chosen-least g t (ok .fine) low k (near g (S k .slices) k)
+    pub cheapest : (k : ℕ) → All (λ c. costOf g t out start a k (W k) ≤ costOf g t out start a k c) (fitting g t k (near g (S k .slices) k) (S k .bits))
+    cheapest k = chosen-least g t (ok .fine) low k (near g (S k .slices) k) (S k .bits)
 
-    under-skip : (k : ℕ) → weigh k .err + t .lambda * weigh k .bits ≤ skipError k + t .lambda * skipLength
-    unfolding tried weightOf choiceBits shown
-    under-skip k = cheapest k .0
+    module _ (enough : canSkipRest (t .limit) g 0 0 ≡ true) where
+      below-skip : (k : ℕ) → k < count g → weigh k .err + t .lambda * weigh k .bits ≤ skipError k + t .lambda * skipLength
+      unfolding weightOf choiceBits shown
+      below-skip k h = under-skip g t (ok .fine) low k (near g (S k .slices) k) (S k .bits) (skip-fits g t k (near g (S k .slices) k) (S k .bits) h (skip-rest-at g t enough (bitsOf out) start a k (omega arith)))
 
-    under-skipping : (m : ℕ) → S m .error + t .lambda * S m .bits ≤ sum skipError m + t .lambda * (skipLength * m)
-    unfolding after written sum
-    under-skipping zero = omega arith
-    under-skipping (suc m) = rw (mul-add, mul-suc, mul-add) (omega (arith, under-skipping m, under-skip m))
+      below-skipping : (m : ℕ) → m ≤ count g → S m .error + t .lambda * S m .bits ≤ sum skipError m + t .lambda * (skipLength * m)
+      unfolding after written sum
+      below-skipping zero h = omega arith
+      below-skipping (suc m) h = rw (mul-add, mul-suc, mul-add) (omega (arith, below-skipping m (omega arith), below-skip m h))
 
-    pub never-above : E .error + t .lambda * E .bits ≤ sse (paddedSource g t) (g .reference .samples) + t .lambda * (skipLength * count g)
-    unfolding target referenceBlock
-    never-above =
-        rw (sse-blocks 16 (cols g) (rows g) (omega arith) (ok .wide) (paddedSource g t) (g .reference .samples) (padded-size g t ok) (ok .reference-size))
-        at (under-skipping (count g))
-
-every : {A : Type 0} {P : A → Type 0} (xs : List A) → ((x : A) → P x) → All P xs
-every [] h = tt
-every (x ∷ xs) h = (h x, every xs h)
+      pub never-above : E .error + t .lambda * E .bits ≤ sse (paddedSource g t) (g .reference .samples) + t .lambda * (skipLength * count g)
+      unfolding target referenceBlock
+      never-above =
+          rw (sse-blocks 16 (cols g) (rows g) (omega arith) (ok .wide) (paddedSource g t) (g .reference .samples) (padded-size g t ok) (ok .reference-size))
+          at (below-skipping (count g) (le-refl (count g)))
 
 -- the claim holds of every plane
 pub claimed : (g : Given) (t : Task) (out : List ℕ) (start : ℕ) (a : Slices) → Claimed g t out start a
-claimed g t out start a mem e low whole =
+claimed g t out start a enough mem e low whole =
     let ok = accepted g t out start a mem e in
     let passes = results-pass g t out start a e in
     let sized = slices-sized g t ok a (passes .0) in
@@ -317,7 +318,8 @@ claimed g t out start a mem e low whole =
       rest-vx = rest-vx g t ok out start a sized whole;
       rest-vy = rest-vy g t ok out start a sized whole;
       read-back = λ bytes d h s. read-back g t ok out start a sized whole bytes d h (passes .1) s;
-      no-pruning-cheaper = λ k h. every (motionsTried g t k _) (λ m. unpruned g t (ok .fine) low k m);
+      no-pruning-cheaper = λ k h. all-any _ (motionsTried g t k _) (λ m. unpruned g t (ok .fine) low k m);
       no-mode-cheaper = λ k h. cheapest g t ok out start a sized whole low k;
-      never-above-skipping = never-above g t ok out start a sized whole low;
+      never-above-skipping = never-above g t ok out start a sized whole low enough;
+      within-allowance = skip-rest-at g t enough (bitsOf out) start a (count g) (le-refl (count g));
     }

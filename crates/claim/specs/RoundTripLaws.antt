@@ -1,6 +1,7 @@
 -- The claim holds of a plane written and read back in memory.
 -- Assumes nothing.
 use mathlib.Core.Path.{_≡_, sym, ap, _∙_}
+use mathlib.Core.Bool.{true}
 use mathlib.Core.List.{List}
 use Prim.Native.Nat.{ℕ, _*_, _≤_}
 use native.Mathlib.Nat.{le-refl}
@@ -9,6 +10,7 @@ use lib.ListN.{take, drop}
 use Rattle.bits.specs.Bits.{bitsOf}
 use Rattle.plan.specs.PlanClaim.{largestLambda}
 use Rattle.macroblock.specs.Macroblock.{Given}
+use Rattle.macroblock.specs.Limit.{canSkipRest}
 use Rattle.macroblock.specs.Choice.{Task}
 use Rattle.macroblock.specs.Slices.{Slices}
 use Rattle.plane.specs.Run.{End}
@@ -18,7 +20,7 @@ use Rattle.claim.specs.Claim.{stateAt, Claim, InMemory, ReadBack}
 use Rattle.claim.specs.ClaimLaws.{claimed}
 use Rattle.claim.specs.RoundTrip.{Ended, Returned, RoundTrip}
 
-module _ (g : Given) (t : Task) (out : List ℕ) (start : ℕ) (a d : Slices) (w r : PlaneAnswer) (out' : List ℕ) (a' d' : Slices) (mem : InMemory g t out start a)
+module _ (g : Given) (t : Task) (out : List ℕ) (start : ℕ) (a d : Slices) (w r : PlaneAnswer) (out' : List ℕ) (a' d' : Slices) (enough : canSkipRest (t .limit) g 0 0 ≡ true) (mem : InMemory g t out start a)
     (wrote : PlaneWritten g t out start a w out' (a' .recon) (a' .vx) (a' .vy)) (read : PlaneRead g out' start d r (d' .recon) (d' .vx) (d' .vy)) where
   module _ (passes : writeRefusal g t out start a ≡ 0) (most : t .lambda ≤ largestLambda) (whole : w .refusal ≡ 0) where
     abbrev e : End Writing
@@ -38,7 +40,7 @@ module _ (g : Given) (t : Task) (out : List ℕ) (start : ℕ) (a d : Slices) (w
     laid = rw (eq-eqb (writeRefusal g t out start a) 0 passes)
 
     holds : Claim g t out start a
-    holds = claimed g t out start a mem passes most (sym (ap (λ (x : PlaneAnswer). x .refusal) answered) ∙ whole)
+    holds = claimed g t out start a enough mem passes most (sym (ap (λ (x : PlaneAnswer). x .refusal) answered) ∙ whole)
 
     trip-ended : Ended g t out start a w out' a'
     trip-ended =

@@ -13,6 +13,7 @@ use Rattle.canvas.specs.Canvas.{padded16, sizeRefusal, canvasRefusal}
 use Rattle.macroblock.specs.declared.svq1_enc_inter.Svq1MbMode.{Svq1MbMode}
 use Rattle.macroblock.specs.declared.svq1_enc_inter.Svq1MbMode.the-variants.{Inter, Inter4Mv, Intra, Skip}
 use Rattle.macroblock.specs.Macroblock.{Given, cols}
+use Rattle.macroblock.specs.Limit.{unlimited}
 use Rattle.macroblock.specs.Choice.{Task}
 use Rattle.macroblock.specs.Slices.{Slices}
 use Rattle.plane.specs.Plane.{count, Writing, stepStated, writePlane, writingAt}
@@ -38,7 +39,7 @@ givenOf f j = record {
 }
 
 abbrev pub taskOf : Files → Job → Task
-taskOf f j = record { source = f .source; lambda = j .lambda; radius = j .radius; allowFour = j .allowFour }
+taskOf f j = record { source = f .source; lambda = j .lambda; radius = j .radius; allowFour = j .allowFour; limit = unlimited }
 
 -- lowest number first; 0 for none
 unfoldable pub filesRefusal : Files → Job → ℕ

@@ -1,11 +1,11 @@
--- Which modes are tried for a macroblock, and which is written (document 01, `svq1_enc_inter.rs`, "Behind demand 3").
-use Prim.Native.Nat.{ℕ, _+_, _-_, _*_, _/_, _%_, min}
+-- Which modes are tried for a macroblock, which of them fit, and which is written (document 01, `svq1_enc_inter.rs`, "Behind demand 3"; document 02, §5).
+use Prim.Native.Nat.{ℕ, suc, _+_, _-_, _*_, _/_, _%_, min}
 use mathlib.Core.Bool.{Bool, true, false, _&&_, _||_}
 use mathlib.Core.List.{List, [], _∷_, _++_, map}
 use mathlib.Core.Option.{Option, none, some}
 use lib.Dec.{eqb, ltb}
 use lib.ListN.{length, getD}
-use Rattle.bits.specs.Basics.{pick, valuesFrom}
+use Rattle.bits.specs.Basics.{pick, passing, valuesFrom}
 use Rattle.book.specs.Book.{tablesOf}
 use Rattle.book.specs.declared.svq1_vlc.Svq1Half.{Svq1Half}
 use Rattle.book.specs.declared.svq1_vlc.Svq1Half.the-variants.{Intra, Inter}
@@ -19,6 +19,7 @@ use Rattle.tree.specs.Blocks.{gather}
 use Rattle.tree.specs.Plan.{Weight, Planning, cost}
 use Rattle.tree.specs.TreeBits.{planTree}
 use Rattle.macroblock.specs.Macroblock.{Given, cols, Motion, still, single, four, Choice, skipped, coded, halfOf, leftOf, topOf, baseline, shown, choiceBits}
+use Rattle.macroblock.specs.Limit.{Limit, unlimited, within, canSkipRest}
 
 -- what the writer is given besides
 pub record Task : Type 0 where
@@ -26,6 +27,11 @@ pub record Task : Type 0 where
   pub lambda : ℕ
   pub radius : ℕ
   pub allowFour : Bool
+  pub limit : Limit
+
+-- the same with no limit
+abbrev pub withoutLimit : Task → Task
+withoutLimit t = record { source = t .source; lambda = t .lambda; radius = t .radius; allowFour = t .allowFour; limit = unlimited }
 
 -- the source, its last column and row repeated to whole macroblocks (`block`)
 unfoldable pub paddedSource : Given → Task → List ℕ
@@ -113,6 +119,15 @@ tried g t k n = skipped ∷ map (λ m. coded m (planTree (planningFor g t k m)))
 unfoldable pub weightOf : Given → Task → ℕ → Near → Choice → Weight
 weightOf g t k n c = record { bits = length (choiceBits g n c); err = sse (target g t k) (shown g k c) }
 
+-- ---- what fits and what is written
+-- the modes tried that fit: after their bits the macroblocks behind can still be skipped. Without a limit all of them
+abbrev pub fittingIn : Limit → Given → Task → ℕ → Near → ℕ → List Choice
+fittingIn unlimited g t k n spent = tried g t k n
+fittingIn (within b) g t k n spent = passing (λ c. canSkipRest (within b) g (suc k) (spent + weightOf g t k n c .bits)) (tried g t k n)
+
+unfoldable pub fitting : Given → Task → ℕ → Near → ℕ → List Choice
+fitting g t k n spent = fittingIn (t .limit) g t k n spent
+
 -- d is written and not c: less cost, or the same with fewer bits
 unfoldable pub beats : Given → Task → ℕ → Near → Choice → Choice → Bool
 beats g t k n d c =
@@ -125,10 +140,10 @@ unfoldable pub bestOf : Given → Task → ℕ → Near → Choice → List Choi
 bestOf g t k n c [] = c
 bestOf g t k n c (d ∷ ds) = bestOf g t k n (pick (beats g t k n d c) d c) ds
 
--- what is written for macroblock k: the best of those tried, SKIP first
+-- what is written for macroblock k, with so many bits spent before it: the best of those that fit, SKIP first
 abbrev pub bestFrom : Given → Task → ℕ → Near → List Choice → Choice
 bestFrom g t k n [] = skipped
 bestFrom g t k n (c ∷ cs) = bestOf g t k n c cs
 
-unfoldable pub chosen : Given → Task → ℕ → Near → Choice
-chosen g t k n = bestFrom g t k n (tried g t k n)
+unfoldable pub chosen : Given → Task → ℕ → Near → ℕ → Choice
+chosen g t k n spent = bestFrom g t k n (fitting g t k n spent)

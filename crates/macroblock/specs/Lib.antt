@@ -1,6 +1,7 @@
 -- The definitions that the contracts of this crate cite.
 pub mod Mode
 pub mod Macroblock
+pub mod Limit
 pub mod Choice
 pub mod Reading
 pub mod Slices
@@ -10,5 +11,7 @@ pub mod Samples
 pub mod SamplesLaws
 pub mod InnerLaws
 pub mod LayLaws
+pub mod ChoiceLaws
 pub mod MacroblockLaws
 pub mod Laying
+pub mod LimitLaws

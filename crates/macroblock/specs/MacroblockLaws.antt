@@ -1,18 +1,17 @@
 -- Laws of one macroblock: every mode tried is read back from its bits, shows a block of bytes and saturates no cost; none is cheaper than the one chosen.
 -- Assumes nothing.
 use mathlib.Core.Path.{_≡_, refl, ap, _∙_}
-use mathlib.Core.Bool.{Bool, true, false, _&&_, _||_}
-use mathlib.Core.List.{List, [], _∷_, _++_, append-assoc, map}
+use mathlib.Core.Bool.{Bool, true, false}
+use mathlib.Core.List.{List, [], _++_, append-assoc}
 use mathlib.Core.Option.{Option, none, some}
 use Prim.Native.Nat.{ℕ, zero, suc, _+_, _-_, _*_, _^_, _≤_, _<_}
 use native.Mathlib.Omega.{arith}
-use native.Mathlib.Nat.{mul-le-mul, le-refl, le-of-eq, le-of-lt, le-trans}
-use lib.Dec.{eqb, ltb}
-use borrow.Author.Tests.{ltb-true, ltb-false, eqb-true}
+use native.Mathlib.Nat.{mul-le-mul}
 use lib.IntN.{_-ℤ_}
 use lib.ListN.{length, replicate, length-append, length-replicate}
 use Rattle.bits.specs.Basics.{pick, All, Bytes}
-use Rattle.bits.specs.BasicsLaws.{both-true, length-values}
+use Rattle.bits.specs.BasicsLaws.{length-values}
+use Rattle.bits.specs.ListLaws.{all-append, all-map, all-both}
 use Rattle.code_tables.specs.Codes.{code, got}
 use Rattle.code_tables.specs.CodeReadLaws.{take-code}
 use Rattle.book.specs.Book.{tablesOf, modeTable, vectorTable, bookRefusal}
@@ -32,7 +31,7 @@ use Rattle.compensation.specs.CompensationLaws.{bytes-list, moved-byte, bytes-m
 use Rattle.motion.specs.Search.{searched}
 use Rattle.motion.specs.SearchLaws.{found}
 use Rattle.tree.specs.RowsLaws.{sse-most}
-use Rattle.tree.specs.Plan.{total, cost, prunedCost}
+use Rattle.tree.specs.Plan.{total, prunedCost}
 use Rattle.plan.specs.PlanClaim.{largestLambda, planCost}
 use Rattle.plan.specs.PlanClaimLaws.{Planned, plan-short, plan-long, plan-bytes, plan-cheapest, plan-reads}
 use Rattle.tree.specs.TreeBits.{Node, planTree, treeBits, treeShown}
@@ -40,7 +39,8 @@ use Rattle.macroblock.specs.declared.svq1_enc_inter.Svq1MbMode.{Svq1MbMo
 use Rattle.macroblock.specs.declared.svq1_enc_inter.Svq1MbMode.the-variants as Mode
 use Rattle.macroblock.specs.Mode.{modePosition}
 use Rattle.macroblock.specs.Macroblock.{Given, cols, Motion, still, single, four, Choice, skipped, coded, motionMode, halfOf, vectorsOf, leftOf, topOf, referenceBlock, vectorFor, baseline, shown, modeCodes, vectorCodes, vectorBits, motionBits, modeBits, choiceBits}
-use Rattle.macroblock.specs.Choice.{Task, paddedSource, target, searchFor, blockSearchFor, ifFound, singleTried, fourTried, motionsTried, skipsLeaves, planningFor, tried, weightOf, beats, bestOf, chosen}
+use Rattle.macroblock.specs.Choice.{Task, paddedSource, target, searchFor, blockSearchFor, ifFound, singleTried, fourTried, motionsTried, skipsLeaves, planningFor, tried, fitting, weightOf, chosen}
+use Rattle.macroblock.specs.ChoiceLaws.{chosen-one, all-fitting, Fits, skip-first, costOf, chosen-cost}
 use Rattle.macroblock.specs.Reading.{readVector, readCoded, readBehind, readMacroblock}
 
 -- ---- a block of 256 bytes
@@ -56,14 +56,6 @@ pub record Fine (g : Given) (t : Task) : Type 0 where
   pub book : bookRefusal (g .book) ≡ 0
   pub source-bytes : Bytes (t .source)
   pub reference-bytes : Bytes (g .reference .samples)
-
-all-append : {A : Type 0} (P : A → Type 0) (xs ys : List A) → All P xs → All P ys → All P (xs ++ ys)
-all-append P [] ys h k = k
-all-append P (x ∷ xs) ys h k = (h .0, all-append P xs ys (h .1) k)
-
-pub all-map : {A B : Type 0} (P : A → Type 0) (Q : B → Type 0) (f : A → B) (xs : List A) → ((x : A) → P x → Q (f x)) → All P xs → All Q (map f xs)
-all-map P Q f [] h k = tt
-all-map P Q f (x ∷ xs) h k = (h x (k .0), all-map P Q f xs h (k .1))
 
 zeros : (n : ℕ) → Bytes (replicate n 0)
 zeros zero k = omega arith
@@ -268,85 +260,34 @@ module _ (g : Given) (t : Task) (ok : Fine g t) where
   tried-good k n =
       (good-skip k n, all-map (Codables n) (Good k n) (λ m. coded m (treeFor k m)) (motionsTried g t k n) (good-coded k n) (motions-codable k n))
 
-  -- ---- the choice
-  pick-one : (P : Choice → Type 0) (q : Bool) (c d : Choice) → P c → P d → P (pick q d c)
-  pick-one P true c d hc hd = hd
-  pick-one P false c d hc hd = hc
-
-  best-one : (P : Choice → Type 0) (k : ℕ) (n : Near) (c : Choice) (ds : List Choice) → P c → All P ds → P (bestOf g t k n c ds)
-  unfolding bestOf
-  best-one P k n c [] hc hr = hc
-  best-one P k n c (d ∷ ds) hc hr =
-      best-one P k n (pick (beats g t k n d c) d c) ds (pick-one P (beats g t k n d c) c d hc (hr .0)) (hr .1)
-
-  pub chosen-one : (P : Choice → Type 0) (k : ℕ) (n : Near) → All P (tried g t k n) → P (chosen g t k n)
-  unfolding chosen tried
-  chosen-one P k n h = best-one P k n skipped (map (λ m. coded m (treeFor k m)) (motionsTried g t k n)) (h .0) (h .1)
-
   -- what is written has all of it
-  pub chosen-good : (k : ℕ) (n : Near) → Good k n (chosen g t k n)
-  chosen-good k n = chosen-one (Good k n) k n (tried-good k n)
-
-  abbrev pub costOf : ℕ → Near → Choice → ℕ
-  costOf k n c = cost (t .lambda) (weightOf g t k n c)
-
-  and-left : (f h : Bool) → f && h ≡ true → f ≡ true
-  and-left f h e = both-true f h e .0
-
-  beats-is : (a b : ℕ) (p : Bool) (q : Bool) → ltb a b || (eqb a b && p) ≡ q → (q ≡ true → a ≤ b) × (q ≡ false → b ≤ a)
-  beats-is a b p q e = go (ltb a b) (eqb a b) refl refl e
-    where
-      go : (l s : Bool) → ltb a b ≡ l → eqb a b ≡ s → l || (s && p) ≡ q → (q ≡ true → a ≤ b) × (q ≡ false → b ≤ a)
-      go true s el es e = ((λ h. le-of-lt (ltb-true a b el)), (λ h. let z : _≡_ {A = ℕ} 0 1 = cc in absurd (omega arith)))
-      go false true el es e = ((λ h. le-of-eq (eqb-true a b es)), (λ h. ltb-false a b el))
-      go false false el es e = ((λ h. let z : _≡_ {A = ℕ} 0 1 = cc in absurd (omega arith)), (λ h. ltb-false a b el))
-
-  prefer-least : (k : ℕ) (n : Near) (c d : Choice) (q : Bool) → beats g t k n d c ≡ q
-      → (costOf k n (pick q d c) ≤ costOf k n c) × (costOf k n (pick q d c) ≤ costOf k n d)
-  unfolding beats
-  prefer-least k n c d q e =
-      let two = beats-is (costOf k n d) (costOf k n c) (ltb (weightOf g t k n d .bits) (weightOf g t k n c .bits)) q e in
-      go q two
-    where
-      go : (q : Bool) → (q ≡ true → costOf k n d ≤ costOf k n c) × (q ≡ false → costOf k n c ≤ costOf k n d)
-          → (costOf k n (pick q d c) ≤ costOf k n c) × (costOf k n (pick q d c) ≤ costOf k n d)
-      go true h = (h .0 refl, le-refl (costOf k n d))
-      go false h = (le-refl (costOf k n c), h .1 refl)
-
-  best-least : (k : ℕ) (n : Near) (c : Choice) (ds : List Choice)
-      → (costOf k n (bestOf g t k n c ds) ≤ costOf k n c) × All (λ d. costOf k n (bestOf g t k n c ds) ≤ costOf k n d) ds
-  unfolding bestOf
-  best-least k n c [] = (le-refl (costOf k n c), tt)
-  best-least k n c (d ∷ ds) =
-      let two = prefer-least k n c d (beats g t k n d c) refl in
-      let rest = best-least k n (pick (beats g t k n d c) d c) ds in
-      (le-trans (rest .0) (two .0), (le-trans (rest .0) (two .1), rest .1))
-
-  chosen-cost : (k : ℕ) (n : Near) → All (λ d. costOf k n (chosen g t k n) ≤ costOf k n d) (tried g t k n)
-  unfolding chosen tried
-  chosen-cost k n = best-least k n skipped (map (λ m. coded m (treeFor k m)) (motionsTried g t k n))
+  pub chosen-good : (k : ℕ) (n : Near) (spent : ℕ) → Good k n (chosen g t k n spent)
+  chosen-good k n spent = chosen-one g t (Good k n) k n spent (tried-good k n)
 
   -- ---- at this lambda nothing saturates
   module _ (low : t .lambda ≤ largestLambda) where
-    plain : (k : ℕ) (n : Near) (c : Choice) → Good k n c → costOf k n c ≡ total (t .lambda) (weightOf g t k n c)
+    plain : (k : ℕ) (n : Near) (c : Choice) → Good k n c → costOf g t k n c ≡ total (t .lambda) (weightOf g t k n c)
     unfolding weightOf
     plain k n c h =
         let e = near-24 (target g t k) (shown g k c) (target-block k) (h .block) in
         let l : t .lambda * length (choiceBits g n c) ≤ 2 ^ 48 * 3135 = mul-le-mul low (h .short) in
         omega arith
 
-    all-both : (P Q R : Choice → Type 0) (cs : List Choice) → ((c : Choice) → P c → Q c → R c) → All P cs → All Q cs → All R cs
-    all-both P Q R [] f h k = tt
-    all-both P Q R (c ∷ cs) f h k = (f c (h .0) (k .0), all-both P Q R cs f (h .1) (k .1))
+    abbrev NotBelow : ℕ → Near → ℕ → Choice → Type 0
+    NotBelow k n spent c = total (t .lambda) (weightOf g t k n (chosen g t k n spent)) ≤ total (t .lambda) (weightOf g t k n c)
 
-    -- no mode tried costs less than the one written
-    pub chosen-least : (k : ℕ) (n : Near)
-        → All (λ c. total (t .lambda) (weightOf g t k n (chosen g t k n)) ≤ total (t .lambda) (weightOf g t k n c)) (tried g t k n)
-    chosen-least k n =
-        let e = plain k n (chosen g t k n) (chosen-good k n) in
-        all-both (λ c. costOf k n (chosen g t k n) ≤ costOf k n c) (Good k n)
-        (λ c. total (t .lambda) (weightOf g t k n (chosen g t k n)) ≤ total (t .lambda) (weightOf g t k n c)) (tried g t k n)
-        (λ c l h. rw (e, plain k n c h) at l) (chosen-cost k n) (tried-good k n)
+    -- no mode that fits costs less than the one written
+    pub chosen-least : (k : ℕ) (n : Near) (spent : ℕ) → All (NotBelow k n spent) (fitting g t k n spent)
+    unfolding fitting
+    chosen-least k n spent =
+        let e = plain k n (chosen g t k n spent) (chosen-good k n spent) in
+        all-both (λ c. costOf g t k n (chosen g t k n spent) ≤ costOf g t k n c) (Good k n) (NotBelow k n spent) (fitting g t k n spent)
+        (λ c l h. rw (e, plain k n c h) at l) (chosen-cost g t k n spent) (all-fitting g t (Good k n) k n spent (t .limit) (tried-good k n))
+
+    -- nor SKIP, where it fits
+    pub under-skip : (k : ℕ) (n : Near) (spent : ℕ) → Fits g t k n spent skipped → NotBelow k n spent skipped
+    unfolding fitting
+    under-skip k n spent h = skip-first g t (NotBelow k n spent) k n spent (t .limit) h (chosen-least k n spent)
 
     at-lambda : (k : ℕ) (m : Motion) → planningFor g t k m .lambda ≤ largestLambda
     unfolding planningFor

@@ -1,9 +1,9 @@
--- The candidates of the code as the definitions' choices, what they state, and which of two is kept (document 01, `svq1_enc_inter.rs`).
+-- The candidates of the code as the definitions' choices, what they state, and which of two is passing (document 01, `svq1_enc_inter.rs`).
 use mathlib.Core.Path.{_≡_}
 use mathlib.Core.Bool.{Bool, true, false, _&&_, _||_}
 use mathlib.Core.List.{List, map}
 use Prim.Native.Nat.{ℕ, _+_}
-use lib.Dec.{eqb, ltb}
+use lib.Dec.{eqb, ltb, leb}
 use lib.ListN.{length, replicate}
 use Rattle.leaf.specs.Leaf.{sse}
 use Rattle.vectors.specs.declared.svq1_motion_predictor.Svq1Mv.{Svq1Mv}
@@ -17,8 +17,9 @@ use Rattle.macroblock_choice.specs.declared.inner.candidates.MbCandidate
 use Rattle.macroblock.specs.declared.svq1_enc_inter.MbMotion.{MbMotion}
 use Rattle.macroblock.specs.declared.svq1_enc_inter.Svq1MbMode.{Svq1MbMode}
 use Rattle.macroblock.specs.declared.svq1_enc_inter.Svq1MbMode.the-variants as Mode
-use Rattle.macroblock.specs.Macroblock.{Given, Motion, Choice, coded, modeOf, motionMode, vectorsOf, shown, motionBits, modeBits, choiceBits}
-use Rattle.macroblock.specs.Choice.{Task, target, planningFor, bestOf}
+use Rattle.macroblock.specs.Macroblock.{Given, Motion, Choice, skipped, coded, modeOf, motionMode, vectorsOf, shown, motionBits, modeBits, choiceBits}
+use Rattle.bits.specs.Basics.{passing}
+use Rattle.macroblock.specs.Choice.{Task, target, planningFor, motionsTried, weightOf, bestOf}
 use Rattle.macroblock.specs.Motions.{motionOf}
 use Rattle.macroblock.specs.Inner.{byBook}
 use Rattle.macroblock.specs.Laying.{choiceBy}
@@ -57,7 +58,7 @@ pub record CandidateOf (book : List ℕ) (n : Near) (motion : MbMotion) (vectors
   pub bits-are : r .bits ≡ length (modeBits (byBook book) (motionMode (motionOf motion vectors))) + (length (motionBits (byBook book) n (motionOf motion vectors)) + bits)
   pub error-is : r .error ≡ error
 
--- d is kept and not c, by what they state: less cost, or the same with fewer bits
+-- d is passing and not c, by what they state: less cost, or the same with fewer bits
 unfoldable pub preferred : ℕ → MbCandidate → MbCandidate → Bool
 preferred lambda d c =
     ltb (costOf lambda (d .bits) (d .error)) (costOf lambda (c .bits) (c .error))
@@ -68,7 +69,15 @@ preferred lambda d c =
 abbrev pub codedFor : Given → Task → ℕ → Motion → Choice
 codedFor g t k m = coded m (planTree (planningFor g t k m))
 
--- r is the best of the candidate c and the motions ms, for every task that asks for this block with this lambda
-pub record Tried (g : Given) (block : List ℕ) (lambda k : ℕ) (n : Near) (ms : List Motion) (c r : MbCandidate) : Type 0 where
+-- at most so many bits
+abbrev pub inRoom : Given → Task → ℕ → Near → ℕ → Choice → Bool
+inRoom g t k n room c = leb (weightOf g t k n c .bits) room
+
+-- r is the best of the candidate c and of the motions ms that have room, for every task that asks for this block with this lambda
+pub record Tried (g : Given) (block : List ℕ) (lambda room k : ℕ) (n : Near) (ms : List Motion) (c r : MbCandidate) : Type 0 where
   pub stated : Stated g block k n r
-  pub is : (t : Task) → block ≡ target g t k → lambda ≡ t .lambda → choiceOf r ≡ bestOf g t k n (choiceOf c) (map (codedFor g t k) ms)
+  pub is : (t : Task) → block ≡ target g t k → lambda ≡ t .lambda → choiceOf r ≡ bestOf g t k n (choiceOf c) (passing (inRoom g t k n room) (map (codedFor g t k) ms))
+
+-- the best of SKIP and of all others that have room
+unfoldable pub chosenIn : Given → Task → ℕ → Near → ℕ → Choice
+chosenIn g t k n room = bestOf g t k n skipped (passing (inRoom g t k n room) (map (codedFor g t k) (motionsTried g t k n)))

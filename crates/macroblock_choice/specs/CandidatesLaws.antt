@@ -1,12 +1,14 @@
--- Laws of the candidates: what they state is what the definitions weigh, and the one kept is the definitions' best.
+-- Laws of the candidates: what they state is what the definitions weigh, and the one passing is the definitions' best.
 -- Assumes nothing.
 use mathlib.Core.Path.{_≡_, refl, sym, ap, _∙_}
-use mathlib.Core.Bool.{Bool, true, false}
+use mathlib.Core.Bool.{Bool, true, false, _&&_}
 use mathlib.Core.List.{List, [], _∷_, _++_, map}
 use Prim.Native.Nat.{ℕ, _+_, _≤_, _<_}
-use borrow.Author.Tests.{lt-ltb, le-ltb, eq-eqb, ne-eqb}
+use lib.Dec.{leb}
+use borrow.Author.Tests.{lt-ltb, le-ltb, eq-eqb, ne-eqb, le-leb, lt-leb}
 use lib.ListN.{length, length-append}
-use Rattle.bits.specs.Basics.{pick}
+use Rattle.bits.specs.Basics.{pick, passing}
+use Rattle.bits.specs.ListLaws.{passing-append}
 use Rattle.book.specs.Book.{tablesOf}
 use Rattle.leaf.specs.Leaf.{sse}
 use Rattle.vectors.specs.declared.svq1_motion_predictor.Svq1Mv.{Svq1Mv}
@@ -21,11 +23,11 @@ use Rattle.macroblock_choice.specs.declared.inner.candidates.MbCandidate
 use Rattle.macroblock.specs.declared.svq1_enc_inter.MbMotion.{MbMotion}
 use Rattle.macroblock.specs.declared.svq1_enc_inter.Svq1MbMode.the-variants as Mode
 use Rattle.macroblock.specs.Macroblock.{Given, Motion, still, single, four, Choice, skipped, coded, modeOf, motionMode, halfOf, vectorsOf, referenceBlock, shown, vectorBits, motionBits, modeBits, choiceBits}
-use Rattle.macroblock.specs.Choice.{Task, target, singleTried, fourTried, motionsTried, tried, weightOf, beats, bestOf, chosen}
+use Rattle.macroblock.specs.Choice.{Task, target, singleTried, fourTried, motionsTried, weightOf, beats, bestOf}
 use Rattle.macroblock.specs.Motions.{motionOf}
 use Rattle.macroblock.specs.Inner.{byBook}
 use Rattle.macroblock.specs.Laying.{choiceBy}
-use Rattle.macroblock_choice.specs.Candidates.{skips, choiceOf, Stated, Skipping, CandidateOf, preferred, codedFor, Tried}
+use Rattle.macroblock_choice.specs.Candidates.{skips, choiceOf, Stated, Skipping, CandidateOf, preferred, codedFor, inRoom, Tried, chosenIn}
 
 -- ---- SKIP
 module _ (b e : ℕ) (r : MbCandidate) (s : Skipping b e r) where
@@ -85,7 +87,7 @@ module _ (g : Given) (block : List ℕ) (k : ℕ) (n : Near) (motion : MbMotion)
     error = c .error-is ∙ ee ∙ sym (ap (λ (d : Choice). sse block (shown g k d)) coded-is);
   }
 
--- ---- which of two is kept
+-- ---- which of two is passing
 module _ (lambda : ℕ) (best d : MbCandidate) (p q : ℕ) (hp : p ≡ costOf lambda (d .bits) (d .error)) (hq : q ≡ costOf lambda (best .bits) (best .error)) where
   pub kept-less : p < q → d ≡ pick (preferred lambda d best) d best
   unfolding preferred
@@ -103,11 +105,22 @@ module _ (lambda : ℕ) (best d : MbCandidate) (p q : ℕ) (hp : p ≡ costOf la
   unfolding preferred
   kept-dear h e = rw (← hp, ← hq, le-ltb p q h, ne-eqb p q e)
 
+-- and none that has no room
+module _ (lambda room : ℕ) (best d : MbCandidate) where
+  abbrev pub keeps : Bool
+  keeps = leb (d .bits) room && preferred lambda d best
+
+  pub kept-in : (r : MbCandidate) → d .bits ≤ room → r ≡ pick (preferred lambda d best) d best → r ≡ pick keeps d best
+  kept-in r h e = rw (le-leb (d .bits) room h) e
+
+  pub kept-out : room < d .bits → best ≡ pick keeps d best
+  kept-out h = rw (lt-leb (d .bits) room h)
+
 pick-choice : (f : Bool) (d c : MbCandidate) → choiceOf (pick f d c) ≡ pick f (choiceOf d) (choiceOf c)
 pick-choice true d c = refl
 pick-choice false d c = refl
 
-module _ (g : Given) (block : List ℕ) (lambda k : ℕ) (n : Near) where
+module _ (g : Given) (block : List ℕ) (lambda room k : ℕ) (n : Near) where
   pick-stated : (f : Bool) (d c : MbCandidate) → Stated g block k n d → Stated g block k n c → Stated g block k n (pick f d c)
   pick-stated true d c h j = h
   pick-stated false d c h j = j
@@ -117,18 +130,29 @@ module _ (g : Given) (block : List ℕ) (lambda k : ℕ) (n : Near) where
   unfolding preferred beats weightOf
   preferred-beats t d c h j eb el = rw (h .bits, h .error, j .bits, j .error, eb, el)
 
-  -- no motion to try, and one
-  pub tried-none : (c : MbCandidate) (ms : List Motion) → ms ≡ [] → Stated g block k n c → Tried g block lambda k n ms c c
+  room-is : (t : Task) (d : MbCandidate) → Stated g block k n d → leb (d .bits) room ≡ inRoom g t k n room (choiceOf d)
+  unfolding weightOf
+  room-is t d h = rw (h .bits)
+
+  one-kept : (t : Task) (c d : Choice) (o : Bool) → bestOf g t k n c (pick o (d ∷ []) []) ≡ pick (o && beats g t k n d c) d c
   unfolding bestOf
+  one-kept t c d true = refl
+  one-kept t c d false = refl
+
+  -- no motion to try, and one
+  pub tried-none : (c : MbCandidate) (ms : List Motion) → ms ≡ [] → Stated g block k n c → Tried g block lambda room k n ms c c
+  unfolding bestOf passing
   tried-none c ms e h = record { stated = h; is = λ t eb el. rw e }
 
   pub tried-one : (m : Motion) (ms : List Motion) (c d r : MbCandidate) → ms ≡ m ∷ [] → Stated g block k n c → Stated g block k n d
       → ((t : Task) → block ≡ target g t k → lambda ≡ t .lambda → choiceOf d ≡ codedFor g t k m)
-      → r ≡ pick (preferred lambda d c) d c → Tried g block lambda k n ms c r
-  unfolding bestOf
+      → r ≡ pick (keeps lambda room c d) d c → Tried g block lambda room k n ms c r
+  unfolding passing
   tried-one m ms c d r e hc hd ed er = record {
-    stated = rw er (pick-stated (preferred lambda d c) d c hd hc);
-    is = λ t eb el. ap choiceOf er ∙ pick-choice (preferred lambda d c) d c ∙ rw (e, preferred-beats t d c hd hc eb el, ed t eb el);
+    stated = rw er (pick-stated (keeps lambda room c d) d c hd hc);
+    is = λ t eb el.
+        ap choiceOf er ∙ pick-choice (keeps lambda room c d) d c
+        ∙ rw (e, preferred-beats t d c hd hc eb el, room-is t d hd, ed t eb el) (sym (one-kept t (choiceOf c) (codedFor g t k m) (inRoom g t k n room (codedFor g t k m))));
   }
 
   -- ---- all of them
@@ -141,20 +165,25 @@ module _ (g : Given) (block : List ℕ) (lambda k : ℕ) (n : Near) where
   map-append f [] ys = refl
   map-append f (x ∷ xs) ys = ap (λ (l : List Choice). f x ∷ l) (map-append f xs ys)
 
-  best-both : (t : Task) (c : Choice) (xs ys : List Motion)
-      → bestOf g t k n c (map (codedFor g t k) (xs ++ ys)) ≡ bestOf g t k n (bestOf g t k n c (map (codedFor g t k) xs)) (map (codedFor g t k) ys)
-  best-both t c xs ys = ap (bestOf g t k n c) (map-append (codedFor g t k) xs ys) ∙ best-append t c (map (codedFor g t k) xs) (map (codedFor g t k) ys)
+  abbrev among : Task → List Motion → List Choice
+  among t ms = passing (inRoom g t k n room) (map (codedFor g t k) ms)
+
+  best-both : (t : Task) (c : Choice) (xs ys : List Motion) → bestOf g t k n c (among t (xs ++ ys)) ≡ bestOf g t k n (bestOf g t k n c (among t xs)) (among t ys)
+  best-both t c xs ys =
+      ap (λ (l : List Choice). bestOf g t k n c (passing (inRoom g t k n room) l)) (map-append (codedFor g t k) xs ys)
+      ∙ ap (bestOf g t k n c) (passing-append (inRoom g t k n room) (map (codedFor g t k) xs) (map (codedFor g t k) ys))
+      ∙ best-append t c (among t xs) (among t ys)
 
   -- SKIP first, then one vector, none, and four
   pub chosen-is : (t : Task) (s a b r : MbCandidate) (one none more : List Motion) → block ≡ target g t k → lambda ≡ t .lambda → choiceOf s ≡ skipped
-      → Tried g block lambda k n one s a → Tried g block lambda k n none a b → Tried g block lambda k n more b r
-      → one ≡ singleTried g t k n → none ≡ still ∷ [] → more ≡ pick (t .allowFour) (fourTried g t k n) [] → choiceOf r ≡ chosen g t k n
-  unfolding chosen tried motionsTried
+      → Tried g block lambda room k n one s a → Tried g block lambda room k n none a b → Tried g block lambda room k n more b r
+      → one ≡ singleTried g t k n → none ≡ still ∷ [] → more ≡ pick (t .allowFour) (fourTried g t k n) [] → choiceOf r ≡ chosenIn g t k n room
+  unfolding chosenIn motionsTried
   chosen-is t s a b r one none more eb el es ha hb hr e1 e2 e3 =
       hr .is t eb el
       ∙ rw (hb .is t eb el, ha .is t eb el, es, e1, e2, e3)
       (sym (best-both t skipped (singleTried g t k n) (still ∷ pick (t .allowFour) (fourTried g t k n) [])
-      ∙ best-both t (bestOf g t k n skipped (map (codedFor g t k) (singleTried g t k n))) (still ∷ []) (pick (t .allowFour) (fourTried g t k n) [])))
+      ∙ best-both t (bestOf g t k n skipped (among t (singleTried g t k n))) (still ∷ []) (pick (t .allowFour) (fourTried g t k n) [])))
 
 -- the error of SKIP, by the reference's block as it was taken
 pub skip-error : (g : Given) (k cols e : ℕ) (block here : List ℕ) → cols ≡ blocksAlong (g .width) → e ≡ sse block here → here ≡ part 16 cols k (g .reference .samples) → e ≡ sse block (referenceBlock g k)

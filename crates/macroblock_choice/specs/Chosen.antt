@@ -2,7 +2,8 @@
 use mathlib.Core.Path.{_≡_}
 use mathlib.Core.Bool.{Bool}
 use mathlib.Core.List.{List, []}
-use Prim.Native.Nat.{ℕ, _*_, _<_}
+use Prim.Native.Nat.{ℕ, suc, _+_, _*_, _≤_, _<_}
+use lib.Dec.{leb}
 use lib.ListN.{length}
 use Rattle.codebook.specs.Codebook.{stagesPerPage}
 use Rattle.vectors.specs.declared.svq1_motion_predictor.Svq1Mv.{Svq1Mv}
@@ -12,15 +13,24 @@ use Rattle.tree.specs.TreeBits.{planTree}
 use Rattle.macroblock_choice.specs.declared.inner.candidates.MbCandidate.{MbCandidate}
 use Rattle.macroblock.specs.declared.svq1_enc_inter.MbMotion.{MbMotion}
 use Rattle.macroblock.specs.Macroblock.{Given, cols, rows, Motion, coded, halfOf, vectorsOf, baseline}
-use Rattle.macroblock.specs.Choice.{Task, target, skipsLeaves, chosen}
+use Rattle.macroblock.specs.Limit.{Limit, unlimited, canSkipRest}
+use Rattle.macroblock.specs.Choice.{Task, target, skipsLeaves}
 use Rattle.macroblock.specs.Motions.{motionOf}
 use Rattle.macroblock.specs.Inner.{Accepted}
-use Rattle.macroblock_choice.specs.Candidates.{choiceOf, Stated}
+use Rattle.macroblock_choice.specs.Candidates.{choiceOf, Stated, chosenIn}
 use Rattle.plan.specs.Planning.{planningIn}
 
 -- what a writer is asked, by its parameters
+abbrev pub taskIn : List ℕ → ℕ → ℕ → Bool → Limit → Task
+taskIn source lambda radius four limit = record { source = source; lambda = lambda; radius = radius; allowFour = four; limit = limit }
+
+-- with no limit
 abbrev pub taskBy : List ℕ → ℕ → ℕ → Bool → Task
-taskBy source lambda radius four = record { source = source; lambda = lambda; radius = radius; allowFour = four }
+taskBy source lambda radius four = taskIn source lambda radius four unlimited
+
+-- room for bits of macroblock k that says what the limit says
+abbrev pub Allows : Limit → Given → ℕ → ℕ → ℕ → Type 0
+Allows l g k spent room = (bits : ℕ) → bits ≤ 65536 → leb bits room ≡ canSkipRest l g (suc k) (spent + bits)
 
 -- what is lent passes, macroblock k is one of the plane's, and it is to show a block of 256 samples
 pub record Placing (g : Given) (raised : List ℕ) (k : ℕ) (block : List ℕ) : Type 0 where
@@ -49,10 +59,10 @@ pub record Made (g : Given) (block : List ℕ) (lambda k : ℕ) (n : Near) (m : 
   pub stated : Stated g block k n r
 
 -- ---- the best of all
-pub record ChosenFor (g : Given) (block : List ℕ) (lambda radius : ℕ) (four : Bool) (k : ℕ) (n : Near) (r : MbCandidate) : Type 0 where
+pub record ChosenFor (g : Given) (block : List ℕ) (lambda radius : ℕ) (four : Bool) (room k : ℕ) (n : Near) (r : MbCandidate) : Type 0 where
   pub stated : Stated g block k n r
-  pub is : (t : Task) → block ≡ target g t k → lambda ≡ t .lambda → radius ≡ t .radius → four ≡ t .allowFour → choiceOf r ≡ chosen g t k n
+  pub is : (t : Task) → block ≡ target g t k → lambda ≡ t .lambda → radius ≡ t .radius → four ≡ t .allowFour → choiceOf r ≡ chosenIn g t k n room
 
-pub record ChosenBy (g : Given) (t : Task) (k : ℕ) (n : Near) (r : MbCandidate) : Type 0 where
+pub record ChosenBy (g : Given) (t : Task) (room k : ℕ) (n : Near) (r : MbCandidate) : Type 0 where
   pub stated : Stated g (target g t k) k n r
-  pub is : choiceOf r ≡ chosen g t k n
+  pub is : choiceOf r ≡ chosenIn g t k n room

@@ -23,6 +23,7 @@ use Rattle.macroblock.specs.declared.svq1_enc_inter.MbMotion.{MbMotion}
 use Rattle.canvas.specs.declared.svq1_plane.Svq1PlaneCanvas.{Svq1PlaneCanvas}
 use Rattle.macroblock.specs.Macroblock.{Given, rows, Motion, skipped, coded, halfOf, baseline, shown}
 use Rattle.macroblock.specs.MacroblockLaws.{Fine, baseline-block}
+use Rattle.macroblock.specs.Limit.{Limit, unlimited}
 use Rattle.macroblock.specs.Choice.{Task, target, skipsLeaves, planningFor, singleTried, fourTried}
 use Rattle.macroblock.specs.Motions.{motionOf}
 use Rattle.macroblock.specs.Inner.{givenBy}
@@ -31,15 +32,15 @@ use Rattle.macroblock_search.specs.declared.inner.motions.FoundMotion.{FoundMot
 use Rattle.macroblock_search.specs.Searches.{Searching, motionsOf, stillFound, MotionsFound}
 use Rattle.macroblock_search.specs.Target.{targetOf, Sources}
 use Rattle.macroblock_search.specs.TargetLaws.{target-is, target-long}
-use Rattle.macroblock_choice.specs.Candidates.{choiceOf, Stated, CandidateOf, preferred, Tried}
-use Rattle.macroblock_choice.specs.CandidatesLaws.{coded-is, coded-stated, tried-one, chosen-is}
+use Rattle.macroblock_choice.specs.Candidates.{choiceOf, Stated, CandidateOf, Tried}
+use Rattle.macroblock_choice.specs.CandidatesLaws.{coded-is, coded-stated, keeps, tried-one, chosen-is}
 use Rattle.plan.specs.Planning.{PlanReady, PlanFound, planningIn}
 use Rattle.plan.specs.declared.svq1_enc_tree.MbPlan.{MbPlan}
-use Rattle.macroblock_choice.specs.Chosen.{taskBy, planningBy, Placing, Sourced, Carries, Made, ChosenFor, ChosenBy}
+use Rattle.macroblock_choice.specs.Chosen.{taskIn, planningBy, Placing, Sourced, Carries, Made, ChosenFor, ChosenBy}
 
 -- ---- a motion's plan
 bare : Task
-bare = record { source = []; lambda = 0; radius = 0; allowFour = false }
+bare = record { source = []; lambda = 0; radius = 0; allowFour = false; limit = unlimited }
 
 module _ (g : Given) (raised : List ℕ) (k : ℕ) (block : List ℕ) (ready : Placing g raised k block) (bytes : Bytes block) (reference : Bytes (g .reference .samples)) (lambda : ℕ) (m : Motion) where
   fine : Fine g bare
@@ -107,10 +108,10 @@ module _ (g : Given) (raised : List ℕ) (k : ℕ) (block : List ℕ) (ready : P
   found-by p h s under eh es eu f = rw (es, eh, eu) at f
 
   -- a motion that was found, if it is better
-  pub try-one : (n : Near) (ms : List Motion) (c d r : MbCandidate) → ms ≡ m ∷ [] → Stated g block k n c → Made g block lambda k n m d
-      → r ≡ pick (preferred lambda d c) d c → Tried g block lambda k n ms c r
-  try-one n ms c d r e hc hd er =
-      tried-one g block lambda k n m ms c d r e hc (hd .stated)
+  pub try-one : (room : ℕ) (n : Near) (ms : List Motion) (c d r : MbCandidate) → ms ≡ m ∷ [] → Stated g block k n c → Made g block lambda k n m d
+      → r ≡ pick (keeps lambda room c d) d c → Tried g block lambda room k n ms c r
+  try-one room n ms c d r e hc hd er =
+      tried-one g block lambda room k n m ms c d r e hc (hd .stated)
       (λ t eb el. hd .is ∙ ap (λ (x : Planning). coded m (planTree x)) (planned-same t eb el)) er
 
 -- ---- all motions
@@ -119,7 +120,7 @@ pub searching : (v : Svq1PlaneCanvas) (reference book codebook raised : List ℕ
 searching v reference book codebook raised k block p =
     record { fits = fits (givenBy v reference book codebook) raised (p .ok); number = p .number; whole = p .whole }
 
-module _ (v : Svq1PlaneCanvas) (reference book codebook block : List ℕ) (lambda radius : ℕ) (allow : Bool) (k : ℕ) (n : Near) where
+module _ (v : Svq1PlaneCanvas) (reference book codebook block : List ℕ) (lambda radius : ℕ) (allow : Bool) (room k : ℕ) (n : Near) where
   abbrev plane : Given
   plane = givenBy v reference book codebook
 
@@ -127,12 +128,12 @@ module _ (v : Svq1PlaneCanvas) (reference book codebook block : List ℕ) (lambd
       → MotionsFound v reference block radius k n (λ g t. singleTried g t k n) one
       → none ≡ stillFound
       → MotionsFound v reference block radius k n (λ g t. pick allow (fourTried g t k n) []) more
-      → Tried plane block lambda k n (motionsOf one) s a → Tried plane block lambda k n (motionsOf none) a b → Tried plane block lambda k n (motionsOf more) b r
-      → ChosenFor plane block lambda radius allow k n r
+      → Tried plane block lambda room k n (motionsOf one) s a → Tried plane block lambda room k n (motionsOf none) a b → Tried plane block lambda room k n (motionsOf more) b r
+      → ChosenFor plane block lambda radius allow room k n r
   chosen-for s a b r one none more es f1 f2 f3 ha hb hr = record {
     stated = hr .stated;
     is = λ t eb el er ef.
-        chosen-is plane block lambda k n t s a b r (motionsOf one) (motionsOf none) (motionsOf more) eb el es ha hb hr
+        chosen-is plane block lambda room k n t s a b r (motionsOf one) (motionsOf none) (motionsOf more) eb el es ha hb hr
         (f1 .are book codebook t eb er) (ap motionsOf f2) (rw ef at (f3 .are book codebook t eb er));
   }
 
@@ -150,16 +151,16 @@ module _ (g : Given) (raised source : List ℕ) (k : ℕ) (p : Sourced g raised 
         number = p .number;
       }
 
-  block-is : (lambda radius : ℕ) (allow : Bool) (block : List ℕ) → block ≡ targetOf (g .width) (g .height) source k → block ≡ target g (taskBy source lambda radius allow) k
-  block-is lambda radius allow block e =
+  block-is : (lambda radius : ℕ) (allow : Bool) (limit : Limit) (block : List ℕ) → block ≡ targetOf (g .width) (g .height) source k → block ≡ target g (taskIn source lambda radius allow limit) k
+  block-is lambda radius allow limit block e =
       let f = fits g raised (p .ok) in
-      e ∙ target-is g (taskBy source lambda radius allow) k (f .stride) (f .rows) (p .number) (wide g raised (p .ok))
+      e ∙ target-is g (taskIn source lambda radius allow limit) k (f .stride) (f .rows) (p .number) (wide g raised (p .ok))
 
   pub block-placed : (block : List ℕ) → block ≡ targetOf (g .width) (g .height) source k → Placing g raised k block
   block-placed block e = record { ok = p .ok; number = p .number; whole = ap length e ∙ target-long (g .width) (g .height) source k }
 
-  pub chosen-by : (lambda radius : ℕ) (allow : Bool) (block : List ℕ) (n : Near) (r : MbCandidate) → block ≡ targetOf (g .width) (g .height) source k
-      → ChosenFor g block lambda radius allow k n r → ChosenBy g (taskBy source lambda radius allow) k n r
-  chosen-by lambda radius allow block n r e h =
-      let q = block-is lambda radius allow block e in
-      record { stated = rw q at (h .stated); is = h .is (taskBy source lambda radius allow) q refl refl refl }
+  pub chosen-by : (lambda radius : ℕ) (allow : Bool) (room : ℕ) (block : List ℕ) (n : Near) (r : MbCandidate) → block ≡ targetOf (g .width) (g .height) source k
+      → ChosenFor g block lambda radius allow room k n r → (limit : Limit) → ChosenBy g (taskIn source lambda radius allow limit) room k n r
+  chosen-by lambda radius allow room block n r e h limit =
+      let q = block-is lambda radius allow limit block e in
+      record { stated = rw q at (h .stated); is = h .is (taskIn source lambda radius allow limit) q refl refl refl }

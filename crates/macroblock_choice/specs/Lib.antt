@@ -3,3 +3,4 @@ pub mod Candidates
 pub mod CandidatesLaws
 pub mod Chosen
 pub mod ChosenLaws
+pub mod RoomLaws

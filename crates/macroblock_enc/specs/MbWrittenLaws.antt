@@ -3,8 +3,9 @@
 use mathlib.Core.Path.{_≡_, sym, ap, _∙_}
 use mathlib.Core.Bool.{Bool, false}
 use mathlib.Core.List.{List}
-use Prim.Native.Nat.{ℕ}
+use Prim.Native.Nat.{ℕ, _-_, _*_, _≤_}
 use native.Mathlib.Omega.{arith}
+use native.Mathlib.Nat.{mul-le-mul}
 use lib.ListN.{length}
 use Rattle.bits.specs.Basics.{All, Bytes}
 use Rattle.codebook.specs.RaisedLaws.{raised-length}
@@ -14,20 +15,28 @@ use Rattle.tree.specs.Nodes.{treeOf}
 use Rattle.plan.specs.SoundLaws.{plan-sound}
 use Rattle.tree.specs.Walk.{SoundTree}
 use Rattle.macroblock_choice.specs.declared.inner.candidates.MbCandidate.{MbCandidate}
+use Rattle.canvas.specs.Canvas.{largestSide, blocksAlong}
 use Rattle.canvas.specs.declared.svq1_plane.Svq1PlaneCanvas.{Svq1PlaneCanvas}
-use Rattle.macroblock.specs.Macroblock.{Given, cols, rows, Motion, coded, modeOf, halfOf}
-use Rattle.macroblock.specs.MacroblockLaws.{Fine, Good, chosen-good, Codables, planned-for, motions-codable, all-map, chosen-one}
-use Rattle.macroblock.specs.Choice.{Task, planningFor, motionsTried, tried, weightOf, chosen}
+use Rattle.macroblock.specs.declared.svq1_enc_inter.Svq1MbMode.the-variants.{Skip}
+use Rattle.macroblock.specs.Macroblock.{Given, cols, rows, Motion, coded, modeOf, halfOf, modeBits}
+use Rattle.bits.specs.ListLaws.{all-map}
+use Rattle.macroblock.specs.MacroblockLaws.{Fine, Good, tried-good, Codables, planned-for, motions-codable}
+use Rattle.macroblock.specs.LimitLaws.{skip-fits}
+use Rattle.macroblock.specs.Choice.{Task, planningFor, motionsTried, tried, weightOf}
 use Rattle.macroblock.specs.Motions.{motionOf}
 use Rattle.macroblock.specs.Slices.{Slices, near}
 use Rattle.macroblock.specs.Inner.{givenBy}
 use Rattle.macroblock.specs.InnerLaws.{fits, book-passes, stands, vectors-held, recon-held}
 use Rattle.macroblock_choice.specs.Candidates.{skips, choiceOf, codedFor}
+use Rattle.macroblock_choice.specs.RoomLaws.{room-one, room-limit}
 use Rattle.macroblock_choice.specs.CandidatesLaws.{choice-of-book}
 use Rattle.macroblock_enc.specs.WrittenLaws.{is-coded}
 use Rattle.macroblock_enc.specs.declared.inner.writing.WrittenMb.{WrittenMb}
+use Rattle.macroblock_enc.specs.declared.inner.limit.BitLimit.{BitLimit}
+use Rattle.macroblock_enc.specs.Limits.{limitOf, roomOf, Reserving, Spends}
+use Rattle.macroblock_enc.specs.LimitsLaws.{reserved, allows}
 use Rattle.macroblock_enc.specs.Written.{Codes, LayReady, WriteReady, CandidateWritten, CandidateLaid, MbReady, mbChoice, mbWeight, MbWritten}
-use Rattle.macroblock_choice.specs.Chosen.{taskBy, Sourced, ChosenBy}
+use Rattle.macroblock_choice.specs.Chosen.{taskIn, Sourced, ChosenBy}
 
 -- ---- what is chosen can be written
 module _ (g : Given) (t : Task) (ok : Fine g t) (k : ℕ) (n : Near) where
@@ -39,9 +48,6 @@ module _ (g : Given) (t : Task) (ok : Fine g t) (k : ℕ) (n : Near) where
   unfolding tried
   tried-codes = (tt, all-map (Codables n) (Codes n) (codedFor g t k) (motionsTried g t k n) coded-codes (motions-codable g t ok k n))
 
-  pub chosen-codes : Codes n (chosen g t k n)
-  chosen-codes = chosen-one g t ok (Codes n) k n tried-codes
-
 -- ---- a macroblock written, by what was chosen and what was done with it
 module _ (g : Given) (raised source : List ℕ) (k bytes at : ℕ) (s : Slices) (ready : MbReady g raised source k bytes at s) where
   pub sourced : Sourced g raised source k
@@ -50,23 +56,42 @@ module _ (g : Given) (raised source : List ℕ) (k bytes at : ℕ) (s : Slices) 
   pub near-around : Around (near g s k)
   near-around = around (cols g) (rows g) k (s .vx) (s .vy) (ready .ranged-x) (ready .ranged-y)
 
-module _ (v : Svq1PlaneCanvas) (reference book codebook raised source : List ℕ) (lambda radius : ℕ) (allow : Bool) (k at : ℕ) (out : List ℕ) (s : Slices)
-    (ready : MbReady (givenBy v reference book codebook) raised source k (length out) at s) (source-bytes : Bytes source) (reference-bytes : Bytes reference) where
+  few-blocks : rows g * cols g ≤ 4294967296
+  few-blocks =
+      let f = fits g raised (ready .ok) in
+      let c : cols g ≤ blocksAlong largestSide = omega (arith, f .width .most) in
+      let r : rows g ≤ blocksAlong largestSide = omega (arith, f .height .most) in
+      omega (arith, mul-le-mul r c)
+
+  pub reserving : (limit : BitLimit) (spent : ℕ) → Spends g limit k spent → Reserving (g .book) limit (cols g) (rows g) k spent
+  reserving limit spent x = record {
+    passes = book-passes g raised (ready .ok);
+    number = ready .number;
+    small = few-blocks;
+    stays = reserved g k spent (ready .number) limit few-blocks x;
+  }
+
+module _ (v : Svq1PlaneCanvas) (reference book codebook raised source : List ℕ) (lambda radius : ℕ) (allow : Bool) (limit : BitLimit) (spent k at : ℕ) (out : List ℕ) (s : Slices)
+    (ready : MbReady (givenBy v reference book codebook) raised source k (length out) at s) (source-bytes : Bytes source) (reference-bytes : Bytes reference) (spends : Spends (givenBy v reference book codebook) limit k spent) where
   abbrev g : Given
   g = givenBy v reference book codebook
 
   abbrev t : Task
-  t = taskBy source lambda radius allow
+  t = taskIn source lambda radius allow (limitOf limit)
 
   all-fine : Fine g t
   all-fine = record { book = book-passes g raised (ready .ok); source-bytes = source-bytes; reference-bytes = reference-bytes }
 
-  module _ (n : Near) (en : n ≡ near g s k) (c : MbCandidate) (h : ChosenBy g t k n c) where
+  module _ (n : Near) (en : n ≡ near g s k) (c : MbCandidate) (room : ℕ) (er : room ≡ roomOf limit spent (length (modeBits g Skip)) (rows g * cols g - k - 1)) (h : ChosenBy g t room k n c) where
     codes-it : Codes n (choiceOf c)
-    codes-it = rw (h .is) (chosen-codes g t all-fine k n)
+    codes-it = rw (h .is) (room-one g t all-fine k n room (Codes n) (tried-codes g t all-fine k n))
 
     good-it : Good g t all-fine k n (choiceOf c)
-    good-it = rw (h .is) (chosen-good g t all-fine k n)
+    good-it = rw (h .is) (room-one g t all-fine k n room (Good g t all-fine k n) (tried-good g t all-fine k n))
+
+    chosen-it : choiceOf c ≡ mbChoice g t k spent s
+    chosen-it =
+        h .is ∙ room-limit g t all-fine k n room spent (allows g k spent (ready .number) limit room spends er) (skip-fits g t k n spent (ready .number) (spends .skips-rest)) ∙ rw en
 
     pub write-ready : WriteReady book n c (length out) at
     write-ready = record {
@@ -99,12 +124,12 @@ module _ (v : Svq1PlaneCanvas) (reference book codebook raised source : List ℕ
 
     pub mb-written : (r : WrittenMb) (left recon' vx' vy' : List ℕ) → Bytes codebook → CandidateWritten book n c out at r left
         → CandidateLaid v reference raised k c (length out) at (s .recon) (s .vx) (s .vy) recon' vx' vy'
-        → MbWritten g t k out at s r left (record { recon = recon'; vx = vx'; vy = vy' })
+        → MbWritten g t k spent out at s r left (record { recon = recon'; vx = vx'; vy = vy' })
     unfolding weightOf
     mb-written r left recon' vx' vy' bytes w l =
-        let eb : c .bits ≡ mbWeight g t k s .bits = h .stated .bits ∙ rw (h .is, en) in
-        let ee : c .error ≡ mbWeight g t k s .err = h .stated .error ∙ rw (h .is, en) in
-        let ec : choiceOf c ≡ mbChoice g t k s = h .is ∙ rw en in
+        let ec = chosen-it in
+        let eb : c .bits ≡ mbWeight g t k spent s .bits = h .stated .bits ∙ rw (ec, en) in
+        let ee : c .error ≡ mbWeight g t k spent s .err = h .stated .error ∙ rw ec in
         record {
           mode = w .mode ∙ h .stated .mode ∙ ap modeOf ec;
           bits = w .bits ∙ eb;

@@ -103,19 +103,19 @@ pub record MbReady (g : Given) (raised source : List ℕ) (k bytes at : ℕ) (s 
   pub ranged-x : Ranged (cols g) k (s .vx)
   pub ranged-y : Ranged (cols g) k (s .vy)
 
--- what is written for macroblock k, and what it weighs
-abbrev pub mbChoice : Given → Task → ℕ → Slices → Choice
-mbChoice g t k s = chosen g t k (near g s k)
+-- what is written for macroblock k with so many bits spent before it, and what it weighs
+abbrev pub mbChoice : Given → Task → ℕ → ℕ → Slices → Choice
+mbChoice g t k spent s = chosen g t k (near g s k) spent
 
-abbrev pub mbWeight : Given → Task → ℕ → Slices → Weight
-mbWeight g t k s = weightOf g t k (near g s k) (mbChoice g t k s)
+abbrev pub mbWeight : Given → Task → ℕ → ℕ → Slices → Weight
+mbWeight g t k spent s = weightOf g t k (near g s k) (mbChoice g t k spent s)
 
 -- its mode, bits and error are stated, whether it fits or not; where it fits, its bits are put and its samples and vectors laid, and else it is 22 with everything as it was
-pub record MbWritten (g : Given) (t : Task) (k : ℕ) (out : List ℕ) (at : ℕ) (s : Slices) (r : WrittenMb) (left : List ℕ) (u : Slices) : Type 0 where
-  pub mode : r .mode ≡ modeOf (mbChoice g t k s)
-  pub bits : r .bits ≡ mbWeight g t k s .bits
-  pub error : r .error ≡ mbWeight g t k s .err
-  pub refused : r .refused ≡ unless (fitsIn (length out) at (mbWeight g t k s .bits)) 22
-  pub next : r .next ≡ pick (fitsIn (length out) at (mbWeight g t k s .bits)) (at + mbWeight g t k s .bits) at
-  pub output : bitsOf left ≡ pick (fitsIn (length out) at (mbWeight g t k s .bits)) (putBits (bitsOf out) at (choiceBits g (near g s k) (mbChoice g t k s))) (bitsOf out)
-  pub slices : u ≡ pick (fitsIn (length out) at (mbWeight g t k s .bits)) (laid g k (mbChoice g t k s) s) s
+pub record MbWritten (g : Given) (t : Task) (k spent : ℕ) (out : List ℕ) (at : ℕ) (s : Slices) (r : WrittenMb) (left : List ℕ) (u : Slices) : Type 0 where
+  pub mode : r .mode ≡ modeOf (mbChoice g t k spent s)
+  pub bits : r .bits ≡ mbWeight g t k spent s .bits
+  pub error : r .error ≡ mbWeight g t k spent s .err
+  pub refused : r .refused ≡ unless (fitsIn (length out) at (mbWeight g t k spent s .bits)) 22
+  pub next : r .next ≡ pick (fitsIn (length out) at (mbWeight g t k spent s .bits)) (at + mbWeight g t k spent s .bits) at
+  pub output : bitsOf left ≡ pick (fitsIn (length out) at (mbWeight g t k spent s .bits)) (putBits (bitsOf out) at (choiceBits g (near g s k) (mbChoice g t k spent s))) (bitsOf out)
+  pub slices : u ≡ pick (fitsIn (length out) at (mbWeight g t k spent s .bits)) (laid g k (mbChoice g t k spent s) s) s

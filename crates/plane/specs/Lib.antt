@@ -6,3 +6,5 @@ pub mod Calls
 pub mod Reader
 pub mod SlicesLaws
 pub mod ReaderLaws
+pub mod LimitLaws
+pub mod AloneLaws

@@ -1,7 +1,8 @@
 -- A plane, written and read macroblock by macroblock, from any start bit, ended early or not (document 01, "Rust forms that need another build", "Files as they stay", "Reading", refusals 10, 11, 22, 24).
-use Prim.Native.Nat.{ℕ, _+_, _-_, _*_}
-use mathlib.Core.Bool.{Bool}
+use Prim.Native.Nat.{ℕ, suc, _+_, _-_, _*_, _≤_, _<_}
+use mathlib.Core.Bool.{Bool, true}
 use mathlib.Core.List.{List}
+use mathlib.Core.Path.{_≡_}
 use lib.Dec.{leb}
 use lib.ListN.{length, drop}
 use Rattle.bits.specs.Basics.{pick}
@@ -10,7 +11,8 @@ use Rattle.code_tables.specs.Codes.{Got, got, bad}
 use Rattle.tree.specs.Plan.{Weight}
 use Rattle.macroblock.specs.declared.svq1_enc_inter.Svq1MbMode.{Svq1MbMode}
 use Rattle.macroblock.specs.Macroblock.{Given, cols, rows, Choice, modeOf, choiceBits}
-use Rattle.macroblock.specs.Choice.{Task, weightOf, chosen}
+use Rattle.macroblock.specs.Limit.{canSkipRest}
+use Rattle.macroblock.specs.Choice.{Task, withoutLimit, weightOf, chosen}
 use Rattle.macroblock.specs.Reading.{readMacroblock}
 use Rattle.macroblock.specs.Slices.{Slices, near, laid}
 use Rattle.plane.specs.Run.{Step, on, stop, End, run, after}
@@ -30,7 +32,7 @@ pub record Writing : Type 0 where
 
 -- what is written for macroblock k in a state, and what it weighs
 abbrev pub wrote : Given → Task → ℕ → Writing → Choice
-wrote g t k s = chosen g t k (near g (s .slices) k)
+wrote g t k s = chosen g t k (near g (s .slices) k) (s .bits)
 
 abbrev pub wroteWeight : Given → Task → ℕ → Writing → Weight
 wroteWeight g t k s = weightOf g t k (near g (s .slices) k) (wrote g t k s)
@@ -75,6 +77,12 @@ writePlane g t out start s = run (writeStep g t) (count g) 0 (toWrite out start 
 -- the state before macroblock k of a plane that is written that far
 abbrev pub writingAt : Given → Task → List ℕ → ℕ → Slices → ℕ → Writing
 writingAt g t out start s k = after (written g t) (toWrite out start s) k
+
+-- as far as the plane goes without its limit, each mode written fits it
+abbrev pub FirstFits : Given → Task → List ℕ → ℕ → Slices → Type 0
+FirstFits g t out start s =
+    (k : ℕ) → k < count g → k ≤ writePlane g (withoutLimit t) out start s .done
+    → canSkipRest (t .limit) g (suc k) (writingAt g (withoutLimit t) out start s k .bits + wroteWeight g (withoutLimit t) k (writingAt g (withoutLimit t) out start s k) .bits) ≡ true
 
 -- ---- the reader, over the bits of a bit string
 pub record ReadingState : Type 0 where

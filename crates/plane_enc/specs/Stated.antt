@@ -33,9 +33,10 @@ statedIn g t out start s held n = let m = min n (length held / 3) in statedTo g 
 unfoldable pub told : List ℕ → ℕ → List ℕ → List ℕ
 told l k three = pick (ltb k (length l / 3)) (sets l (3 * k) three) l
 
--- before macroblock k: the slices are those of the state before it, and the macroblocks before it are told
-pub record Telling (g : Given) (t : Task) (out : List ℕ) (start : ℕ) (s : Slices) (held : List ℕ) (u : Slices) (l : List ℕ) (k : ℕ) : Type 0 where
+-- before macroblock k: the slices and the bits spent are those of the state before it, and the macroblocks before it are told
+pub record Telling (g : Given) (t : Task) (out : List ℕ) (start : ℕ) (s : Slices) (held : List ℕ) (u : Slices) (l : List ℕ) (k spent : ℕ) : Type 0 where
   pub slices : u ≡ writingAt g t out start s k .slices
+  pub spends : spent ≡ writingAt g t out start s k .bits
   pub stated : l ≡ statedIn g t out start s held k
 
 -- a plane that is not refused is written as far as it goes, and what is done is told: l is what is left of held

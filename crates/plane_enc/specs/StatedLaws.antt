@@ -95,19 +95,20 @@ module _ (g : Given) (t : Task) (out : List ℕ) (start : ℕ) (s : Slices) wher
           go (no h) = told-full (omega arith)
 
     -- ---- the loop
-    pub telling-begun : Telling g t out start s held s held 0
+    pub telling-begun : Telling g t out start s held s held 0 0
     unfolding after
-    telling-begun = record { slices = refl; stated = sym in-none }
+    telling-begun = record { slices = refl; spends = refl; stated = sym in-none }
 
-    module _ (k : ℕ) (into : List ℕ) (at : ℕ) (u : Slices) (r : WrittenMb) (left : List ℕ) (v : Slices) (m : MbWritten g t k into at u r left v) where
-      pub telling-turn : (l l' : List ℕ) → r .refused ≡ 0 → Telling g t out start s held u l k → l' ≡ told l k (modePosition (r .mode) ∷ r .bits ∷ r .error ∷ [])
-          → Telling g t out start s held v l' (k + 1)
+    module _ (k spent : ℕ) (into : List ℕ) (at : ℕ) (u : Slices) (r : WrittenMb) (left : List ℕ) (v : Slices) (m : MbWritten g t k spent into at u r left v) where
+      pub telling-turn : (l l' : List ℕ) → r .refused ≡ 0 → Telling g t out start s held u l k spent → l' ≡ told l k (modePosition (r .mode) ∷ r .bits ∷ r .error ∷ [])
+          → Telling g t out start s held v l' (k + 1) (spent + r .bits)
       unfolding after written
       telling-turn l l' z i e =
-          let f = fits-if g t k into at u 0 0 r left v m z in
-          let w : v ≡ laid g k (mbChoice g t k u) u = rw f at (m .slices) in
-          let three : modePosition (r .mode) ∷ r .bits ∷ r .error ∷ [] ≡ next k = rw (m .mode, m .bits, m .error, i .slices) in
+          let f = fits-if g t k into at u spent 0 r left v m z in
+          let w : v ≡ laid g k (mbChoice g t k spent u) u = rw f at (m .slices) in
+          let three : modePosition (r .mode) ∷ r .bits ∷ r .error ∷ [] ≡ next k = rw (m .mode, m .bits, m .error, i .slices, i .spends) in
           record {
-            slices = rw (add-one k, w, i .slices);
+            slices = rw (add-one k, w, i .slices, i .spends);
+            spends = rw (add-one k, m .bits, i .slices, i .spends);
             stated = rw (add-one k, e, i .stated, three) (one-more k);
           }

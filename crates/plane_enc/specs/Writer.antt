@@ -1,5 +1,6 @@
 -- The plane writer as a call: its answer, its refusals by lengths, and a plane that is written to its end (document 01, refusals 1 to 7, 20, 21, 22).
 use Prim.Native.Nat.{ℕ, _-_, _*_, _≤_}
+use mathlib.Core.Bool.{true}
 use mathlib.Core.List.{List}
 use mathlib.Core.Path.{_≡_}
 use lib.Dec.{eqb}
@@ -11,6 +12,7 @@ use Rattle.book.specs.Book.{dataRefusal}
 use Rattle.mv_cache.specs.NeighboursLaws.{Ranged}
 use Rattle.canvas.specs.Canvas.{sizeRefusal, canvasRefusal}
 use Rattle.macroblock.specs.Macroblock.{Given, cols}
+use Rattle.macroblock.specs.Limit.{canSkipRest}
 use Rattle.macroblock.specs.Choice.{Task}
 use Rattle.macroblock.specs.Slices.{Slices}
 use Rattle.plane_enc.specs.declared.svq1_enc_inter.WriteEnd.{WriteEnd}
@@ -38,7 +40,7 @@ WrittenThrough g t out start u r left laid =
     writePlane g t (bitsOf out) start u
     ≡ record { refusal = r .refused; done = r .done; state = record { out = bitsOf left; next = r .next; slices = laid; bits = r .bits; error = r .error } }
 
--- before macroblock k: what is left of the run gives the whole, the vectors stored are in -32..31, and the totals are far from overflowing
+-- before macroblock k: what is left of the run gives the whole, the vectors stored are in -32..31, the totals are far from overflowing, and a SKIP code is left for each macroblock to come
 pub record Underway (g : Given) (t : Task) (out₀ : List ℕ) (start : ℕ) (u₀ : Slices) (out : List ℕ) (u : Slices) (k at bits error : ℕ) : Type 0 where
   pub out-same : length out ≡ length out₀
   pub recon-same : length (u .recon) ≡ length (u₀ .recon)
@@ -50,4 +52,5 @@ pub record Underway (g : Given) (t : Task) (out₀ : List ℕ) (start : ℕ) (u�
   pub ranged-y : Ranged (cols g) k (u .vy)
   pub few-bits : bits ≤ k * 65536
   pub low-error : error ≤ k * 16777216
+  pub skips-rest : canSkipRest (t .limit) g k bits ≡ true
   pub whole : run (writeStep g t) (count g - k) k (record { out = bitsOf out; next = at; slices = u; bits = bits; error = error }) ≡ writePlane g t (bitsOf out₀) start u₀

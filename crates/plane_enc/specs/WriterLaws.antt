@@ -21,7 +21,10 @@ use Rattle.canvas.specs.Canvas.{largestSide, sideOk, padded16, sizeRefusal, can
 use Rattle.canvas.specs.CanvasLaws.{size-passes}
 use Rattle.vectors.specs.VectorsLaws.{Inside}
 use Rattle.macroblock.specs.Macroblock.{Given, cols, Choice, vectorsOf, shown, choiceBits}
+use Rattle.macroblock.specs.ChoiceLaws.{chosen-fits}
 use Rattle.macroblock.specs.MacroblockLaws.{Fine, Good, chosen-good, target-block, near-24}
+use Rattle.macroblock.specs.LimitLaws.{skip-fits}
+use Rattle.macroblock.specs.Limit.{canSkipRest}
 use Rattle.macroblock.specs.Choice.{Task, target, weightOf}
 use Rattle.macroblock.specs.Slices.{Slices, near, laid}
 use Rattle.macroblock.specs.Inner.{Held}
@@ -39,7 +42,7 @@ use Rattle.plane.specs.ReaderLaws.{recon-kept, vx-kept, vy-kept, accepted}
 use Rattle.plane_enc.specs.Writer.{endOf, writeRefusalBy, WrittenThrough, Underway}
 
 -- ---- one macroblock is one step
-module _ (g : Given) (t : Task) (k : ℕ) (out : List ℕ) (at : ℕ) (u : Slices) (bits error : ℕ) (r : WrittenMb) (left : List ℕ) (v : Slices) (m : MbWritten g t k out at u r left v) where
+module _ (g : Given) (t : Task) (k : ℕ) (out : List ℕ) (at : ℕ) (u : Slices) (bits error : ℕ) (r : WrittenMb) (left : List ℕ) (v : Slices) (m : MbWritten g t k bits out at u r left v) where
   abbrev here : Writing
   here = record { out = bitsOf out; next = at; slices = u; bits = bits; error = error }
 
@@ -47,7 +50,7 @@ module _ (g : Given) (t : Task) (k : ℕ) (out : List ℕ) (at : ℕ) (u : Slice
   there = record { out = bitsOf left; next = r .next; slices = v; bits = bits + r .bits; error = error + r .error }
 
   abbrev fitting : Bool
-  fitting = fitsIn (length out) at (mbWeight g t k u .bits)
+  fitting = fitsIn (length out) at (mbWeight g t k bits u .bits)
 
   same-fit : fits g t k here ≡ fitting
   same-fit = rw (length-bitsOf out)
@@ -66,9 +69,9 @@ module _ (g : Given) (t : Task) (k : ℕ) (out : List ℕ) (at : ℕ) (u : Slice
   unfolding written
   step-on z =
       let f = fits-if z in
-      let o : bitsOf left ≡ putBits (bitsOf out) at (choiceBits g (near g u k) (mbChoice g t k u)) = rw f at (m .output) in
-      let n : r .next ≡ at + mbWeight g t k u .bits = rw f at (m .next) in
-      let s : v ≡ laid g k (mbChoice g t k u) u = rw f at (m .slices) in
+      let o : bitsOf left ≡ putBits (bitsOf out) at (choiceBits g (near g u k) (mbChoice g t k bits u)) = rw f at (m .output) in
+      let n : r .next ≡ at + mbWeight g t k bits u .bits = rw f at (m .next) in
+      let s : v ≡ laid g k (mbChoice g t k bits u) u = rw f at (m .slices) in
       rw (same-fit, f, o, n, s, m .bits, m .error)
 
   pub step-stop : (r .refused ≡ 0 → ⊥) → writeStep g t k here ≡ stop (r .refused)
@@ -98,9 +101,9 @@ module _ (g : Given) (raised : List ℕ) (t : Task) (source-bytes : Bytes (t .so
   ok : Fine g t
   ok = record { book = book-passes g raised (p .ok); source-bytes = source-bytes; reference-bytes = reference-bytes }
 
-  pub begun : Underway g t out₀ start u₀ out₀ u₀ 0 start 0 0
+  pub begun : canSkipRest (t .limit) g 0 0 ≡ true → Underway g t out₀ start u₀ out₀ u₀ 0 start 0 0
   unfolding writePlane
-  begun =
+  begun enough =
       let n : count g - 0 ≡ count g = omega arith in
       record {
         out-same = refl;
@@ -113,6 +116,7 @@ module _ (g : Given) (raised : List ℕ) (t : Task) (source-bytes : Bytes (t .so
         ranged-y = λ j l. absurd (omega arith);
         few-bits = omega arith;
         low-error = omega arith;
+        skips-rest = enough;
         whole = rw n;
       }
 
@@ -131,9 +135,9 @@ module _ (g : Given) (raised : List ℕ) (t : Task) (source-bytes : Bytes (t .so
       ranged-y = i .ranged-y;
     }
 
-    module _ (r : WrittenMb) (left : List ℕ) (v : Slices) (h : k < count g) (m : MbWritten g t k out at u r left v) where
-      good : Good g t ok k (near g u k) (mbChoice g t k u)
-      good = chosen-good g t ok k (near g u k)
+    module _ (r : WrittenMb) (left : List ℕ) (v : Slices) (h : k < count g) (m : MbWritten g t k bits out at u r left v) where
+      good : Good g t ok k (near g u k) (mbChoice g t k bits u)
+      good = chosen-good g t ok k (near g u k) bits
 
       pub few : r .bits ≤ 65536
       unfolding weightOf
@@ -141,28 +145,29 @@ module _ (g : Given) (raised : List ℕ) (t : Task) (source-bytes : Bytes (t .so
 
       pub low : r .error ≤ 16777216
       unfolding weightOf
-      low = omega (arith, m .error, near-24 (target g t k) (shown g k (mbChoice g t k u)) (target-block g t ok k) (good .block))
+      low = omega (arith, m .error, near-24 (target g t k) (shown g k (mbChoice g t k bits u)) (target-block g t ok k) (good .block))
 
       pub turn : length left ≡ length out → r .refused ≡ 0 → Underway g t out₀ start u₀ left v (k + 1) (r .next) (bits + r .bits) (error + r .error)
       turn l z =
           let f = fits-if g t k out at u bits error r left v m z in
-          let n : r .next ≡ at + mbWeight g t k u .bits = rw f at (m .next) in
-          let room : at + mbWeight g t k u .bits ≤ 8 * length out = leb-true (at + mbWeight g t k u .bits) (8 * length out) f in
-          let s : v ≡ laid g k (mbChoice g t k u) u = rw f at (m .slices) in
+          let n : r .next ≡ at + mbWeight g t k bits u .bits = rw f at (m .next) in
+          let room : at + mbWeight g t k bits u .bits ≤ 8 * length out = leb-true (at + mbWeight g t k bits u .bits) (8 * length out) f in
+          let s : v ≡ laid g k (mbChoice g t k bits u) u = rw f at (m .slices) in
           let high = wide g raised (p .ok) in
           let next : run (writeStep g t) (count g - (k + 1)) (k + 1) (there g t k out at u bits error r left v m) ≡ writePlane g t (bitsOf out₀) start u₀ =
           rw (add-one k) (sym (turned (writeStep g t) (count g) k (here g t k out at u bits error r left v m) (there g t k out at u bits error r left v m) h (step-on g t k out at u bits error r left v m z)) ∙ i .whole) in
           record {
             out-same = l ∙ i .out-same;
-            recon-same = rw s (recon-kept g k (mbChoice g t k u) u ∙ i .recon-same);
-            vx-same = rw s (vx-kept g k (mbChoice g t k u) u ∙ i .vx-same);
-            vy-same = rw s (vy-kept g k (mbChoice g t k u) u ∙ i .vy-same);
+            recon-same = rw s (recon-kept g k (mbChoice g t k bits u) u ∙ i .recon-same);
+            vx-same = rw s (vx-kept g k (mbChoice g t k bits u) u ∙ i .vx-same);
+            vy-same = rw s (vy-kept g k (mbChoice g t k bits u) u ∙ i .vy-same);
             most = omega arith;
             within = omega (arith, n, room, l);
-            ranged-x = rw (s, add-one k) (ranged-laid-x g high k h (mbChoice g t k u) (good .inside) u (held .vx-long) (i .ranged-x));
-            ranged-y = rw (s, add-one k) (ranged-laid-y g high k h (mbChoice g t k u) (good .inside) u (held .vy-long) (i .ranged-y));
+            ranged-x = rw (s, add-one k) (ranged-laid-x g high k h (mbChoice g t k bits u) (good .inside) u (held .vx-long) (i .ranged-x));
+            ranged-y = rw (s, add-one k) (ranged-laid-y g high k h (mbChoice g t k bits u) (good .inside) u (held .vy-long) (i .ranged-y));
             few-bits = omega (arith, few, i .few-bits);
             low-error = omega (arith, low, i .low-error);
+            skips-rest = rw (add-one k, m .bits) (chosen-fits g t k (near g u k) bits (skip-fits g t k (near g u k) bits h (i .skips-rest)));
             whole = next;
           }
 

@@ -4,10 +4,11 @@ ghost use mathlib.Core.List.{[], _∷_};
 ghost use Prim.Native.Nat.{_*_};
 ghost use lib.ListN.{length};
 ghost use Rattle.book.specs.Book.{codebookBytes};
-ghost use Rattle.macroblock_choice.specs.Chosen.{taskBy};
+ghost use Rattle.macroblock_choice.specs.Chosen.{taskIn};
 ghost use Rattle.macroblock.specs.Inner.{givenBy};
 ghost use Rattle.macroblock.specs.Mode.{modePosition};
 ghost use Rattle.plane.specs.Reader.{PlaneReady, PlaneAccepted};
+ghost use Rattle.macroblock_enc.specs.Limits.{limitOf, Spends};
 ghost use Rattle.plane_enc.specs.Stated.{told, ToldThrough};
 ghost use Rattle.plane_enc.specs.Writer.{writeRefusalBy};
 use super::svq1_enc_inter::WriteEnd;
@@ -15,6 +16,7 @@ use canvas::svq1_plane::Svq1PlaneCanvas;
 use canvas::svq1_plane::plane_refusal;
 use codebook::inner::raise_codebook;
 use macroblock::svq1_enc_inter::Svq1MbMode;
+use macroblock_enc::inner::limit::BitLimit;
 use macroblock_enc::inner::writing::write_macroblock;
 use plane::inner::read_refusal;
 
@@ -70,7 +72,7 @@ fn tell(stated: &mut [u32], k: usize, mode: Svq1MbMode, bits: u32, error: u32)
     stated[at + 2] = error;
 }
 
-// A plane that no refusal meets, written from bit `start` on, macroblock by macroblock, each told in `stated`. `raised` is the raised codebook.
+// A plane that no refusal meets, written from bit `start` on under a limit, macroblock by macroblock, each told in `stated`. `raised` is the raised codebook.
 fn write_blocks(
     canvas: Svq1PlaneCanvas,
     source: &[u8],
@@ -81,6 +83,7 @@ fn write_blocks(
     lambda: u64,
     radius: u8,
     four: bool,
+    limit: BitLimit,
     out: &mut [u8],
     start: usize,
     recon: &mut [u8],
@@ -88,8 +91,8 @@ fn write_blocks(
     vy: &mut [u8],
     stated: &mut [u32],
 ) -> WriteEnd
-    requires { ⌜ PlaneReady (givenBy canvas (now reference) (now book) (now codebook)) (now raised) (record { recon = now recon; vx = now vx; vy = now vy }) (length (now out)) start × (length (now source) ≡ canvas .width * canvas .height) ⌝ }
-    ensures { λ r. ⌜ ToldThrough (givenBy canvas (now (reference .entry)) (now (book .entry)) (now (codebook .entry))) (taskBy (now (source .entry)) lambda radius four) (now (out .entry)) start (record { recon = now (recon .entry); vx = now (vx .entry); vy = now (vy .entry) }) (now (stated .entry)) r (now (out .exit)) (record { recon = now (recon .exit); vx = now (vx .exit); vy = now (vy .exit) }) (now (stated .exit)) ⌝ }
+    requires { ⌜ PlaneReady (givenBy canvas (now reference) (now book) (now codebook)) (now raised) (record { recon = now recon; vx = now vx; vy = now vy }) (length (now out)) start × (length (now source) ≡ canvas .width * canvas .height) × Spends (givenBy canvas (now reference) (now book) (now codebook)) limit 0 0 ⌝ }
+    ensures { λ r. ⌜ ToldThrough (givenBy canvas (now (reference .entry)) (now (book .entry)) (now (codebook .entry))) (taskIn (now (source .entry)) lambda radius four (limitOf limit)) (now (out .entry)) start (record { recon = now (recon .entry); vx = now (vx .entry); vy = now (vy .entry) }) (now (stated .entry)) r (now (out .exit)) (record { recon = now (recon .exit); vx = now (vx .exit); vy = now (vy .exit) }) (now (stated .exit)) ⌝ }
 {
     let count = canvas.rows / 16 * (canvas.stride / 16);
     let mut k = 0;
@@ -107,6 +110,8 @@ fn write_blocks(
             lambda,
             radius,
             four,
+            limit,
+            bits,
             out,
             at,
             k,
@@ -149,6 +154,7 @@ fn write_raised(
     lambda: u64,
     radius: u8,
     four: bool,
+    limit: BitLimit,
     out: &mut [u8],
     start: usize,
     recon: &mut [u8],
@@ -157,8 +163,8 @@ fn write_raised(
     stated: &mut [u32],
     raised: &mut [u8],
 ) -> WriteEnd
-    requires { ⌜ PlaneAccepted (givenBy canvas (now reference) (now book) (now codebook)) (record { recon = now recon; vx = now vx; vy = now vy }) (length (now out)) start × (length (now source) ≡ canvas .width * canvas .height) × (length (now raised) ≡ codebookBytes) ⌝ }
-    ensures { λ r. ⌜ ToldThrough (givenBy canvas (now (reference .entry)) (now (book .entry)) (now (codebook .entry))) (taskBy (now (source .entry)) lambda radius four) (now (out .entry)) start (record { recon = now (recon .entry); vx = now (vx .entry); vy = now (vy .entry) }) (now (stated .entry)) r (now (out .exit)) (record { recon = now (recon .exit); vx = now (vx .exit); vy = now (vy .exit) }) (now (stated .exit)) ⌝ }
+    requires { ⌜ PlaneAccepted (givenBy canvas (now reference) (now book) (now codebook)) (record { recon = now recon; vx = now vx; vy = now vy }) (length (now out)) start × (length (now source) ≡ canvas .width * canvas .height) × (length (now raised) ≡ codebookBytes) × Spends (givenBy canvas (now reference) (now book) (now codebook)) limit 0 0 ⌝ }
+    ensures { λ r. ⌜ ToldThrough (givenBy canvas (now (reference .entry)) (now (book .entry)) (now (codebook .entry))) (taskIn (now (source .entry)) lambda radius four (limitOf limit)) (now (out .entry)) start (record { recon = now (recon .entry); vx = now (vx .entry); vy = now (vy .entry) }) (now (stated .entry)) r (now (out .exit)) (record { recon = now (recon .exit); vx = now (vx .exit); vy = now (vy .exit) }) (now (stated .exit)) ⌝ }
 {
     raise_codebook(codebook, raised);
     write_blocks(
@@ -171,6 +177,7 @@ fn write_raised(
         lambda,
         radius,
         four,
+        limit,
         out,
         start,
         recon,
@@ -190,6 +197,7 @@ pub fn write_accepted(
     lambda: u64,
     radius: u8,
     four: bool,
+    limit: BitLimit,
     out: &mut [u8],
     start: usize,
     recon: &mut [u8],
@@ -197,8 +205,8 @@ pub fn write_accepted(
     vy: &mut [u8],
     stated: &mut [u32],
 ) -> WriteEnd
-    requires { ⌜ PlaneAccepted (givenBy canvas (now reference) (now book) (now codebook)) (record { recon = now recon; vx = now vx; vy = now vy }) (length (now out)) start × (length (now source) ≡ canvas .width * canvas .height) ⌝ }
-    ensures { λ r. ⌜ ToldThrough (givenBy canvas (now (reference .entry)) (now (book .entry)) (now (codebook .entry))) (taskBy (now (source .entry)) lambda radius four) (now (out .entry)) start (record { recon = now (recon .entry); vx = now (vx .entry); vy = now (vy .entry) }) (now (stated .entry)) r (now (out .exit)) (record { recon = now (recon .exit); vx = now (vx .exit); vy = now (vy .exit) }) (now (stated .exit)) ⌝ }
+    requires { ⌜ PlaneAccepted (givenBy canvas (now reference) (now book) (now codebook)) (record { recon = now recon; vx = now vx; vy = now vy }) (length (now out)) start × (length (now source) ≡ canvas .width * canvas .height) × Spends (givenBy canvas (now reference) (now book) (now codebook)) limit 0 0 ⌝ }
+    ensures { λ r. ⌜ ToldThrough (givenBy canvas (now (reference .entry)) (now (book .entry)) (now (codebook .entry))) (taskIn (now (source .entry)) lambda radius four (limitOf limit)) (now (out .entry)) start (record { recon = now (recon .entry); vx = now (vx .entry); vy = now (vy .entry) }) (now (stated .entry)) r (now (out .exit)) (record { recon = now (recon .exit); vx = now (vx .exit); vy = now (vy .exit) }) (now (stated .exit)) ⌝ }
 {
     let mut raised = [0u8; 23040];
     write_raised(
@@ -210,6 +218,7 @@ pub fn write_accepted(
         lambda,
         radius,
         four,
+        limit,
         out,
         start,
         recon,

@@ -7,6 +7,7 @@ ghost use Rattle.plane_enc.specs.Writer.{endOf};
 use super::inner::write_accepted;
 use super::inner::write_refusal;
 use canvas::svq1_plane::Svq1PlaneCanvas;
+use macroblock_enc::inner::limit::BitLimit;
 
 // What writing a plane answers: the number of a refusal, or 0; the macroblocks done, which with 22 is the index of the one that does not fit;
 // the next bit; and the bits and the squared error of the macroblocks done.
@@ -107,6 +108,7 @@ pub fn encode_inter_plane_stated(
         lambda,
         radius,
         four,
+        BitLimit::Unlimited,
         out,
         start,
         recon,

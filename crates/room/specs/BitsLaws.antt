@@ -32,7 +32,9 @@ use Rattle.macroblock.specs.declared.svq1_enc_inter.Svq1MbMode.the-variants.{Sk
 use Rattle.macroblock.specs.Macroblock as mb
 use Rattle.macroblock.specs.Macroblock.{Given, Motion, still, single, four, Choice, motionMode, halfOf, vectorBits, motionBits, modeBits, choiceBits}
 use Rattle.macroblock.specs.Choice.{Task, motionsTried, planningFor, tried, chosen}
-use Rattle.macroblock.specs.MacroblockLaws.{Fine, all-map, Codables, planned-for, treeFor, motions-codable, chosen-one}
+use Rattle.bits.specs.ListLaws.{all-map}
+use Rattle.macroblock.specs.ChoiceLaws.{chosen-one}
+use Rattle.macroblock.specs.MacroblockLaws.{Fine, Codables, planned-for, treeFor, motions-codable}
 use Rattle.room.specs.Room.{longest, bookBits, anyBits}
 use Rattle.room.specs.LongestLaws.{code-longest, part-longest, good-longest}
 
@@ -154,5 +156,5 @@ module _ (g : Given) (t : Task) (ok : Fine g t) where
       (skip-few n, all-map (Codables n) (Few n) (λ m. mb.coded m (treeFor g t ok k m)) (motionsTried g t k n) (λ m c. coded-few k n m) (motions-codable g t ok k n))
 
   -- what is written has at most the book's bits
-  pub chosen-few : (k : ℕ) (n : Near) → length (choiceBits g n (chosen g t k n)) ≤ bookBits (g .book)
-  chosen-few k n = chosen-one g t ok (Few n) k n (tried-few k n)
+  pub chosen-few : (k : ℕ) (n : Near) (spent : ℕ) → length (choiceBits g n (chosen g t k n spent)) ≤ bookBits (g .book)
+  chosen-few k n spent = chosen-one g t (Few n) k n spent (tried-few k n)

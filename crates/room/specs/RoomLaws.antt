@@ -34,7 +34,7 @@ module _ (g : Given) (t : Task) (ok : Fine g t) (out : List ℕ) (start : ℕ) (
 
   bits-few : (k : ℕ) → wroteWeight g t k (S k) .bits ≤ b
   unfolding weightOf
-  bits-few k = le-trans (chosen-few g t ok k (near g (S k .slices) k)) few
+  bits-few k = le-trans (chosen-few g t ok k (near g (S k .slices) k) (S k .bits)) few
 
   stated : (k : ℕ) → wroteWeight g t k (S k) .bits ≡ length (wroteBits g t k (S k))
   unfolding weightOf

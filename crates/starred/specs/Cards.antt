@@ -20,6 +20,7 @@ use Rattle.bits.specs.Calls.{done}
 use Rattle.motion.specs.Search.{Search, searchAnswer}
 use Rattle.canvas.specs.Canvas.{padded16}
 use Rattle.macroblock.specs.Macroblock.{Given}
+use Rattle.macroblock.specs.Limit.{unlimited}
 use Rattle.macroblock.specs.Choice.{Task}
 use Rattle.plane.specs.Plane.{writePlane}
 use Rattle.job_file.specs.Job.{Job, jobIn}
@@ -39,7 +40,7 @@ flatGiven j reference = record {
 }
 
 abbrev pub flatTask : Job → ℕ → Task
-flatTask j source = record { source = replicate (j .width * j .height) source; lambda = j .lambda; radius = j .radius; allowFour = j .allowFour }
+flatTask j source = record { source = replicate (j .width * j .height) source; lambda = j .lambda; radius = j .radius; allowFour = j .allowFour; limit = unlimited }
 
 -- a search of a block in a flat square plane whose samples, and the target's, are all 100
 abbrev pub flatSearch : ℕ → ℕ → ℕ → ℕ → ℕ → Svq1Mv → Search

@@ -13,7 +13,7 @@ use Rattle.book.specs.declared.svq1_vlc.Svq1Half.the-variants.{Intra, Inter}
 use Rattle.vectors.specs.Vectors.{zeroMv, median, predicted, codable}
 use Rattle.mv_cache.specs.Neighbours.{Near, neighbourAt, nearOf}
 use Rattle.macroblock.specs.Macroblock.{Given, Motion, still, single, four, Choice, skipped, coded, halfOf, referenceBlock, baseline, shown, vectorBits, motionBits, choiceBits}
-use Rattle.macroblock.specs.Choice.{Task, paddedSource, target, singleTried, fourTried, motionsTried, planningFor, tried, weightOf, beats, bestOf, chosen}
+use Rattle.macroblock.specs.Choice.{Task, paddedSource, target, singleTried, fourTried, motionsTried, planningFor, tried, fitting, weightOf, beats, bestOf, chosen}
 use Rattle.macroblock.specs.Slices.{near}
 use Rattle.tree.specs.TreeBits.{Node, planTree, nodeBits, emit, treeBits, treeShown}
 use Rattle.job_file.specs.Job.{Job, jobRead, jobIn}
@@ -90,15 +90,15 @@ tried-are lambda a b =
     rw (motions-are lambda, one, two, three)
 
 -- INTRA wins at lambda 32; at the largest lambda all costs are equal and SKIP has the fewest bits
-chosen-at-32 : chosen (given 32) (task 32) 0 (around 32) ≡ coded still tree
-unfolding chosen bestOf beats weightOf codesOf msb houseBook houseFrom rank signedRank logUnder vectorBits motionBits choiceBits nodeBits emit treeBits leafBits stageBits shown treeShown rebuilt paintAt paint blockOf gather place placeUnder shownAt leafShown staged samples seeded saturate baseline movedBlock valuesFrom halfSample sampleAt referenceBlock part sse paddedSource target nearOf neighbourAt predicted median
+chosen-at-32 : chosen (given 32) (task 32) 0 (around 32) 0 ≡ coded still tree
+unfolding chosen fitting bestOf beats weightOf codesOf msb houseBook houseFrom rank signedRank logUnder vectorBits motionBits choiceBits nodeBits emit treeBits leafBits stageBits shown treeShown rebuilt paintAt paint blockOf gather place placeUnder shownAt leafShown staged samples seeded saturate baseline movedBlock valuesFrom halfSample sampleAt referenceBlock part sse paddedSource target nearOf neighbourAt predicted median
 chosen-at-32 = rw (tried-are 32 (tree-is Intra 32 (leaf-at-32 Intra)) (tree-is Inter 32 (leaf-at-32 Inter)))
 
 abbrev largest : ℕ
 largest = 18446744073709551615
 
-chosen-at-largest : chosen (given largest) (task largest) 0 (around largest) ≡ skipped
-unfolding chosen bestOf beats weightOf codesOf msb houseBook houseFrom rank signedRank logUnder vectorBits motionBits choiceBits nodeBits emit treeBits leafBits stageBits shown treeShown rebuilt paintAt paint blockOf gather place placeUnder shownAt leafShown staged samples seeded saturate baseline movedBlock valuesFrom halfSample sampleAt referenceBlock part sse paddedSource target nearOf neighbourAt predicted median
+chosen-at-largest : chosen (given largest) (task largest) 0 (around largest) 0 ≡ skipped
+unfolding chosen fitting bestOf beats weightOf codesOf msb houseBook houseFrom rank signedRank logUnder vectorBits motionBits choiceBits nodeBits emit treeBits leafBits stageBits shown treeShown rebuilt paintAt paint blockOf gather place placeUnder shownAt leafShown staged samples seeded saturate baseline movedBlock valuesFrom halfSample sampleAt referenceBlock part sse paddedSource target nearOf neighbourAt predicted median
 chosen-at-largest = rw (tried-are largest (tree-is Intra largest (leaf-at-largest Intra)) (tree-is Inter largest (leaf-at-largest Inter)))
 
 -- what they weigh

@@ -1,4 +1,5 @@
 -- The two calls, and the claim of what they leave. Assumes nothing.
+use mathlib.Core.Path.{refl}
 use native.Mathlib.Omega.{arith}
 use Rattle.bits.specs.Basics.{Bytes}
 use Rattle.macroblock.specs.Macroblock.{Given}
@@ -47,7 +48,7 @@ returns c =
     tripped g t (a .out .now) (a .start) (record { recon = a .recon .now; vx = a .vx .now; vy = a .vy .now }) (record { recon = a .back .now; vx = a .backx .now; vy = a .backy .now }) _ _ _
     (record { recon = c .before .before .before .before .before .before .before .before .before .before .before .before .before .before .before .before .before .before .before .encode-inter-plane .last .1 .1 .1 .1 .1 .1 .1 .1 .1 .1 .0; vx = c .before .before .before .before .before .before .before .before .before .before .before .before .before .before .before .before .before .before .before .encode-inter-plane .last .1 .1 .1 .1 .1 .1 .1 .1 .1 .1 .1 .0; vy = c .before .before .before .before .before .before .before .before .before .before .before .before .before .before .before .before .before .before .before .encode-inter-plane .last .1 .1 .1 .1 .1 .1 .1 .1 .1 .1 .1 .1 .0 })
     (record { recon = c .before .before .before .before .before .before .decode-inter-plane .last .1 .1 .1 .1 .1 .1 .0; vx = c .before .before .before .before .before .before .decode-inter-plane .last .1 .1 .1 .1 .1 .1 .1 .0; vy = c .before .before .before .before .before .before .decode-inter-plane .last .1 .1 .1 .1 .1 .1 .1 .1 .0 })
-    (record { source = source; reference = reference }) (c .before .before .before .before .before .before .before .before .before .before .before .before .before .before .before .before .before .before .before .encode-inter-plane .ensures) (c .before .before .before .before .before .before .decode-inter-plane .ensures)
+    refl (record { source = source; reference = reference }) (c .before .before .before .before .before .before .before .before .before .before .before .before .before .before .before .before .before .before .before .encode-inter-plane .ensures) (c .before .before .before .before .before .before .decode-inter-plane .ensures)
 
 pub round-trip-inter-plane-spec : {M : Type 1} → statement M
 round-trip-inter-plane-spec =

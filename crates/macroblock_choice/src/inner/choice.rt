@@ -5,10 +5,11 @@ ghost use Rattle.bits.specs.Basics.{All};
 ghost use Rattle.mv_cache.specs.Cache.{nearFrom};
 ghost use Rattle.mv_cache.specs.NeighboursLaws.{Around};
 ghost use Rattle.macroblock.specs.MacroblockLaws.{Codables};
+ghost use Rattle.macroblock.specs.Limit.{Limit};
 ghost use Rattle.macroblock.specs.Inner.{givenBy};
 ghost use Rattle.macroblock_search.specs.Searches.{motionsOf};
 ghost use Rattle.macroblock_choice.specs.Candidates.{Stated, Tried};
-ghost use Rattle.macroblock_choice.specs.Chosen.{Placing, Sourced, Carries, ChosenFor, ChosenBy, taskBy};
+ghost use Rattle.macroblock_choice.specs.Chosen.{Placing, Sourced, Carries, ChosenFor, ChosenBy, taskIn};
 use super::super::inner::candidates::MbCandidate;
 use super::super::inner::candidates::better;
 use super::super::inner::candidates::skip_candidate;
@@ -21,7 +22,7 @@ use macroblock_search::inner::motions::still_found;
 use macroblock_search::inner::target::target_block;
 use mv_cache::svq1_mv_cache::NearBlocks;
 
-// The best so far, or a motion that was found, if it is better.
+// The best so far, or a motion that was found, if it has room and is better.
 fn try_motion(
     canvas: Svq1PlaneCanvas,
     reference: &[u8],
@@ -34,9 +35,10 @@ fn try_motion(
     near: NearBlocks,
     found: FoundMotion,
     best: MbCandidate,
+    room: u64,
 ) -> MbCandidate
     requires { ⌜ Placing (givenBy canvas (now reference) (now book) (now codebook)) (now raised) k (now target) × All (Codables (nearFrom near)) (motionsOf found) × Carries (found .motion) (found .vectors) × Stated (givenBy canvas (now reference) (now book) (now codebook)) (now target) k (nearFrom near) best ⌝ }
-    ensures { λ r. ⌜ Tried (givenBy canvas (now (reference .entry)) (now (book .entry)) (now (codebook .entry))) (now (target .entry)) lambda k (nearFrom near) (motionsOf found) best r ⌝ }
+    ensures { λ r. ⌜ Tried (givenBy canvas (now (reference .entry)) (now (book .entry)) (now (codebook .entry))) (now (target .entry)) lambda room k (nearFrom near) (motionsOf found) best r ⌝ }
 {
     if found.found {
         let motion = found.motion;
@@ -54,12 +56,15 @@ fn try_motion(
             motion,
             vectors,
         );
+        if room < c.bits as u64 {
+            return best;
+        }
         return better(lambda, best, c);
     }
     best
 }
 
-// The best of all that are tried for a macroblock that is to show the target.
+// The best of all that are tried for a macroblock that is to show the target, SKIP and those of at most `room` bits.
 fn choose_for(
     canvas: Svq1PlaneCanvas,
     reference: &[u8],
@@ -72,9 +77,10 @@ fn choose_for(
     k: usize,
     near: NearBlocks,
     target: &[u8],
+    room: u64,
 ) -> MbCandidate
     requires { ⌜ Placing (givenBy canvas (now reference) (now book) (now codebook)) (now raised) k (now target) × Around (nearFrom near) ⌝ }
-    ensures { λ r. ⌜ ChosenFor (givenBy canvas (now (reference .entry)) (now (book .entry)) (now (codebook .entry))) (now (target .entry)) lambda radius four k (nearFrom near) r ⌝ }
+    ensures { λ r. ⌜ ChosenFor (givenBy canvas (now (reference .entry)) (now (book .entry)) (now (codebook .entry))) (now (target .entry)) lambda radius four room k (nearFrom near) r ⌝ }
 {
     let skip = skip_candidate(canvas, reference, book, k, target);
     let one = single_motion(canvas, reference, target, near, k, radius);
@@ -90,6 +96,7 @@ fn choose_for(
         near,
         one,
         skip,
+        room,
     );
     let none = still_found();
     let b = try_motion(
@@ -104,6 +111,7 @@ fn choose_for(
         near,
         none,
         a,
+        room,
     );
     let more = four_motion(canvas, reference, target, near, k, radius, four);
     try_motion(
@@ -118,6 +126,7 @@ fn choose_for(
         near,
         more,
         b,
+        room,
     )
 }
 
@@ -135,9 +144,10 @@ fn choose_over(
     k: usize,
     near: NearBlocks,
     target: &mut [u8],
+    room: u64,
 ) -> MbCandidate
     requires { ⌜ Sourced (givenBy canvas (now reference) (now book) (now codebook)) (now raised) (now source) k × Around (nearFrom near) × (length (now target) ≡ 256) ⌝ }
-    ensures { λ r. ⌜ ChosenBy (givenBy canvas (now (reference .entry)) (now (book .entry)) (now (codebook .entry))) (taskBy (now (source .entry)) lambda radius four) k (nearFrom near) r ⌝ }
+    ensures { λ r. ⌜ ((l : Limit) → ChosenBy (givenBy canvas (now (reference .entry)) (now (book .entry)) (now (codebook .entry))) (taskIn (now (source .entry)) lambda radius four l) room k (nearFrom near) r) ⌝ }
 {
     target_block(canvas, source, k, target);
     choose_for(
@@ -152,6 +162,7 @@ fn choose_over(
         k,
         near,
         target,
+        room,
     )
 }
 
@@ -167,9 +178,10 @@ pub fn choose_macroblock(
     four: bool,
     k: usize,
     near: NearBlocks,
+    room: u64,
 ) -> MbCandidate
     requires { ⌜ Sourced (givenBy canvas (now reference) (now book) (now codebook)) (now raised) (now source) k × Around (nearFrom near) ⌝ }
-    ensures { λ r. ⌜ ChosenBy (givenBy canvas (now (reference .entry)) (now (book .entry)) (now (codebook .entry))) (taskBy (now (source .entry)) lambda radius four) k (nearFrom near) r ⌝ }
+    ensures { λ r. ⌜ ((l : Limit) → ChosenBy (givenBy canvas (now (reference .entry)) (now (book .entry)) (now (codebook .entry))) (taskIn (now (source .entry)) lambda radius four l) room k (nearFrom near) r) ⌝ }
 {
     let mut target = [0u8; 256];
     choose_over(
@@ -185,5 +197,6 @@ pub fn choose_macroblock(
         k,
         near,
         &mut target,
+        room,
     )
 }

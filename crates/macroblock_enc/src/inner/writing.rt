@@ -12,7 +12,10 @@ ghost use Rattle.macroblock.specs.Motions.{motionOf};
 ghost use Rattle.macroblock.specs.Inner.{byBook, givenBy};
 ghost use Rattle.macroblock_choice.specs.Candidates.{skips, choiceOf};
 ghost use Rattle.macroblock_enc.specs.Written.{CodedRoom, PutReady, LayReady, LaysCandidate, WriteReady, CandidateWritten, CandidateLaid, MbReady, MbWritten};
-ghost use Rattle.macroblock_choice.specs.Chosen.{taskBy};
+ghost use Rattle.macroblock_enc.specs.Limits.{limitOf, Spends};
+ghost use Rattle.macroblock_choice.specs.Chosen.{taskIn};
+use super::super::inner::limit::BitLimit;
+use super::super::inner::limit::room_at;
 use canvas::svq1_plane::Svq1PlaneCanvas;
 use macroblock::inner::laying::lay_choice;
 use macroblock::inner::samples::half_of;
@@ -160,7 +163,8 @@ fn write_chosen(
     }
 }
 
-// Macroblock k of a plane, from bit `at` of `out` on: the best of the ways that are tried for it. `raised` is the raised codebook.
+// Macroblock k of a plane, from bit `at` of `out` on: the best of the ways that are tried for it and fit, with so many bits spent on those before it.
+// `raised` is the raised codebook.
 pub fn write_macroblock(
     canvas: Svq1PlaneCanvas,
     source: &[u8],
@@ -171,6 +175,8 @@ pub fn write_macroblock(
     lambda: u64,
     radius: u8,
     four: bool,
+    limit: BitLimit,
+    spent: u64,
     out: &mut [u8],
     at: usize,
     k: usize,
@@ -178,12 +184,13 @@ pub fn write_macroblock(
     vx: &mut [u8],
     vy: &mut [u8],
 ) -> WrittenMb
-    requires { ⌜ MbReady (givenBy canvas (now reference) (now book) (now codebook)) (now raised) (now source) k (length (now out)) at (record { recon = now recon; vx = now vx; vy = now vy }) ⌝ }
-    ensures { λ r. ⌜ MbWritten (givenBy canvas (now (reference .entry)) (now (book .entry)) (now (codebook .entry))) (taskBy (now (source .entry)) lambda radius four) k (now (out .entry)) at (record { recon = now (recon .entry); vx = now (vx .entry); vy = now (vy .entry) }) r (now (out .exit)) (record { recon = now (recon .exit); vx = now (vx .exit); vy = now (vy .exit) }) ⌝ }
+    requires { ⌜ MbReady (givenBy canvas (now reference) (now book) (now codebook)) (now raised) (now source) k (length (now out)) at (record { recon = now recon; vx = now vx; vy = now vy }) × Spends (givenBy canvas (now reference) (now book) (now codebook)) limit k spent ⌝ }
+    ensures { λ r. ⌜ MbWritten (givenBy canvas (now (reference .entry)) (now (book .entry)) (now (codebook .entry))) (taskIn (now (source .entry)) lambda radius four (limitOf limit)) k spent (now (out .entry)) at (record { recon = now (recon .entry); vx = now (vx .entry); vy = now (vy .entry) }) r (now (out .exit)) (record { recon = now (recon .exit); vx = now (vx .exit); vy = now (vy .exit) }) ⌝ }
 {
     let cols = blocks_along(canvas.width);
     let rows = blocks_along(canvas.height);
     let near = near_blocks(vx, vy, cols, rows, k);
+    let room = room_at(limit, spent, book, cols, rows, k);
     let c = choose_macroblock(
         canvas,
         source,
@@ -196,6 +203,7 @@ pub fn write_macroblock(
         four,
         k,
         near,
+        room,
     );
     write_chosen(
         canvas,

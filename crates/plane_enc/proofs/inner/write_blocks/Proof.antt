@@ -5,11 +5,12 @@ use lib.ListN.{length}
 use Rattle.bits.specs.Bits.{bitsOf}
 use Rattle.macroblock.specs.Macroblock.{Given}
 use Rattle.macroblock.specs.Choice.{Task}
-use Rattle.macroblock_choice.specs.Chosen.{taskBy}
+use Rattle.macroblock_choice.specs.Chosen.{taskIn}
 use Rattle.macroblock.specs.Slices.{Slices}
 use Rattle.macroblock.specs.Inner.{givenBy}
 use Rattle.plane.specs.Plane.{count}
 use Rattle.plane.specs.ReaderLaws.{count-by, count-most}
+use Rattle.macroblock_enc.specs.Limits.{limitOf}
 use Rattle.plane_enc.specs.Stated.{Telling}
 use Rattle.plane_enc.specs.StatedLaws.{length-in, telling-begun, telling-turn}
 use Rattle.plane_enc.specs.Writer.{Underway}
@@ -20,12 +21,12 @@ use Rattle.plane_enc.proofs.inner.write_blocks.Statement.{statement}
 use Rattle.plane_enc.proofs.inner.write_blocks.Tie as tie
 
 abbrev Inv-loop : tie.InvT-loop
-Inv-loop canvas source reference book codebook raised lambda radius four out₀ start recon₀ vx₀ vy₀ stated₀ count k₀ at₀ bits₀ error₀ out recon vx vy stated k at bits error =
-    Underway (givenBy canvas reference book codebook) (taskBy source lambda radius four) out₀ start (record { recon = recon₀; vx = vx₀; vy = vy₀ }) out (record { recon = recon; vx = vx; vy = vy }) k at bits error
-    × Telling (givenBy canvas reference book codebook) (taskBy source lambda radius four) (bitsOf out₀) start (record { recon = recon₀; vx = vx₀; vy = vy₀ }) stated₀ (record { recon = recon; vx = vx; vy = vy }) stated k
+Inv-loop canvas source reference book codebook raised lambda radius four limit out₀ start recon₀ vx₀ vy₀ stated₀ count k₀ at₀ bits₀ error₀ out recon vx vy stated k at bits error =
+    Underway (givenBy canvas reference book codebook) (taskIn source lambda radius four (limitOf limit)) out₀ start (record { recon = recon₀; vx = vx₀; vy = vy₀ }) out (record { recon = recon; vx = vx; vy = vy }) k at bits error
+    × Telling (givenBy canvas reference book codebook) (taskIn source lambda radius four (limitOf limit)) (bitsOf out₀) start (record { recon = recon₀; vx = vx₀; vy = vy₀ }) stated₀ (record { recon = recon; vx = vx; vy = vy }) stated k bits
 
 abbrev μ-loop : tie.MeasureT-loop
-μ-loop canvas source reference book codebook raised lambda radius four out₀ start recon₀ vx₀ vy₀ stated₀ count k₀ at₀ bits₀ error₀ out recon vx vy stated k at bits error = count - k
+μ-loop canvas source reference book codebook raised lambda radius four limit out₀ start recon₀ vx₀ vy₀ stated₀ count k₀ at₀ bits₀ error₀ out recon vx vy stated k at bits error = count - k
 
 mul-count : tie.Need-mul-count Inv-loop μ-loop
 mul-count c =
@@ -39,9 +40,9 @@ loop-holds c =
     let s = c .before .before .before .before .before .before .before .before .before .before .before .before in
     let a = s .args in
     let g : Given = givenBy (a .canvas) (a .reference .now) (a .book .now) (a .codebook .now) in
-    let t : Task = taskBy (a .source .now) (a .lambda) (a .radius) (a .four) in
+    let t : Task = taskIn (a .source .now) (a .lambda) (a .radius) (a .four) (limitOf (a .limit)) in
     let u : Slices = record { recon = a .recon .now; vx = a .vx .now; vy = a .vy .now } in (
-      begun g (a .raised .now) t (λ j. c .before .before .before .before .before .before .before .before .before .before .before .shared-slice-known .given j .fits) (λ j. c .before .before .before .before .before .before .before .before .before .before .shared-slice-known2 .given j .fits) (a .out .now) (a .start) u (s .pre .0) (s .pre .1),
+      begun g (a .raised .now) t (λ j. c .before .before .before .before .before .before .before .before .before .before .before .shared-slice-known .given j .fits) (λ j. c .before .before .before .before .before .before .before .before .before .before .shared-slice-known2 .given j .fits) (a .out .now) (a .start) u (s .pre .0) (s .pre .1) (s .pre .2 .skips-rest),
       telling-begun g t (bitsOf (a .out .now)) (a .start) u (a .stated .now),
     )
 
@@ -50,22 +51,22 @@ write-macroblock-requires c κs =
     let s = c .before .before .before .before .before .before .before .before .before .before .before .before .before .before .before .before .before .before in
     let a = s .args in
     let g : Given = givenBy (a .canvas) (a .reference .now) (a .book .now) (a .codebook .now) in
-    let t : Task = taskBy (a .source .now) (a .lambda) (a .radius) (a .four) in
+    let t : Task = taskIn (a .source .now) (a .lambda) (a .radius) (a .four) (limitOf (a .limit)) in
     let u : Slices = record { recon = a .recon .now; vx = a .vx .now; vy = a .vy .now } in
     let l = c .before .before .before .before .before .loop in
-    ready g (a .raised .now) t (λ j. c .before .before .before .before .before .before .before .before .before .before .before .before .before .before .before .before .before .shared-slice-known .given j .fits) (λ j. c .before .before .before .before .before .before .before .before .before .before .before .before .before .before .before .before .shared-slice-known2 .given j .fits) (a .out .now) (a .start) u (s .pre .0) (s .pre .1) _ _ (l .k) (l .at) (l .bits) (l .error) (l .inv .0) (rw (count-by g (a .raised .now) (s .pre .0 .ok)) at (c .before .before .before .before .loop-test .taken))
+    (ready g (a .raised .now) t (λ j. c .before .before .before .before .before .before .before .before .before .before .before .before .before .before .before .before .before .shared-slice-known .given j .fits) (λ j. c .before .before .before .before .before .before .before .before .before .before .before .before .before .before .before .before .shared-slice-known2 .given j .fits) (a .out .now) (a .start) u (s .pre .0) (s .pre .1) _ _ (l .k) (l .at) (l .bits) (l .error) (l .inv .0) (rw (count-by g (a .raised .now) (s .pre .0 .ok)) at (c .before .before .before .before .loop-test .taken)), record { skips-rest = l .inv .0 .skips-rest; few = s .pre .2 .few })
 
 same-length : tie.Need-same-length Inv-loop μ-loop
-same-length c = c .before .before .before .before .before .before .before .before .before .before .write-macroblock .kept .1 .1 .1 .1 .1 .1 .1 .1 .1 .0 ∙ c .before .before .before .before .before .before .before .before .before .before .before .before .before .before .before .before .loop .inv .0 .out-same
+same-length c = c .before .before .before .before .before .before .before .before .before .before .write-macroblock .kept .1 .1 .1 .1 .1 .1 .1 .1 .1 .1 .1 .0 ∙ c .before .before .before .before .before .before .before .before .before .before .before .before .before .before .before .before .loop .inv .0 .out-same
 
 same-length-2 : tie.Need-same-length-2 Inv-loop μ-loop
-same-length-2 c = c .before .before .before .before .before .before .before .before .before .before .write-macroblock .kept .1 .1 .1 .1 .1 .1 .1 .1 .1 .1 .1 .1 .0 ∙ c .before .before .before .before .before .before .before .before .before .before .before .before .before .before .before .before .loop .inv .0 .recon-same
+same-length-2 c = c .before .before .before .before .before .before .before .before .before .before .write-macroblock .kept .1 .1 .1 .1 .1 .1 .1 .1 .1 .1 .1 .1 .1 .1 .0 ∙ c .before .before .before .before .before .before .before .before .before .before .before .before .before .before .before .before .loop .inv .0 .recon-same
 
 same-length-3 : tie.Need-same-length-3 Inv-loop μ-loop
-same-length-3 c = c .before .before .before .before .before .before .before .before .before .before .write-macroblock .kept .1 .1 .1 .1 .1 .1 .1 .1 .1 .1 .1 .1 .1 .0 ∙ c .before .before .before .before .before .before .before .before .before .before .before .before .before .before .before .before .loop .inv .0 .vx-same
+same-length-3 c = c .before .before .before .before .before .before .before .before .before .before .write-macroblock .kept .1 .1 .1 .1 .1 .1 .1 .1 .1 .1 .1 .1 .1 .1 .1 .0 ∙ c .before .before .before .before .before .before .before .before .before .before .before .before .before .before .before .before .loop .inv .0 .vx-same
 
 same-length-4 : tie.Need-same-length-4 Inv-loop μ-loop
-same-length-4 c = c .before .before .before .before .before .before .before .before .before .before .write-macroblock .kept .1 .1 .1 .1 .1 .1 .1 .1 .1 .1 .1 .1 .1 .1 .0 ∙ c .before .before .before .before .before .before .before .before .before .before .before .before .before .before .before .before .loop .inv .0 .vy-same
+same-length-4 c = c .before .before .before .before .before .before .before .before .before .before .write-macroblock .kept .1 .1 .1 .1 .1 .1 .1 .1 .1 .1 .1 .1 .1 .1 .1 .1 .0 ∙ c .before .before .before .before .before .before .before .before .before .before .before .before .before .before .before .before .loop .inv .0 .vy-same
 
 same-length-5 : tie.Need-same-length-5 Inv-loop μ-loop
 same-length-5 c = ap length (c .before .before .before .before .before .before .before .before .before .before .before .before .before .before .before .before .loop .inv .1 .stated) ∙ length-in _ _ _ _ _ _ _
@@ -75,7 +76,7 @@ returns c =
     let s = c .before .before .before .before .before .before .before .before .before .before .before .before .before .before .before .before .before .before .before .before .before .before .before .before .before .before .before .before .before in
     let a = s .args in
     let g : Given = givenBy (a .canvas) (a .reference .now) (a .book .now) (a .codebook .now) in
-    let t : Task = taskBy (a .source .now) (a .lambda) (a .radius) (a .four) in
+    let t : Task = taskIn (a .source .now) (a .lambda) (a .radius) (a .four) (limitOf (a .limit)) in
     let u : Slices = record { recon = a .recon .now; vx = a .vx .now; vy = a .vy .now } in
     let l = c .before .before .before .before .before .before .before .before .before .before .before .before .before .before .before .before .loop in
     let h : l .k < count g = rw (count-by g (a .raised .now) (s .pre .0 .ok)) at (c .before .before .before .before .before .before .before .before .before .before .before .before .before .before .before .loop-test .taken) in
@@ -95,7 +96,7 @@ add-bits c =
     let s = c .before .before .before .before .before .before .before .before .before .before .before .before .before .before .before .before .before .before .before .before .before .before .before .before .before .before .before .before .before .before .before .before .before .before in
     let a = s .args in
     let g : Given = givenBy (a .canvas) (a .reference .now) (a .book .now) (a .codebook .now) in
-    let t : Task = taskBy (a .source .now) (a .lambda) (a .radius) (a .four) in
+    let t : Task = taskIn (a .source .now) (a .lambda) (a .radius) (a .four) (limitOf (a .limit)) in
     let u : Slices = record { recon = a .recon .now; vx = a .vx .now; vy = a .vy .now } in
     let l = c .before .before .before .before .before .before .before .before .before .before .before .before .before .before .before .before .before .before .before .before .before .loop in
     let h : l .k < count g = rw (count-by g (a .raised .now) (s .pre .0 .ok)) at (c .before .before .before .before .before .before .before .before .before .before .before .before .before .before .before .before .before .before .before .before .loop-test .taken) in
@@ -109,7 +110,7 @@ add-error c =
     let s = c .before .before .before .before .before .before .before .before .before .before .before .before .before .before .before .before .before .before .before .before .before .before .before .before .before .before .before .before .before .before .before .before .before .before .before in
     let a = s .args in
     let g : Given = givenBy (a .canvas) (a .reference .now) (a .book .now) (a .codebook .now) in
-    let t : Task = taskBy (a .source .now) (a .lambda) (a .radius) (a .four) in
+    let t : Task = taskIn (a .source .now) (a .lambda) (a .radius) (a .four) (limitOf (a .limit)) in
     let u : Slices = record { recon = a .recon .now; vx = a .vx .now; vy = a .vy .now } in
     let l = c .before .before .before .before .before .before .before .before .before .before .before .before .before .before .before .before .before .before .before .before .before .before .loop in
     let h : l .k < count g = rw (count-by g (a .raised .now) (s .pre .0 .ok)) at (c .before .before .before .before .before .before .before .before .before .before .before .before .before .before .before .before .before .before .before .before .before .loop-test .taken) in
@@ -130,13 +131,13 @@ loop-again c =
     let s = c .before .before .before .before .before .before .before .before .before .before .before .before .before .before .before .before .before .before .before .before .before .before .before .before .before .before .before .before .before .before .before .before .before .before .before in
     let a = s .args in
     let g : Given = givenBy (a .canvas) (a .reference .now) (a .book .now) (a .codebook .now) in
-    let t : Task = taskBy (a .source .now) (a .lambda) (a .radius) (a .four) in
+    let t : Task = taskIn (a .source .now) (a .lambda) (a .radius) (a .four) (limitOf (a .limit)) in
     let u : Slices = record { recon = a .recon .now; vx = a .vx .now; vy = a .vy .now } in
     let l = c .before .before .before .before .before .before .before .before .before .before .before .before .before .before .before .before .before .before .before .before .before .before .loop in
     let h : l .k < count g = rw (count-by g (a .raised .now) (s .pre .0 .ok)) at (c .before .before .before .before .before .before .before .before .before .before .before .before .before .before .before .before .before .before .before .before .before .loop-test .taken) in
     let w = c .before .before .before .before .before .before .before .before .before .before .before .before .before .before .before .before .write-macroblock in (
-      turn g (a .raised .now) t (λ j. c .before .before .before .before .before .before .before .before .before .before .before .before .before .before .before .before .before .before .before .before .before .before .before .before .before .before .before .before .before .before .before .before .before .before .shared-slice-known .given j .fits) (λ j. c .before .before .before .before .before .before .before .before .before .before .before .before .before .before .before .before .before .before .before .before .before .before .before .before .before .before .before .before .before .before .before .before .before .shared-slice-known2 .given j .fits) (a .out .now) (a .start) u (s .pre .0) (s .pre .1) _ _ (l .k) (l .at) (l .bits) (l .error) (l .inv .0) _ _ _ h (w .ensures) (w .kept .1 .1 .1 .1 .1 .1 .1 .1 .1 .0) (c .before .before .before .before .before .before .if1 .left),
-      telling-turn g t (bitsOf (a .out .now)) (a .start) u (a .stated .now) (l .k) _ (l .at) _ _ _ _ (w .ensures) _ _ (c .before .before .before .before .before .before .if1 .left) (l .inv .1) (c .before .before .before .before .tell .ensures),
+      turn g (a .raised .now) t (λ j. c .before .before .before .before .before .before .before .before .before .before .before .before .before .before .before .before .before .before .before .before .before .before .before .before .before .before .before .before .before .before .before .before .before .before .shared-slice-known .given j .fits) (λ j. c .before .before .before .before .before .before .before .before .before .before .before .before .before .before .before .before .before .before .before .before .before .before .before .before .before .before .before .before .before .before .before .before .before .shared-slice-known2 .given j .fits) (a .out .now) (a .start) u (s .pre .0) (s .pre .1) _ _ (l .k) (l .at) (l .bits) (l .error) (l .inv .0) _ _ _ h (w .ensures) (w .kept .1 .1 .1 .1 .1 .1 .1 .1 .1 .1 .1 .0) (c .before .before .before .before .before .before .if1 .left),
+      telling-turn g t (bitsOf (a .out .now)) (a .start) u (a .stated .now) (l .k) (l .bits) _ (l .at) _ _ _ _ (w .ensures) _ _ (c .before .before .before .before .before .before .if1 .left) (l .inv .1) (c .before .before .before .before .tell .ensures),
     )
 
 same-length-6 : tie.Need-same-length-6 Inv-loop μ-loop
@@ -159,7 +160,7 @@ returns-2 c =
     let s = c .before .before .before .before .before .before .before .before .before .before .before .before .before .before in
     let a = s .args in
     let g : Given = givenBy (a .canvas) (a .reference .now) (a .book .now) (a .codebook .now) in
-    let t : Task = taskBy (a .source .now) (a .lambda) (a .radius) (a .four) in
+    let t : Task = taskIn (a .source .now) (a .lambda) (a .radius) (a .four) (limitOf (a .limit)) in
     let u : Slices = record { recon = a .recon .now; vx = a .vx .now; vy = a .vy .now } in
     let l = c .before .loop in
     record {

@@ -11,7 +11,7 @@ write-blocks-requires : tie.Need-write-blocks-requires
 write-blocks-requires c κs =
     let s = c .before .before .before .before .before .before .before .before .before .before .before .before .before .before .before .before .before .before .before .before in
     let p = s .pre .0 in
-    (record { ok = record { size = p .size; canvas = p .canvas; tables = p .tables; copy = c .before .before .before .before .before .before .before .before .raise-codebook .ensures }; held = p .held; from = p .from }, s .pre .1)
+    (record { ok = record { size = p .size; canvas = p .canvas; tables = p .tables; copy = c .before .before .before .before .before .before .before .before .raise-codebook .ensures }; held = p .held; from = p .from }, s .pre .1, s .pre .3)
 
 same-length : tie.Need-same-length
 same-length c = search needs

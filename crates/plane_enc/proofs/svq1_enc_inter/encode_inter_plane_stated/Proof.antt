@@ -1,5 +1,6 @@
 -- Refused, or written to its end and told. Assumes nothing.
-use mathlib.Core.Path.{sym, _∙_}
+use mathlib.Core.Path.{refl, sym, _∙_}
+use native.Mathlib.Omega.{arith}
 use Rattle.bits.specs.Bits.{bitsOf}
 use Rattle.macroblock.specs.Macroblock.{Given}
 use Rattle.macroblock.specs.Choice.{Task}
@@ -32,7 +33,8 @@ write-accepted-requires c κs =
     let g : Given = givenBy (a .canvas) (a .reference .now) (a .book .now) (a .codebook .now) in
     let t : Task = taskBy (a .source .now) (a .lambda) (a .radius) (a .four) in
     let u : Slices = record { recon = a .recon .now; vx = a .vx .now; vy = a .vy .now } in
-    write-accepted g t (a .out .now) (a .start) u (sym (c .before .before .before .before .before .before .write-refusal .ensures ∙ refusal-is g t (a .out .now) (a .start) u) ∙ c .before .before .before .before .before .if1 .left)
+    let w = write-accepted g t (a .out .now) (a .start) u (sym (c .before .before .before .before .before .before .write-refusal .ensures ∙ refusal-is g t (a .out .now) (a .start) u) ∙ c .before .before .before .before .before .if1 .left) in
+    (w .0, w .1, record { skips-rest = refl; few = omega arith })
 
 same-length : tie.Need-same-length
 same-length c = search needs
