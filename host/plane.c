@@ -45,7 +45,7 @@ void plane_free(struct plane *p)
 
 struct cabunlis_answer plane_write(struct plane *p, const uint8_t *book, const uint8_t *codebook, uint64_t lambda, uint8_t radius, uint8_t four, size_t start)
 {
-    return cabunlis_encode_inter_plane(
+    return cabunlis_encode_inter_plane_stated(
         p->width, p->height, p->stride, p->rows,
         p->source, p->width * p->height,
         p->reference, p->stride * p->rows,

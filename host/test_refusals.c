@@ -65,9 +65,16 @@ static int untouched(void)
 
 static struct cabunlis_answer wrote(const struct call *c)
 {
-    return cabunlis_encode_inter_plane(
+    return cabunlis_encode_inter_plane_stated(
         c->width, c->height, c->stride, c->rows, source, c->source, reference, c->reference, c->tables, c->book, codebook, c->codebook, 32, 2, 1,
         c->string, c->out, c->start, recon, c->recon, vx, c->vx, vy, c->vy, stated, 3 * MACROBLOCKS);
+}
+
+static struct cabunlis_answer wrote_plain(const struct call *c)
+{
+    return cabunlis_encode_inter_plane(
+        c->width, c->height, c->stride, c->rows, source, c->source, reference, c->reference, c->tables, c->book, codebook, c->codebook, 32, 2, 1,
+        c->string, c->out, c->start, recon, c->recon, vx, c->vx, vy, c->vy);
 }
 
 static struct cabunlis_answer read_it(const struct call *c)
@@ -82,10 +89,13 @@ static int bare(const struct cabunlis_answer *a, uint32_t refusal)
     return a->refusal == refusal && a->macroblock == 0 && a->done == 0 && a->next == 0 && a->bits == 0 && a->error == 0;
 }
 
-/* Both calls answer this refusal, or the writer alone. */
+/* Both writers and the reader answer this refusal, or the writers alone. */
 static void refused(const struct call *c, uint32_t refusal, int writer_alone)
 {
     struct cabunlis_answer a = wrote(c);
+    CHECK(bare(&a, refusal));
+    CHECK(untouched());
+    a = wrote_plain(c);
     CHECK(bare(&a, refusal));
     CHECK(untouched());
     if (writer_alone)

@@ -1,4 +1,5 @@
 /* Random planes, every slice against a page that may not be touched, written from a bit of its own and read back. */
+#include <stdlib.h>
 #include <string.h>
 
 #include "check.h"
@@ -68,10 +69,24 @@ static void one(uint64_t *state, enum guard_side side)
     memcpy(l.g[BOOK].bytes, plain ? tables()->plain : tables()->book, CABUNLIS_BOOK_BYTES);
     memcpy(l.g[CODEBOOK].bytes, tables()->codebook, CABUNLIS_CODEBOOK_BYTES);
     memset(out, 0xb7, room);
-    struct cabunlis_answer a = cabunlis_encode_inter_plane(
+    struct cabunlis_answer a = cabunlis_encode_inter_plane_stated(
         w, h, stride, rows, l.g[SOURCE].bytes, w * h, l.g[REFERENCE].bytes, canvas, l.g[BOOK].bytes, CABUNLIS_BOOK_BYTES,
         l.g[CODEBOOK].bytes, CABUNLIS_CODEBOOK_BYTES, lambda, radius, four,
         out, room, start, l.g[RECON].bytes, canvas, l.g[VX].bytes, 4 * blocks, l.g[VY].bytes, 4 * blocks, stated, 3 * blocks);
+    /* the entry without `stated` answers and leaves the same */
+    uint8_t *again = host_memory(room);
+    memset(again, 0xb7, room);
+    struct cabunlis_answer b = cabunlis_encode_inter_plane(
+        w, h, stride, rows, l.g[SOURCE].bytes, w * h, l.g[REFERENCE].bytes, canvas, l.g[BOOK].bytes, CABUNLIS_BOOK_BYTES,
+        l.g[CODEBOOK].bytes, CABUNLIS_CODEBOOK_BYTES, lambda, radius, four,
+        again, room, start, l.g[RECON2].bytes, canvas, l.g[VX2].bytes, 4 * blocks, l.g[VY2].bytes, 4 * blocks);
+    CHECK(a.refusal == b.refusal && a.macroblock == b.macroblock && a.done == b.done && a.next == b.next && a.bits == b.bits && a.error == b.error);
+    CHECK(memcmp(out, again, room) == 0 && memcmp(l.g[RECON].bytes, l.g[RECON2].bytes, canvas) == 0);
+    CHECK(memcmp(l.g[VX].bytes, l.g[VX2].bytes, 4 * blocks) == 0 && memcmp(l.g[VY].bytes, l.g[VY2].bytes, 4 * blocks) == 0);
+    free(again);
+    memset(l.g[RECON2].bytes, 0, canvas);
+    memset(l.g[VX2].bytes, 0, 4 * blocks);
+    memset(l.g[VY2].bytes, 0, 4 * blocks);
     CHECK(a.refusal == 0 && a.done == blocks && a.next == start + a.bits);
     uint64_t bits = 0, error = 0;
     for (size_t k = 0; k < blocks; k++) {

@@ -34,7 +34,6 @@
  *     enum { W = 176, H = 144, BLOCKS = (W / 16) * (H / 16) };
  *     static uint8_t book[CABUNLIS_BOOK_BYTES], codebook[CABUNLIS_CODEBOOK_BYTES];
  *     static uint8_t source[W * H], reference[W * H], recon[W * H], vx[4 * BLOCKS], vy[4 * BLOCKS];
- *     uint32_t stated[3 * BLOCKS];
  *
  *     cabunlis_house_book(book, sizeof book);
  *     cabunlis_house_codebook(codebook, sizeof codebook);
@@ -42,7 +41,7 @@
  *     uint8_t *out = malloc(room);
  *     struct cabunlis_answer a = cabunlis_encode_inter_plane(
  *         W, H, W, H, source, sizeof source, reference, sizeof reference, book, sizeof book, codebook, sizeof codebook,
- *         32, 8, 1, out, room, 0, recon, sizeof recon, vx, sizeof vx, vy, sizeof vy, stated, 3 * BLOCKS);
+ *         32, 8, 1, out, room, 0, recon, sizeof recon, vx, sizeof vx, vy, sizeof vy);
  *     // a.refusal is 0, a.done is BLOCKS, a.next is the plane's last bit + 1: send (a.next + 7) / 8 bytes
  *     struct cabunlis_answer b = cabunlis_decode_inter_plane(
  *         W, H, W, H, reference, sizeof reference, book, sizeof book, codebook, sizeof codebook,
@@ -131,14 +130,6 @@ struct cabunlis_answer {
     uint64_t error;    /* writer: their squared error against the source, its last column and row repeated; reader: 0 */
 };
 
-/* What the writer says of one macroblock, three numbers in `stated`. */
-enum cabunlis_mode {
-    CABUNLIS_INTER = 0,
-    CABUNLIS_INTER_4MV = 1,
-    CABUNLIS_INTRA = 2,
-    CABUNLIS_SKIP = 3
-};
-
 /*
  * Writes a plane from bit `start` of `out` on.
  *
@@ -150,12 +141,36 @@ enum cabunlis_mode {
  *
  * Leaves: in `out` the bits of the macroblocks done, zeros behind them to the end of their last byte, everything else as it was,
  * the bits before `start` too (where none is done, every byte); in `recon` their samples as a reader shows them; in `vx` and `vy`
- * their vectors; in `stated` three numbers for each macroblock done, as far as it has room for all three: its mode (enum
- * cabunlis_mode), its bits, its squared error. `stated` may be empty.
+ * their vectors.
  *
  * Refusals: 1 to 7, 20, 21; 22 with the macroblock that does not fit.
  */
 struct cabunlis_answer cabunlis_encode_inter_plane(
+    size_t width, size_t height, size_t stride, size_t rows,
+    const uint8_t *source, size_t source_length,
+    const uint8_t *reference, size_t reference_length,
+    const uint8_t *book, size_t book_length,
+    const uint8_t *codebook, size_t codebook_length,
+    uint64_t lambda, uint8_t radius, uint8_t four,
+    uint8_t *out, size_t out_length, size_t start,
+    uint8_t *recon, size_t recon_length,
+    uint8_t *vx, size_t vx_length,
+    uint8_t *vy, size_t vy_length);
+
+/* How a macroblock is coded. */
+enum cabunlis_mode {
+    CABUNLIS_INTER = 0,
+    CABUNLIS_INTER_4MV = 1,
+    CABUNLIS_INTRA = 2,
+    CABUNLIS_SKIP = 3
+};
+
+/*
+ * The same, and in `stated` three numbers for each macroblock done, as far as it has room for all three: its mode (enum
+ * cabunlis_mode), its bits, its squared error. What lies behind them stays. `stated` is aligned as a uint32_t is, to four bytes; its
+ * length is in numbers, not in bytes, and may be 0.
+ */
+struct cabunlis_answer cabunlis_encode_inter_plane_stated(
     size_t width, size_t height, size_t stride, size_t rows,
     const uint8_t *source, size_t source_length,
     const uint8_t *reference, size_t reference_length,

@@ -46,8 +46,6 @@ unsafe extern "C" {
         vx_length: usize,
         vy: *mut u8,
         vy_length: usize,
-        stated: *mut u32,
-        stated_length: usize,
     ) -> Answer;
 
     fn cabunlis_decode_inter_plane(
@@ -130,8 +128,6 @@ impl Lent {
                 self.vx.len(),
                 self.vy.as_mut_ptr(),
                 self.vy.len(),
-                [0u32; 1].as_mut_ptr(),
-                0,
             )
         }
     }

@@ -43,7 +43,7 @@ impl HostAnswer {
 }
 
 unsafe extern "C" {
-    fn cabunlis_encode_inter_plane(
+    fn cabunlis_encode_inter_plane_stated(
         width: usize,
         height: usize,
         stride: usize,
@@ -126,7 +126,7 @@ impl PlaneCall {
         // Safety: each pointer is a slice's, with that slice's length, no
         // two of those written overlap, and the function takes any numbers.
         let answer = unsafe {
-            cabunlis_encode_inter_plane(
+            cabunlis_encode_inter_plane_stated(
                 self.width,
                 self.height,
                 self.stride,

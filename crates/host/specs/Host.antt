@@ -8,7 +8,7 @@ use Rattle.bits.specs.Basics.{pick}
 use Rattle.macroblock.specs.Macroblock.{Given}
 use Rattle.macroblock.specs.Choice.{Task}
 use Rattle.macroblock.specs.Slices.{Slices}
-use Rattle.plane.specs.Calls.{PlaneAnswer, writeAnswer, readPlaneAnswer, PlaneRead}
+use Rattle.plane.specs.Calls.{PlaneAnswer, writeAnswer, PlaneWritten, readPlaneAnswer, PlaneRead}
 use Rattle.plane_enc.specs.Stated.{PlaneStated}
 use Rattle.room.specs.declared.Room.{Room}
 use Rattle.host.specs.declared.planes.HostAnswer.{HostAnswer}
@@ -23,8 +23,13 @@ abbrev pub hostAnswer : PlaneAnswer → HostAnswer
 hostAnswer a =
     record { refusal = a .refusal; macroblock = pick (midPlane (a .refusal)) (a .done) 0; done = a .done; next = a .next; bits = a .bits; error = a .error }
 
--- the writer: r is the answer of the definition, and the slices are left as it says, `stated` with what the macroblocks state
-pub record HostWritten (g : Given) (t : Task) (out : List ℕ) (start : ℕ) (s : Slices) (held : List ℕ) (r : HostAnswer) (out' recon' vx' vy' stated' : List ℕ) : Type 0 where
+-- the writer: r is the answer of the definition, and the slices are left as it says
+pub record HostWritten (g : Given) (t : Task) (out : List ℕ) (start : ℕ) (s : Slices) (r : HostAnswer) (out' recon' vx' vy' : List ℕ) : Type 0 where
+  pub answer : r ≡ hostAnswer (writeAnswer g t out start s)
+  pub left : PlaneWritten g t out start s (writeAnswer g t out start s) out' recon' vx' vy'
+
+-- the same with `stated`, which holds held before and what the macroblocks state after
+pub record HostStated (g : Given) (t : Task) (out : List ℕ) (start : ℕ) (s : Slices) (held : List ℕ) (r : HostAnswer) (out' recon' vx' vy' stated' : List ℕ) : Type 0 where
   pub answer : r ≡ hostAnswer (writeAnswer g t out start s)
   pub left : PlaneStated g t out start s held (writeAnswer g t out start s) out' recon' vx' vy' stated'
 

@@ -9,10 +9,10 @@ use borrow.Author.Tests.{eq-eqb, ne-eqb}
 use Rattle.macroblock.specs.Macroblock.{Given}
 use Rattle.macroblock.specs.Choice.{Task}
 use Rattle.macroblock.specs.Slices.{Slices}
-use Rattle.plane.specs.Calls.{PlaneAnswer, PlaneRead}
+use Rattle.plane.specs.Calls.{PlaneAnswer, PlaneWritten, PlaneRead}
 use Rattle.plane_enc.specs.Stated.{PlaneStated}
 use Rattle.host.specs.declared.planes.HostAnswer.{HostAnswer}
-use Rattle.host.specs.Host.{midPlane, hostAnswer, HostWritten, HostRead}
+use Rattle.host.specs.Host.{midPlane, hostAnswer, HostWritten, HostStated, HostRead}
 
 -- ---- refusals in the middle of a plane, number by number
 module _ (n : ℕ) where
@@ -33,9 +33,15 @@ module _ (n : ℕ) where
   mid-24 a b c = rw (ne-eqb n 10 a, ne-eqb n 11 b, ne-eqb n 22 c)
 
 -- ---- the calls
-pub host-written : (g : Given) (t : Task) (out : List ℕ) (start : ℕ) (s : Slices) (held : List ℕ) (a : PlaneAnswer) (r : HostAnswer) (out' recon' vx' vy' stated' : List ℕ)
-    → PlaneStated g t out start s held a out' recon' vx' vy' stated' → r ≡ hostAnswer a → HostWritten g t out start s held r out' recon' vx' vy' stated'
-host-written g t out start s held a r out' recon' vx' vy' stated' p e =
+pub host-written : (g : Given) (t : Task) (out : List ℕ) (start : ℕ) (s : Slices) (a : PlaneAnswer) (r : HostAnswer) (out' recon' vx' vy' : List ℕ)
+    → PlaneWritten g t out start s a out' recon' vx' vy' → r ≡ hostAnswer a → HostWritten g t out start s r out' recon' vx' vy'
+host-written g t out start s a r out' recon' vx' vy' p e =
+    let is = p .answer in
+    record { answer = e ∙ ap hostAnswer is; left = rw is at p }
+
+pub host-stated : (g : Given) (t : Task) (out : List ℕ) (start : ℕ) (s : Slices) (held : List ℕ) (a : PlaneAnswer) (r : HostAnswer) (out' recon' vx' vy' stated' : List ℕ)
+    → PlaneStated g t out start s held a out' recon' vx' vy' stated' → r ≡ hostAnswer a → HostStated g t out start s held r out' recon' vx' vy' stated'
+host-stated g t out start s held a r out' recon' vx' vy' stated' p e =
     let is = p .written .answer in
     record { answer = e ∙ ap hostAnswer is; left = rw is at p }
 

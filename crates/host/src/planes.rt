@@ -5,9 +5,10 @@ ghost use lib.Dec.{eqb};
 ghost use Rattle.bits.specs.Basics.{pick};
 ghost use Rattle.macroblock.specs.Inner.{givenBy};
 ghost use Rattle.macroblock_choice.specs.Chosen.{taskBy};
-ghost use Rattle.host.specs.Host.{midPlane, hostAnswer, HostWritten, HostRead};
+ghost use Rattle.host.specs.Host.{midPlane, hostAnswer, HostWritten, HostStated, HostRead};
 use canvas::svq1_plane::Svq1PlaneCanvas;
 use plane::svq1_plane::decode_inter_plane;
+use plane_enc::svq1_enc_inter::encode_inter_plane;
 use plane_enc::svq1_enc_inter::encode_inter_plane_stated;
 
 // What a plane call answers. The reader's totals are 0.
@@ -61,6 +62,13 @@ fn answer(refused: u8, done: usize, next: usize, bits: u64, error: u64) -> HostA
     }
 }
 
+// C has no flag that holds 0 and 1 alone: every number but 0 is set.
+fn tries_four(four: u8) -> bool
+    ensures { λ r. ⌜ r ≡ not (eqb four 0) ⌝ }
+{
+    four != 0
+}
+
 // Writes a plane; four vectors are tried unless `four` is 0.
 #[no_mangle]
 pub extern "C" fn cabunlis_encode_inter_plane(
@@ -80,9 +88,55 @@ pub extern "C" fn cabunlis_encode_inter_plane(
     recon: &mut [u8],
     vx: &mut [u8],
     vy: &mut [u8],
+) -> HostAnswer
+    ensures { λ r. ⌜ HostWritten (givenBy (record { width = width; height = height; stride = stride; rows = rows }) (now (reference .entry)) (now (book .entry)) (now (codebook .entry))) (taskBy (now (source .entry)) lambda radius (not (eqb four 0))) (now (out .entry)) start (record { recon = now (recon .entry); vx = now (vx .entry); vy = now (vy .entry) }) r (now (out .exit)) (now (recon .exit)) (now (vx .exit)) (now (vy .exit)) ⌝ }
+{
+    let canvas = Svq1PlaneCanvas {
+        width,
+        height,
+        stride,
+        rows,
+    };
+    let e = encode_inter_plane(
+        canvas,
+        source,
+        reference,
+        book,
+        codebook,
+        lambda,
+        radius,
+        tries_four(four),
+        out,
+        start,
+        recon,
+        vx,
+        vy,
+    );
+    answer(e.refused, e.done, e.next, e.bits, e.error)
+}
+
+// The same, and each macroblock's mode, bits and error told in `stated`.
+#[no_mangle]
+pub extern "C" fn cabunlis_encode_inter_plane_stated(
+    width: usize,
+    height: usize,
+    stride: usize,
+    rows: usize,
+    source: &[u8],
+    reference: &[u8],
+    book: &[u8],
+    codebook: &[u8],
+    lambda: u64,
+    radius: u8,
+    four: u8,
+    out: &mut [u8],
+    start: usize,
+    recon: &mut [u8],
+    vx: &mut [u8],
+    vy: &mut [u8],
     stated: &mut [u32],
 ) -> HostAnswer
-    ensures { λ r. ⌜ HostWritten (givenBy (record { width = width; height = height; stride = stride; rows = rows }) (now (reference .entry)) (now (book .entry)) (now (codebook .entry))) (taskBy (now (source .entry)) lambda radius (not (eqb four 0))) (now (out .entry)) start (record { recon = now (recon .entry); vx = now (vx .entry); vy = now (vy .entry) }) (now (stated .entry)) r (now (out .exit)) (now (recon .exit)) (now (vx .exit)) (now (vy .exit)) (now (stated .exit)) ⌝ }
+    ensures { λ r. ⌜ HostStated (givenBy (record { width = width; height = height; stride = stride; rows = rows }) (now (reference .entry)) (now (book .entry)) (now (codebook .entry))) (taskBy (now (source .entry)) lambda radius (not (eqb four 0))) (now (out .entry)) start (record { recon = now (recon .entry); vx = now (vx .entry); vy = now (vy .entry) }) (now (stated .entry)) r (now (out .exit)) (now (recon .exit)) (now (vx .exit)) (now (vy .exit)) (now (stated .exit)) ⌝ }
 {
     let canvas = Svq1PlaneCanvas {
         width,
@@ -98,7 +152,7 @@ pub extern "C" fn cabunlis_encode_inter_plane(
         codebook,
         lambda,
         radius,
-        four != 0,
+        tries_four(four),
         out,
         start,
         recon,

@@ -4,8 +4,11 @@ use borrow.Author.Needs.{needs}
 use Rattle.host.proofs.planes.cabunlis_encode_inter_plane.Statement.{statement}
 use Rattle.host.proofs.planes.cabunlis_encode_inter_plane.Tie as tie
 
-encode-inter-plane-stated-requires : tie.Need-encode-inter-plane-stated-requires
-encode-inter-plane-stated-requires c κs = search needs
+tries-four-requires : tie.Need-tries-four-requires
+tries-four-requires c κs = search needs
+
+encode-inter-plane-requires : tie.Need-encode-inter-plane-requires
+encode-inter-plane-requires c κs = search needs
 
 answer-requires : tie.Need-answer-requires
 answer-requires c κs = search needs
@@ -22,21 +25,20 @@ same-length-3 c = search needs
 same-length-4 : tie.Need-same-length-4
 same-length-4 c = search needs
 
-same-length-5 : tie.Need-same-length-5
-same-length-5 c = search needs
-
 returns : tie.Need-returns
-returns c = host-written _ _ _ _ _ _ _ _ _ _ _ _ _ (c .before .before .before .before .before .before .before .before .before .before .before .encode-inter-plane-stated .ensures) (c .answer .ensures)
+returns c =
+    let e = c .before .before .before .before .before .before .before .before .before in
+    host-written _ _ _ _ _ _ _ _ _ _ _ (rw (e .before .before .before .before .before .tries-four .ensures) at (e .encode-inter-plane .ensures)) (c .answer .ensures)
 
 pub cabunlis-encode-inter-plane-spec : {M : Type 1} → statement M
 cabunlis-encode-inter-plane-spec =
     tie.close
     (tie.spec
-    encode-inter-plane-stated-requires
+    tries-four-requires
+    encode-inter-plane-requires
     answer-requires
     same-length
     same-length-2
     same-length-3
     same-length-4
-    same-length-5
     returns)
