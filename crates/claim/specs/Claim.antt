@@ -6,6 +6,7 @@ use mathlib.Core.Path.{_≡_}
 use lib.ListN.{length, take, drop}
 use Rattle.bits.specs.Basics.{All, Bytes, sum}
 use Rattle.bits.specs.Bits.{bitsOf, putBits}
+use Rattle.bits.specs.Calls.{startRefusal}
 use Rattle.leaf.specs.Leaf.{sse}
 use Rattle.mv_cache.specs.Grid.{part}
 use Rattle.tree.specs.Plan.{total, prunedCost}
@@ -55,8 +56,10 @@ module _ (g : Given) (t : Task) (out : List ℕ) (start : ℕ) (a : Slices) wher
   pub record Claim : Type 0 where
     -- the run reaches the last macroblock with these states
     pub reaches : writePlane g t (bitsOf out) start a ≡ record { refusal = 0; done = count g; state = final }
-    -- 1. each macroblock appends exactly its stated bits
+    -- 1. each macroblock appends exactly its stated bits; at the end the output holds them from its bit on, and before the start bit what it held
     pub appends : (k : ℕ) → k < count g → Appended g t k (stateAt k) (stateAt (suc k))
+    pub holds : (k : ℕ) → k < count g → take (wroteWeight g t k (stateAt k) .bits) (drop (stateAt k .next) (final .out)) ≡ wroteBits g t k (stateAt k)
+    pub before : take start (final .out) ≡ take start (bitsOf out)
     -- 2. its stated error is its reconstruction's squared distance from the padded source
     pub error : (k : ℕ) → k < count g → wroteWeight g t k (stateAt k) .err ≡ sse (target g t k) (part 16 (cols g) k (final .slices .recon))
     -- 3. both totals are the sums of these, and the next bit is the start bit plus the bit total
@@ -66,8 +69,9 @@ module _ (g : Given) (t : Task) (out : List ℕ) (start : ℕ) (a : Slices) wher
     -- what lies behind the block vectors stays
     pub rest-vx : drop (4 * count g) (final .slices .vx) ≡ drop (4 * count g) (a .vx)
     pub rest-vy : drop (4 * count g) (final .slices .vy) ≡ drop (4 * count g) (a .vy)
-    -- 4. the reader, given the bytes that hold that output and any slices that pass 20, takes exactly those bits and ends with the writer's next bit, reconstruction and block vectors
-    pub read-back : (bytes : List ℕ) (d : Slices) → bitsOf bytes ≡ final .out → slicesRefusal g d ≡ 0 → ReadBack g bytes start d stateAt
+    -- 4. the reader, given that output or any bytes that pass 21 and begin as it does up to the next bit, and any slices that pass 20, takes exactly those bits
+    -- and ends with the writer's next bit, reconstruction and block vectors
+    pub read-back : (bytes : List ℕ) (d : Slices) → take (final .next) (bitsOf bytes) ≡ take (final .next) (final .out) → startRefusal (length bytes) start ≡ 0 → slicesRefusal g d ≡ 0 → ReadBack g bytes start d stateAt
     -- 5. in each plan every other pruning over the same leaf choices costs at least as much
     pub no-pruning-cheaper : (k : ℕ) → k < count g → All (λ m. (cut : ℕ → Bool) → planCost (planningFor g t k m) ≤ prunedCost (planningFor g t k m) cut) (motionsTried g t k (near g (stateAt k .slices) k))
     -- 6. no mode tried, and under an allowance no fitting mode, costs less than the one written

@@ -3,15 +3,12 @@
 use mathlib.Core.Path.{_≡_, refl, sym, ap, ap₂, _∙_}
 use Prim.Native.Nat.{ℕ, zero, suc, _+_, _-_, _*_, _≤_, _<_}
 use native.Mathlib.Omega.{arith}
-use native.Mathlib.Nat.{add-zero, zero-add, add-suc, suc-add, le-refl, mul-add, mul-suc}
+use native.Mathlib.Nat.{add-zero, zero-add, add-suc, le-refl, mul-add, mul-suc}
 use mathlib.Core.Bool.{true}
-use mathlib.Core.List.{List, [], _++_, append-assoc, map}
+use mathlib.Core.List.{List, map}
 use lib.ListN.{length, take, drop, length-append, length-drop}
-use lib.Seq.{length-take-le}
-use borrow.Author.Tests.{leb-true}
 use Rattle.bits.specs.Basics.{All, sum, signedByte}
-use Rattle.bits.specs.Bits.{bitsOf, putBits, afterBits}
-use Rattle.bits.specs.BitsLaws.{put-nil, put-put, drop-put, put-length, length-bitsOf}
+use Rattle.bits.specs.Bits.{bitsOf}
 use Rattle.bits.specs.Calls.{startRefusal}
 use Rattle.book.specs.BookLaws.{data-passes}
 use Rattle.leaf.specs.Leaf.{sse}
@@ -30,17 +27,17 @@ use Rattle.macroblock.specs.LimitLaws.{skip-fits}
 use Rattle.macroblock.specs.InnerLaws.{four-each}
 use Rattle.macroblock.specs.Reading.{readMacroblock}
 use Rattle.plane.specs.Run.{on, End, after}
-use Rattle.plane.specs.RunLaws.{testing, run-on, run-fits}
+use Rattle.plane.specs.RunLaws.{run-on}
 use Rattle.macroblock.specs.Slices.{Slices, near, laid}
-use Rattle.plane.specs.Plane.{count, Writing, wrote, wroteWeight, wroteBits, fits, written, toWrite, writePlane, ReadingState, taken, readStep, readUpTo, readPlane}
+use Rattle.plane.specs.Plane.{count, Writing, wrote, wroteWeight, wroteBits, written, writePlane, ReadingState, taken, readStep, readUpTo, readPlane}
 use Rattle.plane.specs.Calls.{slicesRefusal, readRefusal}
 use Rattle.plane.specs.LimitLaws.{skip-rest-at}
 use Rattle.plane.specs.SlicesLaws.{Sized, holds-recon, holds-vx, holds-vy, laid-sized, Alike, alike-laid, alike-near, laid-past-vx, laid-past-vy}
 use Rattle.claim.specs.SumLaws.{sse-blocks}
-use Rattle.claim.specs.Claim.{Appended, ReadBack, stateAt, final, costOf, Claimed}
+use Rattle.claim.specs.OutputLaws.{reached, appended, held, before, stands-in}
+use Rattle.claim.specs.Claim.{ReadBack, stateAt, final, costOf, Claimed}
 use Rattle.claim.specs.AcceptedLaws.{Accepted, results-pass, accepted, slices-sized, padded-size}
 
--- ---- the run
 module _ (g : Given) (t : Task) (ok : Accepted g t) (out : List ℕ) (start : ℕ) (a : Slices) (sized : Sized g a)
     (whole : writePlane g t (bitsOf out) start a .refusal ≡ 0) where
   abbrev S : ℕ → Writing
@@ -55,71 +52,12 @@ module _ (g : Given) (t : Task) (ok : Accepted g t) (out : List ℕ) (start : �
   abbrev E : Writing
   E = final g t out start a
 
-  abbrev bitsAt : ℕ → List ℕ
-  bitsAt k = wroteBits g t k (S k)
-
   good : (k : ℕ) → Good g t (ok .fine) k (near g (S k .slices) k) (W k)
   good k = chosen-good g t (ok .fine) k (near g (S k .slices) k) (S k .bits)
-
-  stated : (k : ℕ) → weigh k .bits ≡ length (bitsAt k)
-  unfolding weightOf
-  stated k = refl
 
   erring : (k : ℕ) → weigh k .err ≡ sse (target g t k) (shown g k (W k))
   unfolding weightOf
   erring k = refl
-
-  fit : (k : ℕ) → k < count g → fits g t k (S k) ≡ true
-  unfolding after writePlane
-  fit k h = run-fits 21 (fits g t) (written g t) (toWrite (bitsOf out) start a) (count g) 0 whole k (omega arith) (omega arith)
-
-  room : (k : ℕ) → k < count g → S k .next + weigh k .bits ≤ length (S k .out)
-  room k h = leb-true (S k .next + weigh k .bits) (length (S k .out)) (fit k h)
-
-  pub reached : writePlane g t (bitsOf out) start a ≡ record { refusal = 0; done = count g; state = E }
-  unfolding after writePlane
-  reached =
-      run-on (testing 22 (fits g t) (written g t)) S (count g) 0 (λ j q l. rw (fit j (omega arith)))
-      ∙ ap (λ (i : ℕ). record { refusal = 0; done = i; state = S i }) (zero-add (count g))
-
-  pub appended : (k : ℕ) → k < count g → Appended g t k (S k) (S (suc k))
-  unfolding after written
-  appended k h = record { stated = stated k; output = refl; next = refl; bits = refl; error = refl }
-
-  -- ---- the output, from macroblock k on
-  bitsFrom : ℕ → ℕ → List ℕ
-  bitsFrom zero k = []
-  bitsFrom (suc m) k = bitsAt k ++ bitsFrom m (suc k)
-
-  out-later : (m k : ℕ) → k + m ≤ count g → S (k + m) .out ≡ putBits (S k .out) (S k .next) (bitsFrom m k)
-  unfolding bitsFrom
-  out-later zero k h = rw add-zero (sym (put-nil (S k .out) (S k .next)))
-  out-later (suc m) k h =
-      let p = appended k (omega arith) in
-      let nx : S (suc k) .next ≡ S k .next + length (bitsAt k) = p .next ∙ ap (λ (i : ℕ). S k .next + i) (p .stated) in
-      let l : S k .next ≤ length (S k .out) = omega (arith, room k (omega arith)) in
-      ap (λ (i : ℕ). S i .out) (add-suc k m ∙ sym (suc-add k m))
-      ∙ out-later m (suc k) (omega arith)
-      ∙ ap₂ (λ (o : List ℕ) (i : ℕ). putBits o i (bitsFrom m (suc k))) (p .output) nx
-      ∙ put-put (S k .out) (bitsAt k) (bitsFrom m (suc k)) (S k .next) l
-
-  out-from : (k : ℕ) → k < count g → E .out ≡ putBits (S k .out) (S k .next) (bitsAt k ++ bitsFrom (count g - suc k) (suc k))
-  unfolding bitsFrom
-  out-from k h =
-      let q : count g ≡ k + suc (count g - suc k) = omega arith in
-      ap (λ (i : ℕ). S i .out) q ∙ out-later (suc (count g - suc k)) k (omega arith)
-
-  -- macroblock k's bits stand at its bit, and something after them
-  stands : (k : ℕ) → k < count g → (r : List ℕ) × (drop (S k .next) (E .out) ≡ bitsAt k ++ r) × (S k .next ≤ length (E .out))
-  unfolding putBits
-  stands k h =
-      let l : S k .next ≤ length (S k .out) = omega (arith, room k h) in
-      let xs : List ℕ = bitsAt k ++ bitsFrom (count g - suc k) (suc k) in
-      let q = out-from k h in (
-        bitsFrom (count g - suc k) (suc k) ++ afterBits (S k .out) (S k .next) xs,
-        rw q (drop-put (S k .out) xs (S k .next) l ∙ append-assoc (bitsAt k) _ _),
-        rw q (rw (length-append (take (S k .next) (S k .out)) _, length-take-le (S k .next) (S k .out) l) (omega arith)),
-      )
 
   -- ---- the slices
   sized-at : (k : ℕ) → Sized g (S k .slices)
@@ -190,37 +128,28 @@ module _ (g : Given) (t : Task) (ok : Accepted g t) (out : List ℕ) (start : �
   abbrev R : Slices → ℕ → ReadingState
   R d k = record { next = S k .next; slices = shownTo d k }
 
-  read-one : (d : Slices) → Sized g d → (k : ℕ) → k < count g → readStep g (E .out) k (R d k) ≡ on (R d (suc k))
-  unfolding readStep shownTo
-  read-one d z k h =
-      let here = stands k h in
-      let r : List ℕ = here .0 in
-      let p = appended k h in
-      let len : length (E .out) - S k .next ≡ length (bitsAt k) + length r =
-      sym (length-drop (S k .next) (E .out)) ∙ ap length (here .1) ∙ length-append (bitsAt k) r in
-      let nx : length (E .out) - length r ≡ S (suc k) .next = omega (arith, here .2, p .next, p .stated) in
-      ap (taken g (length (E .out)) k (shownTo d k))
-      (ap₂ (readMacroblock g) (alike-near g (ok .wide) k (shownTo d k) (S k .slices) (alike d z k (omega arith))) (here .1) ∙ good k .reads r)
-      ∙ ap (λ (i : ℕ). on (record { next = i; slices = laid g k (W k) (shownTo d k) })) nx
+  -- the reader over bits that begin as the output does
+  module _ (xs : List ℕ) (begin : take (E .next) xs ≡ take (E .next) (E .out)) (d : Slices) (z : Sized g d) where
+    read-one : (k : ℕ) → k < count g → readStep g xs k (R d k) ≡ on (R d (suc k))
+    unfolding readStep shownTo
+    read-one k h =
+        let here = stands-in g t out start a whole xs begin k h in
+        let r : List ℕ = here .0 in
+        let p = appended g t out start a whole k h in
+        let len : length xs - S k .next ≡ length (wroteBits g t k (S k)) + length r =
+        sym (length-drop (S k .next) xs) ∙ ap length (here .1) ∙ length-append (wroteBits g t k (S k)) r in
+        let nx : length xs - length r ≡ S (suc k) .next = omega (arith, here .2, p .next, p .stated) in
+        ap (taken g (length xs) k (shownTo d k))
+        (ap₂ (readMacroblock g) (alike-near g (ok .wide) k (shownTo d k) (S k .slices) (alike d z k (omega arith))) (here .1) ∙ good k .reads r)
+        ∙ ap (λ (i : ℕ). on (record { next = i; slices = laid g k (W k) (shownTo d k) })) nx
 
-  read-to : (d : Slices) → Sized g d → (k : ℕ) → k ≤ count g → readUpTo g (E .out) start d k ≡ record { refusal = 0; done = k; state = R d k }
-  unfolding after shownTo readUpTo
-  read-to d z k h =
-      run-on (readStep g (E .out)) (R d) k 0 (λ j q l. read-one d z j (omega arith))
-      ∙ ap (λ (i : ℕ). record { refusal = 0; done = i; state = R d i }) (zero-add k)
+    read-to : (k : ℕ) → k ≤ count g → readUpTo g xs start d k ≡ record { refusal = 0; done = k; state = R d k }
+    unfolding after shownTo readUpTo
+    read-to k h =
+        run-on (readStep g xs) (R d) k 0 (λ j q l. read-one j (omega arith))
+        ∙ ap (λ (i : ℕ). record { refusal = 0; done = i; state = R d i }) (zero-add k)
 
-  -- ---- the output keeps its length
-  long : (k : ℕ) → k ≤ count g → length (S k .out) ≡ 8 * length out
-  unfolding after written
-  long zero h = length-bitsOf out
-  long (suc k) h =
-      let e = long k (omega arith) in
-      put-length (S k .out) (bitsAt k) (S k .next) (rw e (omega arith)) (omega (arith, room k h, stated k)) ∙ e
-
-  same-length : (bytes : List ℕ) → bitsOf bytes ≡ E .out → length bytes ≡ length out
-  same-length bytes e = omega (arith, length-bitsOf bytes, ap length e, long (count g) (le-refl (count g)))
-
-  pub read-back : (bytes : List ℕ) (d : Slices) → bitsOf bytes ≡ E .out → startRefusal (length out) start ≡ 0 → slicesRefusal g d ≡ 0 → ReadBack g bytes start d S
+  pub read-back : (bytes : List ℕ) (d : Slices) → take (E .next) (bitsOf bytes) ≡ take (E .next) (E .out) → startRefusal (length bytes) start ≡ 0 → slicesRefusal g d ≡ 0 → ReadBack g bytes start d S
   unfolding readRefusal readPlane
   read-back bytes d e st sl =
       let n : ℕ = count g in
@@ -228,10 +157,10 @@ module _ (g : Given) (t : Task) (ok : Accepted g t) (out : List ℕ) (start : �
       let x = alike d z n (le-refl n) in
       let zd = shown-sized d z n in
       let ze = sized-at n in
-      let to : (k : ℕ) → k ≤ n → readUpTo g (bitsOf bytes) start d k ≡ record { refusal = 0; done = k; state = R d k } = λ k h. rw e (read-to d z k h) in
+      let to = read-to (bitsOf bytes) e d z in
       let f : readUpTo g (bitsOf bytes) start d n .state .slices ≡ shownTo d n = ap (λ (u : End ReadingState). u .state .slices) (to n (le-refl n)) in
       record {
-        accepted = rw (ok .size-passes, ok .canvas-passes, ok .data-passes, sl, same-length bytes e, st);
+        accepted = rw (ok .size-passes, ok .canvas-passes, ok .data-passes, sl, st);
         goes-on = λ k h. ap (λ (u : End ReadingState). u .refusal) (to k h);
         reads = λ k h. ap (λ (u : End ReadingState). u .done) (to k h);
         same-bit = λ k h. ap (λ (u : End ReadingState). u .state .next) (to k h);
@@ -309,15 +238,17 @@ claimed g t out start a enough mem e low whole =
     let passes = results-pass g t out start a e in
     let sized = slices-sized g t ok a (passes .0) in
     record {
-      reaches = reached g t ok out start a sized whole;
-      appends = appended g t ok out start a sized whole;
+      reaches = reached g t out start a whole;
+      appends = appended g t out start a whole;
+      holds = held g t out start a whole;
+      before = before g t out start a whole;
       error = error-is g t ok out start a sized whole;
       bit-total = bits-to g t ok out start a sized whole (count g);
       error-total = errors-to g t ok out start a sized whole (count g);
       next-bit = next-to g t ok out start a sized whole (count g);
       rest-vx = rest-vx g t ok out start a sized whole;
       rest-vy = rest-vy g t ok out start a sized whole;
-      read-back = λ bytes d h s. read-back g t ok out start a sized whole bytes d h (passes .1) s;
+      read-back = read-back g t ok out start a sized whole;
       no-pruning-cheaper = λ k h. all-any _ (motionsTried g t k _) (λ m. unpruned g t (ok .fine) low k m);
       no-mode-cheaper = λ k h. cheapest g t ok out start a sized whole low k;
       never-above-skipping = never-above g t ok out start a sized whole low enough;

@@ -2,6 +2,7 @@
 pub mod Claim
 pub mod SumLaws
 pub mod AcceptedLaws
+pub mod OutputLaws
 pub mod ClaimLaws
 pub mod RoundTrip
 pub mod RoundTripLaws

@@ -6,8 +6,9 @@ use mathlib.Core.List.{List}
 use Prim.Native.Nat.{ℕ, _*_, _≤_}
 use native.Mathlib.Nat.{le-refl}
 use borrow.Author.Tests.{eq-eqb}
-use lib.ListN.{take, drop}
+use lib.ListN.{length, take, drop}
 use Rattle.bits.specs.Bits.{bitsOf}
+use Rattle.bits.specs.Calls.{startRefusal}
 use Rattle.plan.specs.PlanClaim.{largestLambda}
 use Rattle.macroblock.specs.Macroblock.{Given}
 use Rattle.macroblock.specs.Limit.{canSkipRest}
@@ -16,12 +17,19 @@ use Rattle.macroblock.specs.Slices.{Slices}
 use Rattle.plane.specs.Run.{End}
 use Rattle.plane.specs.Plane.{count, Writing, writePlane, ReadingState, readPlane}
 use Rattle.plane.specs.Calls.{PlaneAnswer, PlaneWritten, PlaneRead, writeRefusal, readRefusal, slicesRefusal, writtenAnswer, endAnswer, writeAnswer, writeOut, writeSlices, readPlaneAnswer, readSlices}
-use Rattle.claim.specs.Claim.{stateAt, Claim, InMemory, ReadBack}
+use Rattle.plane_enc.specs.Stated.{PlaneStated}
+use Rattle.plane_enc.specs.StatedLaws.{stated-at}
+use Rattle.claim.specs.Claim.{stateAt, final, Claim, InMemory, ReadBack}
+use Rattle.claim.specs.AcceptedLaws.{results-pass}
+use Rattle.claim.specs.OutputLaws.{same-length}
 use Rattle.claim.specs.ClaimLaws.{claimed}
 use Rattle.claim.specs.RoundTrip.{Ended, Returned, RoundTrip}
 
-module _ (g : Given) (t : Task) (out : List ℕ) (start : ℕ) (a d : Slices) (w r : PlaneAnswer) (out' : List ℕ) (a' d' : Slices) (enough : canSkipRest (t .limit) g 0 0 ≡ true) (mem : InMemory g t out start a)
-    (wrote : PlaneWritten g t out start a w out' (a' .recon) (a' .vx) (a' .vy)) (read : PlaneRead g out' start d r (d' .recon) (d' .vx) (d' .vy)) where
+module _ (g : Given) (t : Task) (out : List ℕ) (start : ℕ) (a : Slices) (held : List ℕ) (d : Slices) (w r : PlaneAnswer) (out' : List ℕ) (a' : Slices) (stated' : List ℕ) (d' : Slices) (enough : canSkipRest (t .limit) g 0 0 ≡ true) (mem : InMemory g t out start a)
+    (told : PlaneStated g t out start a held w out' (a' .recon) (a' .vx) (a' .vy) stated') (read : PlaneRead g out' start d r (d' .recon) (d' .vx) (d' .vy)) where
+  abbrev wrote : PlaneWritten g t out start a w out' (a' .recon) (a' .vx) (a' .vy)
+  wrote = told .written
+
   module _ (passes : writeRefusal g t out start a ≡ 0) (most : t .lambda ≤ largestLambda) (whole : w .refusal ≡ 0) where
     abbrev e : End Writing
     e = writePlane g t (bitsOf out) start a
@@ -39,27 +47,37 @@ module _ (g : Given) (t : Task) (out : List ℕ) (start : ℕ) (a d : Slices) (w
     unfolding writeSlices
     laid = rw (eq-eqb (writeRefusal g t out start a) 0 passes)
 
-    holds : Claim g t out start a
-    holds = claimed g t out start a enough mem passes most (sym (ap (λ (x : PlaneAnswer). x .refusal) answered) ∙ whole)
+    ends : e .refusal ≡ 0
+    ends = sym (ap (λ (x : PlaneAnswer). x .refusal) answered) ∙ whole
 
-    trip-ended : Ended g t out start a w out' a'
+    holds : Claim g t out start a
+    holds = claimed g t out start a enough mem passes most ends
+
+    trip-ended : Ended g t out start a held w out' a' stated'
     trip-ended =
         let s = holds .reaches in
         record {
-          done = ap (λ (x : PlaneAnswer). x .done) answered ∙ ap (λ (x : End Writing). x .done) s;
+          done = all;
           next = ap (λ (x : PlaneAnswer). x .next) answered ∙ ap (λ (x : End Writing). x .state .next) s;
           bits = ap (λ (x : PlaneAnswer). x .bits) answered ∙ ap (λ (x : End Writing). x .state .bits) s;
           error = ap (λ (x : PlaneAnswer). x .error) answered ∙ ap (λ (x : End Writing). x .state .error) s;
           output = put ∙ ap (λ (x : End Writing). x .state .out) s;
           slices = same ∙ laid ∙ ap (λ (x : End Writing). x .state .slices) s;
+          stated = λ k h r. rw (told .stated) (stated-at g t (bitsOf out) start a held (w .done) k (rw all h) r);
         }
       where
+        all : w .done ≡ count g
+        all = ap (λ (x : PlaneAnswer). x .done) answered ∙ ap (λ (x : End Writing). x .done) (holds .reaches)
+
         same : a' ≡ writeSlices g t out start a
         same = rw (← wrote .left-recon, ← wrote .left-vx, ← wrote .left-vy)
 
     module _ (fits : slicesRefusal g d ≡ 0) where
+      starts : startRefusal (length out') start ≡ 0
+      starts = rw (same-length g t out start a ends out' (trip-ended .output)) (results-pass g t out start a passes .1)
+
       abbrev back : ReadBack g out' start d (stateAt g t out start a)
-      back = holds .read-back out' d (trip-ended .output) fits
+      back = holds .read-back out' d (ap (take (final g t out start a .next)) (trip-ended .output)) starts fits
 
       abbrev f : End ReadingState
       f = readPlane g (bitsOf out') start d
@@ -97,10 +115,10 @@ module _ (g : Given) (t : Task) (out : List ℕ) (start : ℕ) (a d : Slices) (w
             rest-vy = ap (drop (4 * count g)) got-vy ∙ back .rest-vy;
           }
 
-  pub tripped : RoundTrip g t out start a d w r out' a' d'
+  pub tripped : RoundTrip g t out start a held d w r out' a' stated' d'
   tripped =
       record {
-        wrote = wrote;
+        wrote = told;
         read = read;
         claim = λ p m z. (holds p m z, trip-ended p m z);
         returned = λ p m z s. trip-returned p m z s;

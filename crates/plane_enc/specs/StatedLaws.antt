@@ -1,13 +1,13 @@
 -- Laws of what the writer tells: a slice keeps its length, one macroblock more, and the loop's turns.
 -- Assumes nothing.
 use mathlib.Core.Path.{_≡_, refl, sym, _∙_}
-use mathlib.Core.List.{List, [], _∷_, _++_}
+use mathlib.Core.List.{List, [], _∷_, _++_, append-assoc}
 use Prim.Native.Nat.{ℕ, zero, suc, _+_, _*_, _/_, _≤_, _<_, min}
 use native.Mathlib.Omega.{arith}
 use native.Mathlib.Numerals.{add-one}
 use native.Mathlib.Decide.{decLt}
-use lib.ListN.{length, drop, set, length-append, length-drop}
-use lib.Seq.{sets, sets-eq, take-at, drop-append-add, drop-drop}
+use lib.ListN.{length, take, drop, set, length-append, length-drop}
+use lib.Seq.{sets, sets-eq, take-at, drop-at, drop-append-add, drop-drop}
 use borrow.Author.Tests.{lt-ltb, le-ltb}
 use Rattle.macroblock.specs.Mode.{modePosition}
 use Rattle.macroblock.specs.Macroblock.{Given}
@@ -65,6 +65,24 @@ module _ (g : Given) (t : Task) (out : List ℕ) (start : ℕ) (s : Slices) wher
     in-room n h =
         let m : min n (length held / 3) ≡ n = omega arith in
         rw m
+
+    -- the three numbers of macroblock k, where it is done and there is room for them
+    to-at : (n k : ℕ) → k < n → (r : List ℕ) → take 3 (drop (3 * k) (statedTo g t out start s n ++ r)) ≡ threeOf (stepStated g t k (writingAt g t out start s k))
+    unfolding statedTo
+    to-at zero k h r = absurd (omega arith)
+    to-at (suc n) k h r =
+        let three = threeOf (stepStated g t n (writingAt g t out start s n)) in
+        rw (append-assoc (statedTo g t out start s n) three r) (go (λ l. to-at n k l (three ++ r)) (decLt k n))
+      where
+        go : (k < n → take 3 (drop (3 * k) (statedTo g t out start s n ++ (threeOf (stepStated g t n (writingAt g t out start s n)) ++ r))) ≡ threeOf (stepStated g t k (writingAt g t out start s k))) → Dec (k < n) → take 3 (drop (3 * k) (statedTo g t out start s n ++ (threeOf (stepStated g t n (writingAt g t out start s n)) ++ r))) ≡ threeOf (stepStated g t k (writingAt g t out start s k))
+        go i (yes l) = i l
+        go i (no l) =
+            let e : k ≡ n = omega arith in
+            rw (e, drop-at (statedTo g t out start s n) (threeOf (stepStated g t n (writingAt g t out start s n)) ++ r) (3 * n) (length-to n))
+
+    pub stated-at : (n k : ℕ) → k < n → k < length held / 3 → take 3 (drop (3 * k) (statedIn g t out start s held n)) ≡ threeOf (stepStated g t k (writingAt g t out start s k))
+    unfolding statedIn
+    stated-at n k h l = to-at (min n (length held / 3)) k (omega arith) _
 
     full : (k : ℕ) → length held / 3 ≤ k → statedIn g t out start s held k ≡ statedIn g t out start s held (suc k)
     unfolding statedIn

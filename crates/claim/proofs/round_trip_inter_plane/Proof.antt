@@ -11,8 +11,8 @@ use borrow.Author.Needs.{needs}
 use Rattle.claim.proofs.round_trip_inter_plane.Statement.{statement}
 use Rattle.claim.proofs.round_trip_inter_plane.Tie as tie
 
-encode-inter-plane-requires : tie.Need-encode-inter-plane-requires
-encode-inter-plane-requires c κs = search needs
+encode-inter-plane-stated-requires : tie.Need-encode-inter-plane-stated-requires
+encode-inter-plane-stated-requires c κs = search needs
 
 decode-inter-plane-requires : tie.Need-decode-inter-plane-requires
 decode-inter-plane-requires c κs = search needs
@@ -38,23 +38,30 @@ same-length-6 c = search needs
 same-length-7 : tie.Need-same-length-7
 same-length-7 c = search needs
 
+same-length-8 : tie.Need-same-length-8
+same-length-8 c = search needs
+
 returns : tie.Need-returns
 returns c =
-    let a = c .before .before .before .before .before .before .before .before .before .before .before .before .before .before .before .before .before .before .before .before .before .before .before .before .before .before .before .before .before .before .before .before .before .before .before .args in
+    let read = c .before .before .before .before .before .before in
+    let wrote = read .before .before .before .before .before .before .before .before .before .before .before .before .before .before .before in
+    let a = wrote .before .before .before .before .before .before .before .before .before .before .before .before .before .before .before .before .before .before .args in
     let g : Given = givenBy (a .canvas) (a .reference .now) (a .book .now) (a .codebook .now) in
     let t : Task = taskBy (a .source .now) (a .lambda) (a .radius) (a .four) in
-    let source : Bytes (a .source .now) = λ k. omega (arith, c .before .before .before .before .before .before .before .before .before .before .before .before .before .before .before .before .before .before .before .before .before .before .before .before .before .before .before .before .before .before .before .before .before .before .shared-slice-known .given k) in
-    let reference : Bytes (a .reference .now) = λ k. omega (arith, c .before .before .before .before .before .before .before .before .before .before .before .before .before .before .before .before .before .before .before .before .before .before .before .before .before .before .before .before .before .before .before .before .before .shared-slice-known2 .given k) in
-    tripped g t (a .out .now) (a .start) (record { recon = a .recon .now; vx = a .vx .now; vy = a .vy .now }) (record { recon = a .back .now; vx = a .backx .now; vy = a .backy .now }) _ _ _
-    (record { recon = c .before .before .before .before .before .before .before .before .before .before .before .before .before .before .before .before .before .before .before .encode-inter-plane .last .1 .1 .1 .1 .1 .1 .1 .1 .1 .1 .0; vx = c .before .before .before .before .before .before .before .before .before .before .before .before .before .before .before .before .before .before .before .encode-inter-plane .last .1 .1 .1 .1 .1 .1 .1 .1 .1 .1 .1 .0; vy = c .before .before .before .before .before .before .before .before .before .before .before .before .before .before .before .before .before .before .before .encode-inter-plane .last .1 .1 .1 .1 .1 .1 .1 .1 .1 .1 .1 .1 .0 })
-    (record { recon = c .before .before .before .before .before .before .decode-inter-plane .last .1 .1 .1 .1 .1 .1 .0; vx = c .before .before .before .before .before .before .decode-inter-plane .last .1 .1 .1 .1 .1 .1 .1 .0; vy = c .before .before .before .before .before .before .decode-inter-plane .last .1 .1 .1 .1 .1 .1 .1 .1 .0 })
-    refl (record { source = source; reference = reference }) (c .before .before .before .before .before .before .before .before .before .before .before .before .before .before .before .before .before .before .before .encode-inter-plane .ensures) (c .before .before .before .before .before .before .decode-inter-plane .ensures)
+    let source : Bytes (a .source .now) = λ k. omega (arith, wrote .before .before .before .before .before .before .before .before .before .before .before .before .before .before .before .before .before .shared-slice-known .given k) in
+    let reference : Bytes (a .reference .now) = λ k. omega (arith, wrote .before .before .before .before .before .before .before .before .before .before .before .before .before .before .before .before .shared-slice-known2 .given k) in
+    let w = wrote .encode-inter-plane-stated in
+    let r = read .decode-inter-plane in
+    tripped g t (a .out .now) (a .start) (record { recon = a .recon .now; vx = a .vx .now; vy = a .vy .now }) (a .stated .now) (record { recon = a .back .now; vx = a .backx .now; vy = a .backy .now }) _ _ _
+    (record { recon = w .last .1 .1 .1 .1 .1 .1 .1 .1 .1 .1 .0; vx = w .last .1 .1 .1 .1 .1 .1 .1 .1 .1 .1 .1 .0; vy = w .last .1 .1 .1 .1 .1 .1 .1 .1 .1 .1 .1 .1 .0 }) _
+    (record { recon = r .last .1 .1 .1 .1 .1 .1 .0; vx = r .last .1 .1 .1 .1 .1 .1 .1 .0; vy = r .last .1 .1 .1 .1 .1 .1 .1 .1 .0 })
+    refl (record { source = source; reference = reference }) (w .ensures) (r .ensures)
 
 pub round-trip-inter-plane-spec : {M : Type 1} → statement M
 round-trip-inter-plane-spec =
     tie.close
     (tie.spec
-    encode-inter-plane-requires
+    encode-inter-plane-stated-requires
     decode-inter-plane-requires
     same-length
     same-length-2
@@ -63,4 +70,5 @@ round-trip-inter-plane-spec =
     same-length-5
     same-length-6
     same-length-7
+    same-length-8
     returns)
