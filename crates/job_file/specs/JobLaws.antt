@@ -15,8 +15,9 @@ use Rattle.text.specs.Reading.{countBefore, lineBefore}
 use Rattle.text.specs.TextLaws.{none-some, number-le, count-le, count-all, some-piece, pieces-last, pieces-next, lines-none, lines-open, lines-next}
 use Rattle.text.specs.WritingLaws.{digits-without}
 use Rattle.job_file.specs.Job.{Job, mostWidth, mostHeight, jobOf, jobRead, oneLine, jobIn}
+use Rattle.job_file.specs.declared.JobRead.{JobRead}
 use Rattle.job_file.specs.declared.FieldRead.the-variants.{Field, NoField}
-use Rattle.job_file.specs.JobReading.{Taken, takenOf, fieldIn, FieldFound, onto, eachUpTo, ontoRest, fieldsIn, bounds, jobMade}
+use Rattle.job_file.specs.JobReading.{jobGiven, jobAnswer, jobTold, Taken, takenOf, fieldIn, FieldFound, onto, eachUpTo, ontoRest, fieldsIn, bounds, jobMade}
 
 -- ---- all fields
 -- a job is read where each field is a number within its bound
@@ -242,3 +243,13 @@ job-small t j = go (linesOf t)
     go (some []) q = none-some q
     go (some (l ∷ [])) q = fields-small (fieldsOf l) j q
     go (some (l ∷ (m ∷ ms))) q = none-some q
+
+-- the answer tells which job, if any
+same-job : (p o : Option Job) → jobAnswer p ≡ jobAnswer o → p ≡ o
+same-job none none e = refl
+same-job none (some j) e = let z : _≡_ {A = ℕ} 0 1 = cc in absurd (omega arith)
+same-job (some i) none e = let z : _≡_ {A = ℕ} 0 1 = cc in absurd (omega arith)
+same-job (some i) (some j) e = cc
+
+pub job-told : (r : JobRead) (o : Option Job) → jobTold r ≡ jobAnswer o → o ≡ jobGiven r
+job-told r o e = sym (same-job (jobGiven r) o e)

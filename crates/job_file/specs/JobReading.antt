@@ -6,6 +6,7 @@ use mathlib.Core.Option.{Option, none, some}
 use lib.Dec.{eqb, ltb}
 use lib.ListN.{length, take, drop}
 use Rattle.bits.specs.Basics.{pick}
+use Rattle.bits.specs.Calls.{Answer, done, refused}
 use Rattle.text.specs.Text.{comma, numberUpTo}
 use Rattle.text.specs.Reading.{countBefore}
 use Rattle.bits.specs.BasicsLaws.{partFrom}
@@ -20,10 +21,18 @@ use Rattle.job_file.specs.declared.FieldRead.the-variants.{Field, NoFiel
 abbrev pub jobBy : ListingJob → Job
 jobBy j = record { width = j .width; height = j .height; lambda = j .lambda; radius = j .radius; allowFour = j .four }
 
--- what the answer of reading a job line says
-abbrev pub jobTold : JobRead → Option Job
-jobTold (Told.Job j) = some (jobBy j)
-jobTold Told.NoJob = none
+-- what the answer of reading a job line stands for, if for a job
+abbrev pub jobGiven : JobRead → Option Job
+jobGiven (Told.Job j) = some (jobBy j)
+jobGiven Told.NoJob = none
+
+-- and by document 01's number: a line that asks for no job is 1
+abbrev pub jobAnswer : Option Job → Answer Job
+jobAnswer none = refused 1
+jobAnswer (some j) = done j
+
+abbrev pub jobTold : JobRead → Answer Job
+jobTold r = jobAnswer (jobGiven r)
 
 -- ---- one field
 -- its number, and the text behind its comma

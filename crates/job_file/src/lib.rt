@@ -2,7 +2,7 @@
 ghost use mathlib.Core.Path.{_≡_};
 ghost use Rattle.text.specs.Text.{fieldsOf};
 ghost use Rattle.job_file.specs.Job.{jobIn, jobRead};
-ghost use Rattle.job_file.specs.JobReading.{FieldFound, jobTold};
+ghost use Rattle.job_file.specs.JobReading.{FieldFound, jobGiven, jobAnswer, jobTold};
 use text::NumberRead;
 
 // What a job line asks for.
@@ -42,7 +42,7 @@ fn read_field(t: &[u8], most: u64) -> FieldRead
 
 // The five fields of a line, without its line feed.
 fn read_fields(t: &[u8]) -> JobRead
-    ensures { λ r. ⌜ jobTold r ≡ jobRead (fieldsOf (now (t .entry))) ⌝ }
+    ensures { λ r. ⌜ jobGiven r ≡ jobRead (fieldsOf (now (t .entry))) ⌝ }
 {
     let FieldRead::Field(width, a) = read_field(t, 176) else {
         return JobRead::NoJob;
@@ -73,7 +73,7 @@ fn read_fields(t: &[u8]) -> JobRead
 
 // A job file: one line, ended by a line feed.
 pub fn read_job(line: &[u8]) -> JobRead
-    ensures { λ r. ⌜ jobTold r ≡ jobIn (now (line .entry)) ⌝ }
+    ensures { λ r. ⌜ jobTold r ≡ jobAnswer (jobIn (now (line .entry))) ⌝ }
 {
     let n = text::find(line, b'\n');
     if n == line.len() {

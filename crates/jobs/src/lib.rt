@@ -1,3 +1,3 @@
 // The listing program's work: the text that it prints.
-mod lines;
+mod inner;
 pub mod listing;

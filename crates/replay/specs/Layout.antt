@@ -6,11 +6,11 @@ use lib.Dec.{eqb, leb, ltb}
 use lib.ListN.{length, take, drop, getD}
 use Rattle.bits.specs.Basics.{pick}
 use Rattle.canvas.specs.Canvas.{padded16}
-use Rattle.replay.specs.declared.file.Scene.{Scene}
-use Rattle.replay.specs.declared.file.SceneRead.{SceneRead}
-use Rattle.replay.specs.declared.file.SceneRead.the-variants as scene
-use Rattle.replay.specs.declared.file.JobRead.{JobRead}
-use Rattle.replay.specs.declared.file.JobRead.the-variants as job
+use Rattle.replay.specs.declared.inner.file.Scene.{Scene}
+use Rattle.replay.specs.declared.inner.file.SceneRead.{SceneRead}
+use Rattle.replay.specs.declared.inner.file.SceneRead.the-variants as scene
+use Rattle.replay.specs.declared.inner.file.JobRead.{JobRead}
+use Rattle.replay.specs.declared.inner.file.JobRead.the-variants as job
 
 -- the n bytes at a place; none where they are not all there
 unfoldable pub partOf : List ℕ → ℕ → ℕ → List ℕ

@@ -12,11 +12,11 @@ use lib.Seq.{drop-cons, drop-length, getD-drop}
 use borrow.Author.Tests.{eq-eqb, ne-eqb, le-leb, lt-leb, lt-ltb, le-ltb, leb-true}
 use Rattle.bits.specs.Basics.{pick, Bytes}
 use Rattle.canvas.specs.Canvas.{padded16}
-use Rattle.replay.specs.declared.file.Scene.{Scene}
-use Rattle.replay.specs.declared.file.SceneRead.{SceneRead}
-use Rattle.replay.specs.declared.file.SceneRead.the-variants as scene
-use Rattle.replay.specs.declared.file.JobRead.{JobRead}
-use Rattle.replay.specs.declared.file.JobRead.the-variants as job
+use Rattle.replay.specs.declared.inner.file.Scene.{Scene}
+use Rattle.replay.specs.declared.inner.file.SceneRead.{SceneRead}
+use Rattle.replay.specs.declared.inner.file.SceneRead.the-variants as scene
+use Rattle.replay.specs.declared.inner.file.JobRead.{JobRead}
+use Rattle.replay.specs.declared.inner.file.JobRead.the-variants as job
 use Rattle.replay.specs.Layout.{partOf, little, numberOf, bytesFor, mostSide, mostSize, jobsAt, sceneOf, bookAt, codebookAt, sizedIn, sceneIn, measuredIn, jobIn}
 
 -- ---- parts

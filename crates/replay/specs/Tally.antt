@@ -4,9 +4,9 @@ use mathlib.Core.List.{List}
 use Rattle.bits.specs.Basics.{pick}
 use Rattle.tree.specs.Plan.{saturated}
 use Rattle.plane_enc.specs.declared.svq1_enc_inter.WriteEnd.{WriteEnd}
-use Rattle.replay.specs.declared.compare.Difference.{Difference}
-use Rattle.replay.specs.declared.compare.Difference.the-variants.{Same}
-use Rattle.replay.specs.declared.tally.Tally.{Tally}
+use Rattle.replay.specs.declared.inner.compare.Difference.{Difference}
+use Rattle.replay.specs.declared.inner.compare.Difference.the-variants.{Same}
+use Rattle.replay.specs.declared.inner.tally.Tally.{Tally}
 use Rattle.replay.specs.Compare.{isSame, modesIn}
 
 abbrev pub none : Tally

@@ -4,25 +4,22 @@ ghost use Prim.Native.Nat.{_≤_};
 ghost use lib.ListN.{length};
 ghost use Rattle.replay.specs.Layout.{mostSize};
 
-mod compare;
-mod file;
-mod run;
-mod tally;
+mod inner;
 
-use file::JobRead;
-use file::Scene;
-use file::SceneRead;
-use file::byte;
-use file::number_at;
-use file::read_job;
-use file::read_scene;
-use run::replay_job;
-use tally::Tally;
-use tally::add;
-use tally::no_tally;
-use tally::put_count;
-use tally::put_tally;
-use tally::write_line;
+use inner::file::JobRead;
+use inner::file::Scene;
+use inner::file::SceneRead;
+use inner::file::byte;
+use inner::file::number_at;
+use inner::file::read_job;
+use inner::file::read_scene;
+use inner::run::replay_job;
+use inner::tally::Tally;
+use inner::tally::add;
+use inner::tally::no_tally;
+use inner::tally::put_count;
+use inner::tally::put_tally;
+use inner::tally::write_line;
 use text::put_text;
 
 // How far a scene or the list was replayed: whether it was all there, the place behind it, and what was counted.

@@ -1,7 +1,8 @@
 -- The line feed found ends the line; behind it nothing stands. Assumes nothing.
 use native.Mathlib.Omega.{arith}
-use mathlib.Core.Path.{sym, _∙_}
+use mathlib.Core.Path.{sym, ap, _∙_}
 use lib.Seq.{length-take-le}
+use Rattle.job_file.specs.JobReading.{jobAnswer}
 use Rattle.job_file.specs.JobLaws.{job-open, job-more, job-one}
 use borrow.Author.Needs.{needs}
 use Rattle.job_file.proofs.read_job.Statement.{statement}
@@ -11,13 +12,13 @@ find-requires : tie.Need-find-requires
 find-requires c κs = search needs
 
 returns : tie.Need-returns
-returns c = sym (job-open (c .before .before .before .args .line .now) (c .before .find .result) (c .before .find .ensures .count) (omega arith))
+returns c = ap jobAnswer (sym (job-open (c .before .before .before .args .line .now) (c .before .find .result) (c .before .find .ensures .count) (omega arith)))
 
 add-if2 : tie.Need-add-if2
 add-if2 c = search needs
 
 returns-2 : tie.Need-returns-2
-returns-2 c = sym (job-more (c .before .before .before .before .args .line .now) (c .before .before .find .result) (c .before .before .find .ensures .count) (omega arith))
+returns-2 c = ap jobAnswer (sym (job-more (c .before .before .before .before .args .line .now) (c .before .before .find .result) (c .before .before .find .ensures .count) (omega arith)))
 
 slice-aggregate-read-fields : tie.Need-slice-aggregate-read-fields
 slice-aggregate-read-fields c = let f = c .before .before .before in sym (length-take-le (f .find .result) (f .before .before .args .line .now) (f .find .ensures .within))
@@ -28,7 +29,7 @@ read-fields-requires c κs = search needs
 returns-3 : tie.Need-returns-3
 returns-3 c =
     let f = c .before .before .before .before in
-    c .read-fields .ensures ∙ sym (job-one (f .before .before .args .line .now) (f .find .result) (f .find .ensures .count) (omega arith) (omega arith))
+    ap jobAnswer (c .read-fields .ensures ∙ sym (job-one (f .before .before .args .line .now) (f .find .result) (f .find .ensures .count) (omega arith) (omega arith)))
 
 pub read-job-spec : {M : Type 1} → statement M
 read-job-spec =

@@ -4,7 +4,7 @@ use mathlib.Core.List.{[]}
 use Rattle.job_file.specs.JobReading.{jobBy}
 use Rattle.jobs.specs.Listing.{Files}
 use Rattle.jobs.specs.Listed.{filesBy}
-use Rattle.job_file.specs.JobLaws.{job-small}
+use Rattle.job_file.specs.JobLaws.{job-small, job-told}
 use Rattle.jobs.specs.FilesLaws.{text-by}
 use Rattle.jobs.specs.RoomLaws.{listed-short, listed-none, listed-job}
 use mathlib.Core.Option.{some}
@@ -38,14 +38,14 @@ returns-2 : tie.Need-returns-2
 returns-2 c =
     let a = c .before .before .before .before .before .before .before .before .before .before .before .before .before .before .args in
     let f : Files = filesBy (a .book .now) (a .codebook .now) (a .source .now) (a .reference .now) (a .job .now) in
-    listed-none f (a .text .now) _ _ (c .before .before .before .before .before .before .before .if1 .left) (sym (c .before .before .before .before .before .before .read-job .ensures) ∙ rw (c .before .before .before .before .enum-told .given .1)) (c .before .before .put-refused .ensures)
+    listed-none f (a .text .now) _ _ (c .before .before .before .before .before .before .before .if1 .left) (job-told (c .before .before .before .before .before .before .read-job .result) (jobIn (a .job .now)) (c .before .before .before .before .before .before .read-job .ensures) ∙ rw (c .before .before .before .before .enum-told .given .1)) (c .before .before .put-refused .ensures)
 
 list-job-requires : tie.Need-list-job-requires
 list-job-requires c κs =
     let a = c .before .before .before .before .before .before .before .before .before .before .before .before .args in
     let f : Files = filesBy (a .book .now) (a .codebook .now) (a .source .now) (a .reference .now) (a .job .now) in
     let j = c .before .before .j .given in
-    let asked : jobIn (a .job .now) ≡ some (jobBy (j .0 .0)) = sym (c .before .before .before .before .read-job .ensures) ∙ rw (j .1) in
+    let asked : jobIn (a .job .now) ≡ some (jobBy (j .0 .0)) = job-told (c .before .before .before .before .read-job .result) (jobIn (a .job .now)) (c .before .before .before .before .read-job .ensures) ∙ rw (j .1) in
     let small = job-small (a .job .now) (jobBy (j .0 .0)) asked in
     (small .0, small .1, c .before .before .before .before .before .if1 .left)
 
@@ -57,7 +57,7 @@ returns-3 c =
     let a = c .before .before .before .before .before .before .before .before .before .before .before .before .before .before .before .args in
     let f : Files = filesBy (a .book .now) (a .codebook .now) (a .source .now) (a .reference .now) (a .job .now) in
     let j = c .before .before .before .before .before .j .given in
-    let asked : jobIn (a .job .now) ≡ some (jobBy (j .0 .0)) = sym (c .before .before .before .before .before .before .before .read-job .ensures) ∙ rw (j .1) in
+    let asked : jobIn (a .job .now) ≡ some (jobBy (j .0 .0)) = job-told (c .before .before .before .before .before .before .before .read-job .result) (jobIn (a .job .now)) (c .before .before .before .before .before .before .before .read-job .ensures) ∙ rw (j .1) in
     listed-job f (a .text .now) (jobBy (j .0 .0)) _ _ (c .before .before .before .before .before .before .before .before .if1 .left) asked (rw (text-by (a .book .now) (a .codebook .now) (a .source .now) (a .reference .now) (a .job .now) [] (jobBy (j .0 .0))) (c .before .before .list-job .ensures))
 
 pub listing-spec : {M : Type 1} → statement M
