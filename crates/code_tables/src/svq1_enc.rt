@@ -2,36 +2,21 @@
 ghost use mathlib.Core.Path.{_≡_};
 ghost use lib.ListN.{length};
 ghost use Rattle.code_tables.specs.Codes.{code, codesOf};
-ghost use Rattle.code_tables.specs.Calls.{entryRefusal, codeRefusal};
+ghost use Rattle.code_tables.specs.Calls.{codeRefusal};
 ghost use Rattle.bits.specs.Calls.{Put};
 use super::inner;
+use super::refusal::table_refusal;
 use bits::inner::room_refusal;
 use bits::svq1_enc::Pushed;
-
-// Refusals 5 and 6 of one entry of a table.
-fn entry_refusal(table: &[u8], position: usize) -> u8
-    ensures { λ r. ⌜ r ≡ entryRefusal (now (table .entry)) position ⌝ }
-{
-    if table.len() % 3 != 0 {
-        return 5;
-    }
-    if table.len() / 3 <= position {
-        return 5;
-    }
-    if inner::good_entry(
-        inner::entry_val(table, position),
-        inner::entry_len(table, position),
-    ) {
-        return 0;
-    }
-    6
-}
 
 // Refusals of a code that is to be written into `bytes` bytes.
 fn code_refusal(bytes: usize, at: usize, table: &[u8], position: usize) -> u8
     ensures { λ r. ⌜ r ≡ codeRefusal bytes at (now (table .entry)) position ⌝ }
 {
-    let refusal = entry_refusal(table, position);
+    if table.len() / 3 <= position {
+        return 5;
+    }
+    let refusal = table_refusal(table);
     if refusal != 0 {
         return refusal;
     }

@@ -1,7 +1,8 @@
 // Codes read from a lent slice.
 ghost use mathlib.Core.Path.{_≡_};
-ghost use Rattle.code_tables.specs.Calls.{tableRefusal, codeAnswer, codeAt, readAnswer};
+ghost use Rattle.code_tables.specs.Calls.{codeAnswer, codeAt, readAnswer};
 use super::inner;
+use super::refusal::table_refusal;
 use bits::inner::start_refusal;
 
 // What reading a code finds at a bit: the position of its entry and the bit behind it; no code; or the start of one, cut off by the end.
@@ -15,19 +16,6 @@ pub enum CodeRead {
 pub enum CodeAnswer {
     Code(usize, usize),
     Refused(u8),
-}
-
-// Refusals 5 and 6 of a table.
-fn table_refusal(table: &[u8]) -> u8
-    ensures { λ r. ⌜ r ≡ tableRefusal (now (table .entry)) ⌝ }
-{
-    if table.len() % 3 != 0 {
-        return 5;
-    }
-    if inner::good_table(table) {
-        return 0;
-    }
-    6
 }
 
 // What was found, with the numbers of refusals.

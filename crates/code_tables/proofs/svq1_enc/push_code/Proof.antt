@@ -19,7 +19,7 @@ put-code-requires c κs =
     let q = c .before in
     let a = q .before .before .before .before .args in
     let f = code-passes (length (now (a .out))) (a .at) (now (a .table)) (a .position) (sym (q .before .code-refusal .ensures) ∙ q .if1 .left) in
-    f
+    (f .entry, f .fits)
 
 same-length : tie.Need-same-length
 same-length c = search needs

@@ -35,7 +35,7 @@ read-code-requires c κs =
     let q = u in
     let a = q .before .before .before .before .args in
     let f = start-passes (length (now (a .s))) (a .at) (sym (c .before .start-refusal .ensures) ∙ c .if2 .left) in
-    (f, table-passes (now (a .table)) (sym (q .before .table-refusal .ensures) ∙ q .if1 .left))
+    (f, table-passes (now (a .table)) (sym (q .before .table-refusal .ensures) ∙ q .if1 .left) .0)
 
 answered-requires : tie.Need-answered-requires
 answered-requires c κs = search needs
