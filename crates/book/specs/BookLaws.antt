@@ -10,14 +10,20 @@ use lib.Dec.{eqb}
 use lib.ListN.{length, take, drop, getD, replicate, length-drop, getD-replicate, drop-of-length-le}
 use lib.Seq.{take-nil, take-append-add, getD-append-add, take-take, drop-drop, drop-cons, length-take-le}
 use borrow.Author.Tests.{eqb-true}
-use Rattle.bits.specs.Basics.{unless}
+use Rattle.bits.specs.Basics.{every, unless}
 use Rattle.bits.specs.BasicsLaws.{both-true, or-none, unless-none}
 use Rattle.code_tables.specs.Codes.{code, codesOf, goodTable, prefixFree}
 use Rattle.code_tables.specs.Inner.{GoodEntry}
+use Rattle.code_tables.specs.Calls.{oneOf, tableBytes}
 use Rattle.code_tables.specs.CodesLaws.{length-codesOf, code-most, good-is, good-take, good-drop}
 use Rattle.book.specs.Book.{bookBytes, codebookBytes, entries, modeTable, vectorTable, meanTable, stageFamily, stageTable, Tables, tablesOf, codeTableSizes, eachPrefixFree, codesRefusal, bookRefusal, dataRefusal}
 use Rattle.book.specs.declared.svq1_vlc.Svq1Half.{Svq1Half}
 use Rattle.book.specs.declared.svq1_vlc.Svq1Half.the-variants.{Intra, Inter}
+
+-- each of the sixteen tables has a size that a table lent alone may have
+pub sizes-taken : every (λ n. oneOf tableBytes (3 * n)) codeTableSizes ≡ true
+unfolding every oneOf
+sizes-taken = refl
 
 -- ---- tables one behind the other
 -- how many entries there are in all

@@ -1,6 +1,6 @@
 -- Laws of levels and of their parts of a stage family.
-use Prim.Native.Nat.{ℕ, suc, _+_, _-_, _*_, _≤_}
-use mathlib.Core.Path.{_≡_, ap}
+use Prim.Native.Nat.{ℕ, _+_, _-_, _*_, _≤_}
+use mathlib.Core.Path.{_≡_}
 use mathlib.Core.List.{List, []}
 use native.Mathlib.Omega.{arith}
 use lib.ListN.{length, take, drop, length-drop}
@@ -10,10 +10,9 @@ use Rattle.book.specs.Level.{levelNumber}
 use Rattle.book.specs.Book.{bookBytes, stageFamily, stageTable}
 use Rattle.book.specs.declared.svq1_vlc.Svq1Half.{Svq1Half}
 use Rattle.book.specs.declared.svq1_vlc.Svq1Half.the-variants.{Intra, Inter}
-use Rattle.book.specs.Calls.{subdivision, lentFamily, familyBytes, familyPart}
+use Rattle.book.specs.Calls.{lentFamily, familyBytes, familyPart}
 use Rattle.book.specs.declared.svq1_blocktree.Svq1Level.{Svq1Level}
 use Rattle.book.specs.declared.svq1_blocktree.Svq1Level.the-variants.{L0, L1, L2, L3, L4, L5}
-use Rattle.book.specs.declared.svq1_blocktree.Subdivision.the-variants.{Parts}
 
 -- a level is one of six
 pub level-most : (l : Svq1Level) → levelNumber l ≤ 5
@@ -23,15 +22,6 @@ level-most L2 = omega arith
 level-most L3 = omega arith
 level-most L4 = omega arith
 level-most L5 = omega arith
-
--- a block's parts are one level down
-pub parts-level : (l p : Svq1Level) → subdivision l ≡ Parts p → levelNumber l ≡ suc (levelNumber p)
-parts-level L0 p e = let z : _≡_ {A = ℕ} 0 1 = cc in absurd (omega arith)
-parts-level L1 p e = let q : L0 ≡ p = cc in ap (λ (x : Svq1Level). suc (levelNumber x)) q
-parts-level L2 p e = let q : L1 ≡ p = cc in ap (λ (x : Svq1Level). suc (levelNumber x)) q
-parts-level L3 p e = let q : L2 ≡ p = cc in ap (λ (x : Svq1Level). suc (levelNumber x)) q
-parts-level L4 p e = let q : L3 ≡ p = cc in ap (λ (x : Svq1Level). suc (levelNumber x)) q
-parts-level L5 p e = let q : L4 ≡ p = cc in ap (λ (x : Svq1Level). suc (levelNumber x)) q
 
 -- the bytes of a level's part of a family
 pub family-part-is : (d : ℕ) (family : List ℕ) → length family ≡ familyBytes → take (24 * d + 24 - 24 * d) (drop (24 * d) family) ≡ familyPart d family

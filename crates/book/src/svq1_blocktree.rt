@@ -1,6 +1,6 @@
 ghost use mathlib.Core.Path.{_≡_};
 ghost use Prim.Native.Nat.{_≤_};
-ghost use Rattle.book.specs.Calls.{subdivision};
+ghost use Rattle.book.specs.Calls.{partsOf, partsLevel};
 ghost use Rattle.book.specs.Level.{levelNumber, width, height, area};
 
 // The six block sizes of a macroblock's tree, from 4×2 samples to 16×16.
@@ -85,7 +85,7 @@ impl Svq1Level {
     }
 
     pub fn subdivide(self) -> Subdivision
-        ensures { λ r. ⌜ r ≡ subdivision self ⌝ }
+        ensures { λ r. ⌜ partsOf r ≡ partsLevel (levelNumber self) ⌝ }
     {
         match self {
             Svq1Level::L0 => Subdivision::Whole,

@@ -2,6 +2,7 @@
 -- Assumes nothing.
 use Prim.Native.Nat.{ℕ, zero, suc, _≤_, _<_}
 use mathlib.Core.Path.{_≡_, refl}
+use mathlib.Core.Option.{some, none}
 use native.Mathlib.Omega.{arith}
 use borrow.Author.Tests.{lt-ltb, le-ltb}
 use Rattle.book.specs.Level.{area}
@@ -10,13 +11,12 @@ use Rattle.book.specs.declared.svq1_vlc.Svq1Half.the-variants.{Intra, Inter}
 use Rattle.codebook.specs.Codebook.{pageOffset, rasterOf}
 use Rattle.codebook.specs.CodebookCalls.{pagePlace, rasterPlace}
 use Rattle.codebook.specs.Raised.{pageStart}
-use Rattle.codebook.specs.declared.svq1_codebook.Place.the-variants.{At, Nowhere}
 
-pub page-at : (d : ℕ) (h : Svq1Half) (x : ℕ) → d < 4 → x ≡ pageStart h d → At x ≡ pagePlace d h
+pub page-at : (d : ℕ) (h : Svq1Half) (x : ℕ) → d < 4 → x ≡ pageStart h d → some x ≡ pagePlace d h
 unfolding pagePlace
 page-at d h x l e = rw (e, lt-ltb d 4 l)
 
-pub page-nowhere : (d : ℕ) (h : Svq1Half) → 4 ≤ d → Nowhere ≡ pagePlace d h
+pub page-nowhere : (d : ℕ) (h : Svq1Half) → 4 ≤ d → none ≡ pagePlace d h
 unfolding pagePlace
 page-nowhere d h l = rw (le-ltb d 4 l)
 
@@ -33,13 +33,13 @@ pub behind-inter : (d : ℕ) → 4 ≤ d → pageStart Inter d ≡ 0
 behind-inter d l = rw (le-ltb d 4 l)
 
 -- bytes of blocks 4 samples wide are in raster order already
-pub narrow-place : (d b : ℕ) → d < 2 → b < area d → At b ≡ rasterPlace d b
+pub narrow-place : (d b : ℕ) → d < 2 → b < area d → some b ≡ rasterPlace d b
 unfolding rasterPlace rasterOf
 narrow-place zero b h l = rw (lt-ltb b (area 0) l)
 narrow-place (suc zero) b h l = rw (lt-ltb b (area 1) l)
 narrow-place (suc (suc d)) b h l = absurd (omega arith)
 
-pub wide-place : (d b x : ℕ) → 2 ≤ d → d < 4 → b < area d → x ≡ rasterOf 3 b → x ≡ rasterOf 2 b → At x ≡ rasterPlace d b
+pub wide-place : (d b x : ℕ) → 2 ≤ d → d < 4 → b < area d → x ≡ rasterOf 3 b → x ≡ rasterOf 2 b → some x ≡ rasterPlace d b
 unfolding rasterPlace
 wide-place (suc (suc zero)) b x g h l e f = rw (lt-ltb b (area 2) l, f)
 wide-place (suc (suc (suc zero))) b x g h l e f = rw (lt-ltb b (area 3) l, e)
@@ -47,11 +47,11 @@ wide-place zero b x g h l e f = absurd (omega arith)
 wide-place (suc zero) b x g h l e f = absurd (omega arith)
 wide-place (suc (suc (suc (suc d)))) b x g h l e f = absurd (omega arith)
 
-pub no-level : (d b : ℕ) → 4 ≤ d → Nowhere ≡ rasterPlace d b
+pub no-level : (d b : ℕ) → 4 ≤ d → none ≡ rasterPlace d b
 unfolding rasterPlace
 no-level d b l = rw (le-ltb d 4 l)
 
-pub no-byte : (d b : ℕ) → d < 4 → area d ≤ b → Nowhere ≡ rasterPlace d b
+pub no-byte : (d b : ℕ) → d < 4 → area d ≤ b → none ≡ rasterPlace d b
 unfolding rasterPlace
 no-byte d b h l = rw (lt-ltb d 4 h, le-ltb b (area d) l)
 

@@ -1,11 +1,13 @@
 -- The house book and the house codebook by their rules (document 01, "The book").
-use Prim.Native.Nat.{ℕ, zero, suc, _+_, _-_, _*_, _/_, _%_}
+use Prim.Native.Nat.{ℕ, zero, suc, _+_, _-_, _*_, _/_, _%_, _<_}
+use mathlib.Core.Path.{_≡_}
 use mathlib.Core.Bool.{true, false}
 use mathlib.Core.List.{List, [], _∷_}
 use lib.Dec.{ltb}
 use lib.IntN.{ℤ, pos, negsuc, subℕ}
 use Rattle.bits.specs.Basics.{pick, valuesFrom, signedByte}
-use Rattle.book.specs.Book.{bookEntries, codebookBytes}
+use Rattle.code_tables.specs.Codes.{codeVal, codeLen}
+use Rattle.book.specs.Book.{bookEntries, codebookBytes, bookRefusal}
 
 -- floor of the logarithm to base 2, of a number below 2^fuel
 unfoldable pub logUnder : ℕ → ℕ → ℕ
@@ -40,6 +42,13 @@ houseFrom (suc n) p = houseValue p / 256 ∷ houseValue p % 256 ∷ houseLength 
 
 unfoldable pub houseBook : List ℕ
 houseBook = houseFrom bookEntries 0
+
+-- a table that is the house book: its bytes, the rule at each entry, and that none of 5, 6 and 7 refuses it
+pub record HouseBook (t : List ℕ) : Type 0 where
+  pub bytes : t ≡ houseBook
+  pub values : (p : ℕ) → p < bookEntries → codeVal t p ≡ houseValue p
+  pub lengths : (p : ℕ) → p < bookEntries → codeLen t p ≡ houseLength p
+  pub passes : bookRefusal t ≡ 0
 
 -- byte i of the house codebook: ((37 i + floor(i/16)) mod 61) - 30
 abbrev pub houseSample : ℕ → ℤ

@@ -1,10 +1,10 @@
--- Laws of the house book and the house codebook. Upper layers cite house-book, house-passes and house-sample-at.
-use Prim.Native.Nat.{ℕ, zero, suc, _+_, _-_, _*_, _/_, _≤_, _<_}
-use mathlib.Core.Path.{_≡_, refl, ap, _∙_}
-use mathlib.Core.Bool.{Bool, true, false, _&&_}
+-- Laws of the house book and the house codebook.
+use Prim.Native.Nat.{ℕ, zero, suc, _+_, _-_, _*_, _/_, _%_, _≤_, _<_}
+use mathlib.Core.Path.{_≡_, refl, sym, ap, _∙_}
+use mathlib.Core.Bool.{Bool, true, false, _&&_, true≢false}
 use mathlib.Core.List.{List, [], _∷_}
 use native.Mathlib.Omega.{arith}
-use native.Mathlib.Nat.{add-zero, zero-add}
+use native.Mathlib.Nat.{add-zero, zero-add, div-add-mod'}
 use lib.Dec.{eqb}
 use lib.IntN.{subℕ}
 use lib.ListN.{length, take, drop, getD}
@@ -12,18 +12,35 @@ use borrow.Author.Tests.{eqb-true, lt-ltb, le-ltb}
 use Rattle.bits.specs.BasicsLaws.{both-true, length-values, value-at}
 use Rattle.bits.specs.Bits.{msb}
 use Rattle.code_tables.specs.Codes.{codeVal, codeLen, codesOf, goodTable}
-use Rattle.book.specs.Book.{bookEntries, bookBytes, codebookBytes, modeTable, codeTableSizes, eachPrefixFree, codesRefusal, bookRefusal}
-use Rattle.house.specs.House.{logUnder, signedRank, rank, houseValue, houseLength, houseFrom, houseBook, houseSample, houseCodebook}
+use Rattle.book.specs.Book.{bookEntries, bookBytes, codebookBytes, codeTableSizes, eachPrefixFree, codesRefusal, bookRefusal}
+use Rattle.house.specs.House.{logUnder, signedRank, rank, houseValue, houseLength, houseFrom, houseBook, HouseBook, houseSample, houseCodebook}
 use Rattle.bits.specs.Basics.{signedByte}
 use Rattle.house.specs.Trie.{none, free, enter, allFree, free-is}
 
--- ---- the test that antt computes
--- each entry, counted from p, has the value and the length of the rule
+-- ---- the rule, entry by entry
+length-house : (n p : ℕ) → length (houseFrom n p) ≡ 3 * n
+unfolding houseFrom
+length-house zero p = refl
+length-house (suc n) p = omega (arith, length-house n (suc p))
+
+house-at : (n p k : ℕ) → k < n → (codeVal (houseFrom n p) k ≡ houseValue (p + k)) × (codeLen (houseFrom n p) k ≡ houseLength (p + k))
+unfolding houseFrom
+house-at zero p k h = absurd (omega arith)
+house-at (suc n) p zero h = rw (add-zero p) (div-add-mod' (houseValue p) 256, refl)
+house-at (suc n) p (suc k) h =
+    let e0 : 3 * suc k ≡ suc (suc (suc (3 * k))) = omega arith in
+    let e1 : 3 * suc k + 1 ≡ suc (suc (suc (3 * k + 1))) = omega arith in
+    let e2 : 3 * suc k + 2 ≡ suc (suc (suc (3 * k + 2))) = omega arith in
+    let e : p + suc k ≡ suc p + k = omega arith in
+    rw (e2, e1, e0, e) (house-at n (suc p) k (omega arith))
+
+-- ---- the test that antt computes over a table
+-- each entry, counted from p, has the bytes of the rule
 unfoldable pub ruled : ℕ → List ℕ → Bool
 ruled p [] = true
 ruled p (h ∷ []) = false
 ruled p (h ∷ l ∷ []) = false
-ruled p (h ∷ l ∷ n ∷ t) = (eqb (h * 256 + l) (houseValue p) && eqb n (houseLength p)) && ruled (suc p) t
+ruled p (h ∷ l ∷ n ∷ t) = (eqb h (houseValue p / 256) && (eqb l (houseValue p % 256) && eqb n (houseLength p))) && ruled (suc p) t
 
 -- in each of the tables of these many entries, one behind the other, no code begins another, by the tree
 unfoldable pub eachFree : List ℕ → List ℕ → Bool
@@ -35,22 +52,19 @@ unfoldable pub houseTest : List ℕ → Bool
 houseTest t = (eqb (length t) bookBytes && ruled 0 t) && (goodTable t && eachFree codeTableSizes t)
 
 -- ---- what it shows
-ruled-at : (p k : ℕ) (t : List ℕ) → ruled p t ≡ true → k < length t / 3 → (codeVal t k ≡ houseValue (p + k)) × (codeLen t k ≡ houseLength (p + k))
-unfolding ruled
-ruled-at p k [] e h = absurd (omega arith)
-ruled-at p k (a ∷ []) e h = absurd (omega arith)
-ruled-at p k (a ∷ b ∷ []) e h = absurd (omega arith)
-ruled-at p zero (a ∷ b ∷ n ∷ t) e h =
-    let two = both-true (eqb (a * 256 + b) (houseValue p) && eqb n (houseLength p)) (ruled (suc p) t) e in
-    let one = both-true (eqb (a * 256 + b) (houseValue p)) (eqb n (houseLength p)) (two .0) in
-    rw (add-zero p) (eqb-true (a * 256 + b) (houseValue p) (one .0), eqb-true n (houseLength p) (one .1))
-ruled-at p (suc k) (a ∷ b ∷ n ∷ t) e h =
-    let two = both-true (eqb (a * 256 + b) (houseValue p) && eqb n (houseLength p)) (ruled (suc p) t) e in
-    let e0 : 3 * suc k ≡ suc (suc (suc (3 * k))) = omega arith in
-    let e1 : 3 * suc k + 1 ≡ suc (suc (suc (3 * k + 1))) = omega arith in
-    let e2 : 3 * suc k + 2 ≡ suc (suc (suc (3 * k + 2))) = omega arith in
-    let n : p + suc k ≡ suc p + k = omega arith in
-    rw (e2, e1, e0, n) (ruled-at (suc p) k t (two .1) (omega arith))
+ruled-is : (p n : ℕ) (t : List ℕ) → ruled p t ≡ true → length t ≡ 3 * n → t ≡ houseFrom n p
+unfolding ruled houseFrom
+ruled-is p zero [] e h = refl
+ruled-is p (suc n) [] e h = absurd (omega arith)
+ruled-is p n (a ∷ []) e h = absurd (true≢false (sym e))
+ruled-is p n (a ∷ b ∷ []) e h = absurd (true≢false (sym e))
+ruled-is p zero (a ∷ b ∷ m ∷ t) e h = absurd (omega arith)
+ruled-is p (suc n) (a ∷ b ∷ m ∷ t) e h =
+    let two = both-true (eqb a (houseValue p / 256) && (eqb b (houseValue p % 256) && eqb m (houseLength p))) (ruled (suc p) t) e in
+    let high = both-true (eqb a (houseValue p / 256)) (eqb b (houseValue p % 256) && eqb m (houseLength p)) (two .0) in
+    let rest = both-true (eqb b (houseValue p % 256)) (eqb m (houseLength p)) (high .1) in
+    rw (eqb-true a (houseValue p / 256) (high .0), eqb-true b (houseValue p % 256) (rest .0), eqb-true m (houseLength p) (rest .1))
+    (ap (λ (l : List ℕ). houseValue p / 256 ∷ houseValue p % 256 ∷ houseLength p ∷ l) (ruled-is (suc p) n t (two .1) (omega arith)))
 
 each-free : (ns t : List ℕ) → eachFree ns t ≡ true → eachPrefixFree ns t ≡ true
 unfolding eachFree eachPrefixFree
@@ -59,39 +73,24 @@ each-free (n ∷ ns) t e =
     let two = both-true (allFree none (codesOf (take (3 * n) t))) (eachFree ns (drop (3 * n) t)) e in
     rw (free-is (codesOf (take (3 * n) t)) (two .0)) (each-free ns (drop (3 * n) t) (two .1))
 
--- the house book, entry by entry, and that nothing refuses it
-pub record HouseBook (t : List ℕ) : Type 0 where
-  pub size : length t ≡ bookBytes
-  pub values : (p : ℕ) → p < bookEntries → codeVal t p ≡ houseValue p
-  pub lengths : (p : ℕ) → p < bookEntries → codeLen t p ≡ houseLength p
-  pub passes : bookRefusal t ≡ 0
-
-by-test : (t : List ℕ) → houseTest t ≡ true → HouseBook t
-unfolding houseTest bookRefusal codesRefusal
+-- THE HOUSE BOOK: one test that antt computes over the whole table shows the rule at each entry and that no table has a clash. `house_book` has it computed over the constant
+pub by-test : (t : List ℕ) → houseTest t ≡ true → HouseBook t
+unfolding houseTest houseBook bookRefusal codesRefusal
 by-test t e =
     let two = both-true (eqb (length t) bookBytes && ruled 0 t) (goodTable t && eachFree codeTableSizes t) e in
     let rule = both-true (eqb (length t) bookBytes) (ruled 0 t) (two .0) in
     let codes = both-true (goodTable t) (eachFree codeTableSizes t) (two .1) in
-    let n : length t ≡ bookBytes = eqb-true (length t) bookBytes (rule .0) in
+    let same : t ≡ houseFrom bookEntries 0 = ruled-is 0 bookEntries t (rule .1) (eqb-true (length t) bookBytes (rule .0)) in
     record {
-      size = n;
-      values = λ p h. rw (zero-add p) at (ruled-at 0 p t (rule .1) (omega arith) .0);
-      lengths = λ p h. rw (zero-add p) at (ruled-at 0 p t (rule .1) (omega arith) .1);
+      bytes = same;
+      values = λ p h. rw (same, house-at bookEntries 0 p h .0, zero-add p);
+      lengths = λ p h. rw (same, house-at bookEntries 0 p h .1, zero-add p);
       passes = rw (rule .0, codes .0, each-free codeTableSizes t (codes .1));
     }
 
--- THE HOUSE BOOK: one test that antt computes over the whole table shows the rule at each entry and that no table has a clash
-pub house-book : HouseBook houseBook
-unfolding houseBook houseFrom houseTest ruled eachFree goodTable rank signedRank logUnder allFree free enter codesOf msb
-house-book = by-test houseBook refl
-
-pub house-passes : bookRefusal houseBook ≡ 0
-house-passes = house-book .passes
-
--- the mode codes, INTER, INTER_4MV, INTRA and SKIP, written out
-pub house-modes : codesOf (modeTable houseBook) ≡ (0 ∷ 1 ∷ 0 ∷ []) ∷ (0 ∷ 1 ∷ 1 ∷ []) ∷ (0 ∷ 0 ∷ 1 ∷ 0 ∷ 0 ∷ []) ∷ (1 ∷ []) ∷ []
-unfolding houseBook houseFrom rank signedRank logUnder codesOf msb
-house-modes = refl
+pub length-house-book : length houseBook ≡ bookBytes
+unfolding houseBook
+length-house-book = length-house bookEntries 0
 
 -- ---- the codebook
 pub length-house-codebook : length houseCodebook ≡ codebookBytes

@@ -2,9 +2,9 @@
 ghost use mathlib.Core.Path.{_≡_};
 ghost use Prim.Native.Nat.{_<_};
 ghost use lib.ListN.{length};
-ghost use Rattle.book.specs.Book.{bookBytes, codebookBytes};
-ghost use Rattle.house.specs.Fill.{Filled};
-ghost use Rattle.house.specs.House.{houseBook, houseCodebook, houseSample};
+ghost use Rattle.book.specs.Book.{codebookBytes};
+ghost use Rattle.house.specs.Fill.{Filled, BookFilled};
+ghost use Rattle.house.specs.House.{HouseBook, houseCodebook, houseSample};
 ghost use Rattle.bits.specs.Basics.{signedByte};
 
 // Mode, vector, intramean, intermean, intrastage, interstage: 932 entries, each the code's high byte, its low byte, its length.
@@ -2814,7 +2814,7 @@ const HOUSE_BOOK: [u8; 2796] = [
 ];
 
 pub fn house_book() -> [u8; 2796]
-    ensures { λ r. ⌜ r ≡ houseBook ⌝ }
+    ensures { λ r. ⌜ HouseBook r ⌝ }
 {
     HOUSE_BOOK
 }
@@ -2833,7 +2833,7 @@ fn copy_in(out: &mut [u8], from: &[u8])
 
 // The house book put into a slice of 2,796 bytes; 5 for a slice of another length.
 pub fn fill_house_book(out: &mut [u8]) -> u8
-    ensures { λ r. ⌜ Filled bookBytes houseBook (now (out .entry)) r (now (out .exit)) ⌝ }
+    ensures { λ r. ⌜ BookFilled (now (out .entry)) r (now (out .exit)) ⌝ }
 {
     if out.len() != 2796 {
         return 5;
