@@ -137,4 +137,5 @@ leaf-found codebook bytes h d cap allowSkip t p code js e out most size c =
       leaf = c .leaf ∙ rule-same n vs ws same h t p allowSkip;
       erring = c .erring ∙ ap (sse t) shown;
       shown = c .shown ∙ shown;
+      clean = c .clean;
     }

@@ -8,6 +8,7 @@ use Rattle.book.specs.declared.svq1_vlc.Svq1Half.{Svq1Half}
 use Rattle.leaf.specs.declared.svq1_enc_leaf.LeafCode.{LeafCode}
 use Rattle.codebook.specs.Codebook.{vectorAt}
 use Rattle.leaf.specs.Leaf.{Leaf, Vectors, sse, leafShown, codedLeaf, leafRule, capAt}
+use Rattle.leaf.specs.Lent.{Clean}
 use Rattle.leaf.specs.Raised.{vectorsIn, leafOf}
 
 -- a block of 1 to 256 samples, a predictor, room for sums and samples, and at most six stages, each of sixteen vectors, from `base` on
@@ -20,11 +21,12 @@ pub record Ready (t p a out book : List ℕ) (base cap : ℕ) : Type 0 where
   pub stages : cap ≤ 6
   pub page : base + length t * 16 * cap ≤ length book
 
--- a leaf, its error and the samples that it shows
+-- a leaf in its one form, its error and the samples that it shows
 pub record Leafed (vs : Vectors) (t p : List ℕ) (l : Leaf) (code : LeafCode) (stages : List ℕ) (error : ℕ) (out : List ℕ) : Type 0 where
   pub leaf : leafOf code stages ≡ l
   pub erring : error ≡ sse t (leafShown vs p l)
   pub shown : out ≡ leafShown vs p l
+  pub clean : Clean code stages
 
 -- the coded leaf, and the leaf that the rules choose
 abbrev pub Coding : Svq1Half → List ℕ → List ℕ → List ℕ → ℕ → ℕ → LeafCode → List ℕ → ℕ → List ℕ → Type 0

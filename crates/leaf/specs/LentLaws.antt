@@ -1,14 +1,14 @@
 -- Laws of leaves written by lent tables.
 -- Assumes nothing.
-use Prim.Native.Nat.{ℕ, _+_, _*_, _/_, _≤_, _<_, min}
+use Prim.Native.Nat.{ℕ, _+_, _-_, _*_, _/_, _≤_, _<_, min}
 use mathlib.Core.Path.{_≡_, refl, sym, ap, _∙_}
 use mathlib.Core.Bool.{true}
 use mathlib.Core.List.{List, [], _∷_, _++_, append-assoc, append-nil}
 use native.Mathlib.Omega.{arith}
 use native.Mathlib.Numerals.{add-one}
 use lib.IntN.{ℤ}
-use lib.ListN.{length, take, getD, length-take}
-use lib.Seq.{take-suc}
+use lib.ListN.{length, take, drop, getD, replicate, length-take, take-append-drop}
+use lib.Seq.{take-suc, length-take-le}
 use Rattle.bits.specs.Bits.{msb}
 use Rattle.bits.specs.ReadLaws.{take-min}
 use Rattle.code_tables.specs.Codes.{code, codesOf, codeLen, goodTable}
@@ -24,7 +24,7 @@ use Rattle.leaf.specs.Leaf.{Leaf, skip, coded}
 use Rattle.leaf.specs.LeafBits.{stageBits, leafBits}
 use Rattle.leaf.specs.LeafBitsLaws.{Allowed, length-leaf}
 use Rattle.leaf.specs.Raised.{leafOf}
-use Rattle.leaf.specs.Lent.{lentTables, lentBits, LentTables, CodeFits}
+use Rattle.leaf.specs.Lent.{lentTables, lentBits, LentTables, CodeFits, Clean}
 use Rattle.leaf.specs.declared.svq1_enc_leaf.LeafCode.{LeafCode}
 use Rattle.leaf.specs.declared.svq1_enc_leaf.LeafCode.the-variants.{Skip, Coded}
 
@@ -133,3 +133,14 @@ module _ (h : Svq1Half) (stage mean js : List ℕ) (t : LentTables h stage mean)
   pub skip-wrote : (out left : List ℕ) (at r : ℕ) → Wrote out at (code (codesOf stage) 0) r left → Wrote out at (lentBits h stage mean (leafOf Skip js)) r left
   unfolding leafBits
   skip-wrote out left at r w = w
+
+-- ---- a leaf's one form
+-- as many stages as are counted, and zeros behind them
+pub coded-clean : (m : ℤ) (n : ℕ) (js : List ℕ) → n ≤ 6 → length js ≡ 6 → drop n js ≡ replicate (6 - n) 0 → Clean (Coded m n) js
+coded-clean m n js h six e =
+    let size : length (take n js) ≡ n = length-take-le n js (omega arith) in
+    record { code = rw size; stages = rw (size, ← e) (sym (take-append-drop n js)) }
+
+-- skip has none
+pub skip-clean : (js : List ℕ) → js ≡ replicate 6 0 → Clean Skip js
+skip-clean js e = record { code = refl; stages = e }

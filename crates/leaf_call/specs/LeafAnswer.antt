@@ -11,6 +11,7 @@ use Rattle.book.specs.Level.{area}
 use Rattle.leaf.specs.LeafCall.{BlockIn, LeafChosen, leafAnswer}
 use Rattle.leaf.specs.Raised.{leafOf}
 use Rattle.leaf.specs.LeafBits.{leafBits}
+use Rattle.leaf.specs.Lent.{Clean}
 use Rattle.leaf.specs.Inner.{LeafFound}
 use Rattle.book.specs.Book.{tablesOf, codebookBytes, bookRefusal}
 use Rattle.book.specs.declared.svq1_vlc.Svq1Half.{Svq1Half}
@@ -37,11 +38,12 @@ refusedAnswer n = record { refused = n; code = Skip; stages = replicate 6 0; bit
 abbrev pub foundAnswer : LeafCode → List ℕ → ℕ → ℕ → List ℕ → LeafAnswer
 foundAnswer c stages bits error samples = record { refused = 0; code = c; stages = stages; bits = bits; error = error; samples = samples }
 
--- a call's answer: by the definition; the samples behind the block's are 0; a refused one is its number and nothing else
+-- a call's answer: by the definition, the leaf in its one form; the samples behind the block's are 0; a refused one is its number and nothing else
 pub record LeafAnswered (b : BlockIn) (r : LeafAnswer) : Type 0 where
   pub answer : leafAnswerOf (length (b .target)) r ≡ leafAnswer b
   pub behind : drop (length (b .target)) (r .samples) ≡ replicate (256 - length (b .target)) 0
   pub bare : (r .refused ≡ 0 → ⊥) → r ≡ refusedAnswer (r .refused)
+  pub clean : Clean (r .code) (r .stages)
 
 -- what an accepted call asks of its parts: a book and a codebook that pass, room for the copy, and a block of its level
 pub record Searchable (book codebook raised : List ℕ) (d : ℕ) (h : Svq1Half) (t p : List ℕ) (cap : ℕ) (allowSkip : Bool) : Type 0 where

@@ -19,6 +19,7 @@ use Rattle.leaf.specs.LeafBits.{leafBits}
 use Rattle.leaf.specs.Raised.{leafOf}
 use Rattle.codebook.specs.Raised.{raisedCodebook}
 use Rattle.leaf.specs.Inner.{LeafFound}
+use Rattle.leaf.specs.LentLaws.{skip-clean}
 use Rattle.leaf.specs.AgreeLaws.{leaf-found}
 use Rattle.leaf_call.specs.declared.svq1_enc_leaf.LeafAnswer.{LeafAnswer}
 use Rattle.leaf.specs.declared.svq1_enc_leaf.LeafCode.{LeafCode}
@@ -137,6 +138,7 @@ answer-refused b n e h =
       answer = rw (← e, ne-eqb n 0 h);
       behind = drop-replicate (length (b .target)) 256;
       bare = λ z. refl;
+      clean = skip-clean _ refl;
     }
 
 -- what was found, counted, and put at the front of 256 zeros
@@ -151,6 +153,7 @@ answer-found b r e z f c d =
       answer = rw (z, eq-eqb (blockRefusal b) 0 e, c, f .erring, f .shown, f .leaf);
       behind = d ∙ drop-replicate (length (b .target)) 256;
       bare = λ n. absurd (n z);
+      clean = f .clean;
     }
 
 -- what was found in the copy, by the codebook

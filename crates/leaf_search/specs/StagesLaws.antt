@@ -2,11 +2,11 @@
 -- Assumes nothing.
 use mathlib.Core.Path.{_≡_, sym, _∙_, ap, ap₂}
 use mathlib.Core.List.{List, [], _∷_, _++_, append-assoc, append-nil}
-use Prim.Native.Nat.{ℕ, _+_, _-_, _*_, _≤_, _<_}
+use Prim.Native.Nat.{ℕ, suc, _+_, _-_, _*_, _≤_, _<_}
 use native.Mathlib.Omega.{arith}
 use native.Mathlib.Numerals.{add-one}
-use lib.ListN.{length, take, drop, getD, set, length-set}
-use lib.Seq.{take-suc-set}
+use lib.ListN.{length, take, drop, getD, set, replicate, length-set}
+use lib.Seq.{take-suc-set, drop-set-lt, drop-cons}
 use lib.IntN.{ℤ}
 use Rattle.leaf.specs.Leaf.{Vectors, sse, plus, samples, argmin, stages, staged}
 use Rattle.leaf.specs.Raised.{less, vector, vectorsIn, vectorError, plusN, Searched}
@@ -24,6 +24,7 @@ pub record Going (t a₀ book : List ℕ) (base bias cap : ℕ) (a index : List 
   pub sums : staged (vectorsIn book base (length t)) count (less p a) (stages (vectorsIn book base (length t)) t (cap - count) count (less p a))
       ≡ staged (vectorsIn book base (length t)) 0 (less bias a₀) (stages (vectorsIn book base (length t)) t cap 0 (less bias a₀))
   pub found : least ≡ sse t (samples (less p a))
+  pub behind : drop count index ≡ replicate (6 - count) 0
 
 module _ (t a₀ book : List ℕ) (base bias cap : ℕ) (a index : List ℕ) (count at p least : ℕ) (g : Going t a₀ book base bias cap a index count at p least) where
   abbrev vs : Vectors
@@ -38,6 +39,8 @@ module _ (t a₀ book : List ℕ) (base bias cap : ℕ) (a index : List ℕ) (co
         sums = ap (λ (b : ℕ). less b a) (sym (g .biased)) ∙ (rw e at (g .sums));
         least = g .found ∙ ap (λ (b : ℕ). sse t (samples (less b a))) (g .biased);
         counted = g .within;
+        six = g .six;
+        behind = g .behind;
       }
 
   -- a stage is taken
@@ -57,6 +60,15 @@ module _ (t a₀ book : List ℕ) (base bias cap : ℕ) (a index : List ℕ) (co
         ap₂ (λ (k : ℕ) (z : List ℤ). staged vs k z js) (sym (add-one count))
         (ap (λ (b : ℕ). plus (less p a) (vector book b (length t) j)) (sym (g .place)) ∙ sym next-sums)
 
+    -- the zeros behind it are one fewer
+    fewer : drop (count + 1) (set index count j) ≡ replicate (6 - (count + 1)) 0
+    fewer =
+        let n : 6 - count ≡ suc (6 - (count + 1)) = omega arith in
+        let one = drop-cons index count 0 (omega (arith, g .six)) in
+        let zeros = rw n at (g .behind) in
+        let rest : drop (suc count) index ≡ replicate (6 - (count + 1)) 0 = cc in
+        drop-set-lt (count + 1) index count j (omega arith) ∙ ap (λ (k : ℕ). drop k index) (add-one count) ∙ rest
+
     pub taken : Going t a₀ book base bias cap a′ (set index count j) (count + 1) (at + length t * 16) (p + 128) e
     unfolding vectorError
     taken =
@@ -70,4 +82,5 @@ module _ (t a₀ book : List ℕ) (base bias cap : ℕ) (a index : List ℕ) (co
           indices = rw (add-one, take-suc-set index count j (omega (arith, g .six)), append-assoc, ← add-one) (rw next at (g .indices));
           sums = sym (one-stage (stages vs t (cap - (count + 1)) (count + 1) (less (p + 128) a′))) ∙ (rw next at (g .sums));
           found = error ∙ ap (λ (z : List ℤ). sse t (samples z)) (sym next-sums);
+          behind = fewer;
         }

@@ -1,4 +1,5 @@
 -- One leaf: skip where it is open and no worse, else the coded one. Assumes nothing.
+use mathlib.Core.Path.{refl}
 use native.Mathlib.Omega.{arith}
 use Rattle.leaf_search.specs.InnerLaws.{skip-wins, skip-loses, skip-closed}
 use borrow.Author.Needs.{needs}
@@ -26,7 +27,7 @@ returns c =
     let s = c .before .before .before .before .before .before .before .before .before .before .before .before .search-coded in
     rw (c .before .before .before .before .before .before .before .if1 .taken)
     (skip-wins (a .half) (a .t .now) (a .p .now) (a .book .now) (a .base) (a .cap) (s .result .code) (s .result .stages) (s .result .error) _ (s .ensures) _ _ (c .before .before .before .before .before .before .distance-of .result)
-    (c .before .before .before .before .before .before .distance-of .ensures) (omega (arith, c .before .before .before .before .if2 .taken)) (c .before .before .copy .ensures))
+    (c .before .before .before .before .before .before .distance-of .ensures) (omega (arith, c .before .before .before .before .if2 .taken)) (c .before .before .copy .ensures) refl)
 
 same-length-3 : tie.Need-same-length-3
 same-length-3 c = search needs

@@ -45,7 +45,8 @@ same-length-2 c = search needs
 
 returns : tie.Need-returns
 returns c =
-    let a = c .before .before .before .before .before .before .before .before .before .before .before .before .before .before .before .before .before .before .before .before .before .before .before .before .args in
+    let q = c .before .before .before .before .before .before .before .before .before .before .before .before .before .before .before .before .before .before .before .before .before .before .before .before in
+    let a = q .args in
     let s = c .before .before .before .before .before .before .before .before .before .before .search-stages in
     let mean = c .before .before .before .before .before .before .before .before .before .before .before .before .before .before .before .before .before .before .residual-mean .result in
     let small : mean < 32768 = omega (arith, c .before .before .before .before .before .before .before .before .before .before .before .before .before .before .before .before .before .before .residual-mean .ensures .1) in
@@ -54,6 +55,7 @@ returns c =
     coded-done (a .half) (a .t .now) (a .p .now) (a .book .now) _ _ (s .result .index) _ (a .base) (a .cap) mean (s .result .count) (s .result .error)
     (c .before .before .before .before .before .bias-of .result) (toZ w16 (ofZ w16 (c .signed-mean .result)))
     (c .before .before .before .before .before .before .before .before .before .before .before .before .before .before .before .before .before .before .residual-mean .ensures .0) (c .before .before .before .before .before .before .before .before .before .before .before .before .before .before .before .before .seed .ensures .0) (s .ensures) stored (c .before .before .before .before .before .bias-of .ensures) (c .before .before .before .show .ensures)
+    (omega (arith, s .ensures .counted, q .pre .stages))
 
 pub search-coded-spec : {M : Type 1} → statement M
 search-coded-spec =

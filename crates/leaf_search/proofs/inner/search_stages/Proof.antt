@@ -31,6 +31,7 @@ loop-holds c =
       indices = rw z;
       sums = rw z;
       found = s .pre .1 .2;
+      behind = refl;
     }
 
 best-vector-requires : tie.Need-best-vector-requires Inv-loop μ-loop
