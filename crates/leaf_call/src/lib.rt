@@ -1,2 +1,3 @@
 // The leaf search as a call, with its refusals.
+pub mod inner;
 pub mod svq1_enc_leaf;

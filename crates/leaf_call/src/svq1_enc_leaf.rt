@@ -3,8 +3,9 @@ ghost use mathlib.Core.Path.{_≡_};
 ghost use Prim.Native.Nat.{_<_};
 ghost use lib.ListN.{length};
 ghost use Rattle.book.specs.Level.{levelNumber};
-ghost use Rattle.leaf.specs.LeafCall.{halfAt, blockRefusal};
+ghost use Rattle.leaf.specs.LeafCall.{blockRefusal};
 ghost use Rattle.leaf_call.specs.LeafAnswer.{blockFits, refusedAnswer, foundAnswer, LeafAnswered, Searchable, Found};
+use super::inner::half_of;
 use book::svq1_blocktree::Svq1Level;
 use book::svq1_vlc::Svq1Half;
 use codebook::inner::raise_codebook;
@@ -34,16 +35,6 @@ fn level_of(level: u8) -> Svq1Level
         3 => Svq1Level::L3,
         4 => Svq1Level::L4,
         _ => Svq1Level::L5,
-    }
-}
-
-// The half of a number.
-pub fn half_of(half: u8) -> Svq1Half
-    ensures { λ r. ⌜ r ≡ halfAt half ⌝ }
-{
-    match half {
-        0 => Svq1Half::Intra,
-        _ => Svq1Half::Inter,
     }
 }
 

@@ -4,6 +4,7 @@ use mathlib.Core.Bool.{Bool, true, false}
 use Prim.Native.Nat.{ℕ, _^_, _≤_, _<_}
 use borrow.Author.Tests.{lt-ltb, le-ltb}
 use Rattle.bits.specs.Basics.{pick}
+use Rattle.leaf.specs.Lent.{Clean}
 use Rattle.tree.specs.Plan.{Weight, cost, joined, flagged, cheaper}
 use Rattle.plan.specs.declared.svq1_enc_tree.PlannedBlock.{PlannedBlock}
 
@@ -18,6 +19,10 @@ weigh b = weight (b .bits) (b .error)
 pub record Light (b : PlannedBlock) : Type 0 where
   pub bits : b .bits < 65536
   pub error : b .error < 2 ^ 30
+
+-- the leaf choice in its one form
+abbrev pub CleanChoice : PlannedBlock → Type 0
+CleanChoice b = Clean (b .code) (b .stages)
 
 -- the leaf l as what it or a split weighs
 abbrev pub decidedAs : Bool → PlannedBlock → Weight → PlannedBlock

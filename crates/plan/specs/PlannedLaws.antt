@@ -18,7 +18,7 @@ use Rattle.plan.specs.PlanLaws.{most-bits, most-err}
 use Rattle.plan.specs.PlanClaimLaws as claim
 use Rattle.tree_samples.specs.Subtree.{inTree}
 use Rattle.tree_samples.specs.SubtreeLaws.{in-plane}
-use Rattle.plan.specs.Planned.{weigh, Light, decidedAs, decided}
+use Rattle.plan.specs.Planned.{weigh, Light, CleanChoice, decidedAs, decided}
 use Rattle.plan.specs.declared.svq1_enc_tree.PlannedBlock.{PlannedBlock}
 
 -- what the array holds before: nothing that is read
@@ -31,23 +31,29 @@ module _ (g : Planning) where
     pub leaf : leafOf (b .code) (b .stages) ≡ leafAt g k
     pub whole : b .split ≡ false
     pub weighs : weigh b ≡ weightAt g k
+    pub clean : CleanChoice b
 
   -- the record of a block as the plan has it
   pub record PlannedAt (k : ℕ) (b : PlannedBlock) : Type 0 where
     pub leaf : leafOf (b .code) (b .stages) ≡ leafAt g k
     pub split : b .split ≡ planSplits g k
     pub weighs : weigh b ≡ planned (weightAt g) (g .lambda) (level k) k
+    pub clean : CleanChoice b
 
   -- a block of L0 is a leaf
   pub leaf-planned : (k : ℕ) (b : PlannedBlock) → 31 ≤ k → LeafAt k b → PlannedAt k b
   unfolding planSplits planned splits
-  leaf-planned k b h l = record { leaf = l .leaf; split = rw (level-0 k h) (l .whole); weighs = rw (level-0 k h) (l .weighs) }
+  leaf-planned k b h l = record { leaf = l .leaf; split = rw (level-0 k h) (l .whole); weighs = rw (level-0 k h) (l .weighs); clean = l .clean }
 
   -- any other is decided by its parts
   same-leaf : (t : Bool) (l : PlannedBlock) (u v : Weight)
       → leafOf (pick t (decidedAs true l u) (decidedAs false l v) .code) (pick t (decidedAs true l u) (decidedAs false l v) .stages) ≡ leafOf (l .code) (l .stages)
   same-leaf true l u v = refl
   same-leaf false l u v = refl
+
+  same-clean : (t : Bool) (l : PlannedBlock) (u v : Weight) → CleanChoice l → CleanChoice (pick t (decidedAs true l u) (decidedAs false l v))
+  same-clean true l u v c = c
+  same-clean false l u v c = c
 
   same-split : (t : Bool) (l : PlannedBlock) (u v : Weight) → pick t (decidedAs true l u) (decidedAs false l v) .split ≡ t
   same-split true l u v = refl
@@ -93,6 +99,7 @@ module _ (g : Planning) where
             leaf = same-leaf c l _ _ ∙ q .leaf;
             split = same-split c l _ _ ∙ by-same decide-by _ _ _ _ _ _ (q .weighs) wx wy ∙ split-by k d e;
             weighs = same-weight c l _ _ ∙ by-same weigh-by _ _ _ _ _ _ (q .weighs) wx wy ∙ weight-by k d e;
+            clean = same-clean c l _ _ (q .clean);
           }
 
   -- ---- the array

@@ -4,7 +4,7 @@ use mathlib.Core.Bool.{Bool, true, false}
 use mathlib.Core.List.{List}
 use Prim.Native.Nat.{ℕ, _≤_, _<_}
 use lib.ListN.{length}
-use Rattle.bits.specs.Basics.{pick}
+use Rattle.bits.specs.Basics.{pick, All}
 use Rattle.book.specs.Book.{tablesOf, bookRefusal, codebookBytes}
 use Rattle.book.specs.Level.{width, area}
 use Rattle.book.specs.declared.svq1_vlc.Svq1Half.{Svq1Half}
@@ -12,6 +12,7 @@ use Rattle.book.specs.declared.svq1_vlc.Svq1Half.the-variants.{Inter}
 use Rattle.codebook.specs.Codebook.{vectorAt}
 use Rattle.codebook.specs.Raised.{pageStart, raisedCodebook}
 use Rattle.leaf.specs.Leaf.{Leaf, Vectors, sse, leafShown, leafRule, capAt}
+use Rattle.leaf.specs.Lent.{Clean}
 use Rattle.leaf.specs.Raised.{leafOf, vectorsIn}
 use Rattle.leaf_search.specs.declared.svq1_enc_leaf.LeafChoice.{LeafChoice}
 use Rattle.leaf.specs.declared.svq1_enc_leaf.LeafCode.{LeafCode}
@@ -20,7 +21,7 @@ use Rattle.tree.specs.Plan.{Planning, planWeight}
 use Rattle.plan.specs.Planned.{weight}
 use Rattle.tree_samples.specs.Subtree.{inTree}
 use Rattle.tree.specs.TreeBits.{Node, Split, Ends, planTree}
-use Rattle.tree.specs.Nodes.{treeOf}
+use Rattle.tree.specs.Nodes.{treeOf, CleanBlock}
 use Rattle.plan.specs.declared.svq1_enc_tree.MbPlan.{MbPlan}
 use Rattle.plan.specs.declared.svq1_enc_tree.PlannedBlock.{PlannedBlock}
 
@@ -46,7 +47,7 @@ pub record Scratch (d t p sums shown : ℕ) : Type 0 where
   pub sums-long : sums ≡ 256
   pub shown-long : shown ≡ 256
 
--- the leaf choice of block i by the raised codebook, and its error
+-- the leaf choice of block i by the raised codebook, in its one form, and its error
 module _ (h : Svq1Half) (raised : List ℕ) (most : ℕ) (skips : Bool) (d : ℕ) (target predictor : List ℕ) (i : ℕ) where
   abbrev blockIn : List ℕ → List ℕ
   blockIn = blockOf (width d) (level i) i
@@ -60,6 +61,7 @@ module _ (h : Svq1Half) (raised : List ℕ) (most : ℕ) (skips : Bool) (d : ℕ
   pub record BlockLeaf (r : LeafChoice) : Type 0 where
     pub leaf : leafOf (r .code) (r .stages) ≡ leafIn
     pub erring : r .error ≡ sse (blockIn target) (leafShown pageOf (blockIn predictor) leafIn)
+    pub clean : Clean (r .code) (r .stages)
 
 -- ---- the plan
 -- tables that pass, the codebook's raised copy, at most six stages, skip with the inter half only, a target and a predictor of level d
@@ -94,7 +96,8 @@ leafRecord c js n e = record { split = false; bits = n; error = e; code = c; sta
 abbrev pub plannedNode : PlannedBlock → Node
 plannedNode b = pick (b .split) Split (Ends (leafOf (b .code) (b .stages)))
 
--- the plan of the definitions, with what it weighs
+-- the plan of the definitions, with what it weighs, its blocks in their one form
 pub record PlanFound (g : Planning) (r : MbPlan) : Type 0 where
   pub tree : treeOf (r .blocks) ≡ planTree g
   pub weighs : weight (r .bits) (r .error) ≡ planWeight g
+  pub clean : All CleanBlock (r .blocks)

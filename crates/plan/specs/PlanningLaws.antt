@@ -2,16 +2,15 @@
 -- Assumes nothing.
 use mathlib.Core.Path.{_≡_, refl, sym, ap, _∙_}
 use mathlib.Core.Bool.{Bool, true, false, _||_, true≢false}
-use mathlib.Core.List.{List, [], _∷_, _++_, append-nil}
-use Prim.Native.Nat.{ℕ, zero, suc, _+_, _-_, _*_, _/_, _≤_, _<_}
+use mathlib.Core.List.{List, [], _∷_, _++_}
+use Prim.Native.Nat.{ℕ, zero, suc, _+_, _*_, _/_, _≤_, _<_}
 use native.Mathlib.Omega.{arith}
 use mathlib.Core.Logic.{⊎-elim, _⊎_, inl, inr}
 use native.Mathlib.Decide.{ℕ-discrete}
 use lib.Dec.{eqb}
 use borrow.Author.Tests.{eqb-true}
 use lib.ListN.{length, getD, set, replicate, length-set}
-use lib.Seq.{append-snoc, set-at}
-use Rattle.bits.specs.Basics.{pick, Bytes}
+use Rattle.bits.specs.Basics.{pick, Bytes, All}
 use Rattle.book.specs.Book.{tablesOf}
 use Rattle.book.specs.BookLaws.{good-tables}
 use Rattle.book.specs.Level.{width, area}
@@ -22,6 +21,8 @@ use Rattle.leaf.specs.AgreeLaws.{leaf-found}
 use Rattle.leaf.specs.Leaf.{leafShown}
 use Rattle.leaf.specs.LeafBits.{leafBits}
 use Rattle.leaf.specs.LeafLaws.{vectors-sized}
+use Rattle.leaf.specs.LentLaws.{skip-clean}
+use Rattle.leaf.specs.declared.svq1_enc_leaf.LeafCode.the-variants.{Skip}
 use Rattle.leaf_search.specs.LevelLeaf.{LevelChosen}
 use Rattle.leaf.specs.Raised.{leafOf, vectorsIn}
 use Rattle.codebook.specs.RaisedLaws.{raised-length}
@@ -30,14 +31,14 @@ use Rattle.tree.specs.Blocks.{blockCount, left, right, level, first, blockOf}
 use Rattle.tree.specs.GeometryLaws.{length-block, at-first}
 use Rattle.tree.specs.Plan.{Planning, leafAt, shownAt, weightAt, planSplits, planWeight}
 use Rattle.plan.specs.PlanClaimLaws as claim
-use Rattle.plan.specs.Planned.{weigh, Light, decided}
+use Rattle.plan.specs.AllLaws.{all-set, all-repeat}
+use Rattle.plan.specs.Planned.{weigh, Light, CleanChoice, decided}
 use Rattle.plan.specs.PlannedLaws.{blank, LeafAt, PlannedAt, Done, one-block, no-block, leaf-light, planned-light, parts-planned}
 use Rattle.tree_samples.specs.Subtree.{inTree}
 use Rattle.tree_samples.specs.SubtreeLaws.{in-plane, tree-parts, tree-root}
 use Rattle.tree.specs.TreeBits.{Node, Off, Split, Ends, isSplit, reached, grow, planTree}
-use Rattle.tree.specs.TreeLaws.{length-grow, grown}
-use Rattle.tree.specs.Nodes.{nodeOf, treeOf}
-use Rattle.tree.specs.WalkLaws.{tree-set, reached-front}
+use Rattle.tree.specs.TreeLaws.{grown}
+use Rattle.tree.specs.Nodes.{treeOf, CleanBlock}
 use Rattle.plan.specs.Planning.{BlockReady, LeafReady, BlockLeaf, PlanReady, planningIn, leafRecord, plannedNode, PlanFound}
 use Rattle.tree.specs.declared.svq1_enc_tree.Block.{Block}
 use Rattle.plan.specs.declared.svq1_enc_tree.PlannedBlock.{PlannedBlock}
@@ -51,6 +52,7 @@ block-leaf h raised most skips d target predictor i l t p out shown r el n et ep
     record {
       leaf = rw (n, el, et, ep) at (c .chosen .leaf);
       erring = rw (n, el, et, ep) at (c .chosen .erring);
+      clean = c .chosen .clean;
     }
 
 module _ (h : Svq1Half) (book codebook raised : List ℕ) (most : ℕ) (skips : Bool) (d : ℕ) (target predictor : List ℕ) where
@@ -94,7 +96,7 @@ module _ (h : Svq1Half) (book codebook raised : List ℕ) (most : ℕ) (skips : 
         let size : length (blockIn target) ≡ area (level i) =
         length-block (width d) (level i) i target (rw (p .target-long) (in-plane d i (p .five) (here .block) (here .under))) in
         leaf-found codebook bytes h (level i) most skips (blockIn target) (blockIn predictor) (r .code) (r .stages) (r .error) _ (p .few) size
-        (rw (← p .copy, size) (record { leaf = l .leaf; erring = l .erring; shown = ap (leafShown (vectorsIn raised (pageStart h (level i)) (area (level i))) (blockIn predictor)) (l .leaf) }))
+        (rw (← p .copy, size) (record { leaf = l .leaf; erring = l .erring; shown = ap (leafShown (vectorsIn raised (pageStart h (level i)) (area (level i))) (blockIn predictor)) (l .leaf); clean = l .clean }))
 
     pub leaf-at : (n : ℕ) → n ≡ length (leafBits (tablesOf book h) (level i) (leafOf (r .code) (r .stages)))
         → LeafAt (planningIn h book codebook most skips 0 d target predictor) i (leafRecord (r .code) (r .stages) n (r .error))
@@ -105,84 +107,39 @@ module _ (h : Svq1Half) (book codebook raised : List ℕ) (most : ℕ) (skips : 
           leaf = f .leaf;
           whole = refl;
           weighs = rw (e, f .erring, f .leaf);
+          clean = f .clean;
         }
 
 -- lambda plays no part in a leaf
 pub leaf-any : (h : Svq1Half) (book codebook : List ℕ) (most : ℕ) (skips : Bool) (lambda d : ℕ) (target predictor : List ℕ) (i : ℕ) (b : PlannedBlock)
     → LeafAt (planningIn h book codebook most skips 0 d target predictor) i b → LeafAt (planningIn h book codebook most skips lambda d target predictor) i b
 unfolding leafAt weightAt shownAt
-leaf-any h book codebook most skips lambda d target predictor i b l = record { leaf = l .leaf; whole = l .whole; weighs = l .weighs }
-
--- ---- the tree
--- the first i nodes of what the planned blocks make stand in the array t
-pub record Growing (r : ℕ) (choose : ℕ → Node) (t : List Block) (i : ℕ) : Type 0 where
-  pub upto : i ≤ blockCount
-  pub front : treeOf t ≡ grow r choose i ++ replicate (blockCount - i) Off
-
-module _ (r : ℕ) (choose : ℕ → Node) where
-  pub grow-begins : (t : List Block) → treeOf t ≡ replicate blockCount Off → Growing r choose t 0
-  unfolding grow
-  grow-begins t e = record { upto = omega arith; front = e }
-
-  pub grow-ends : (t : List Block) (i : ℕ) → Growing r choose t i → blockCount ≤ i → treeOf t ≡ grow r choose blockCount
-  grow-ends t i g h =
-      let z : i ≡ blockCount = omega (arith, g .upto) in
-      let none : blockCount - i ≡ 0 = omega arith in
-      g .front ∙ ap (λ (n : ℕ). grow r choose i ++ replicate n Off) none ∙ append-nil (grow r choose i) ∙ ap (grow r choose) z
-
-  pub grow-moved : (t u : List Block) (i : ℕ) → u ≡ t → Growing r choose t i → Growing r choose u i
-  grow-moved t u i e g = rw e g
-
-  module _ (t : List Block) (i : ℕ) (g : Growing r choose t i) (h : i < blockCount) where
-    one-less : blockCount - i ≡ suc (blockCount - (i + 1))
-    one-less = omega arith
-
-    front-less : treeOf t ≡ grow r choose i ++ (Off ∷ replicate (blockCount - (i + 1)) Off)
-    front-less = g .front ∙ ap (λ (n : ℕ). grow r choose i ++ replicate n Off) one-less
-
-    same-reached : reached r (treeOf t) i ≡ reached r (grow r choose i) i
-    same-reached =
-        ap (λ (l : List Node). reached r l i) (g .front)
-        ∙ reached-front r (grow r choose i) (replicate (blockCount - i) Off) i (omega (arith, length-grow r choose i))
-
-    longer : (x : Node) → pick (reached r (treeOf t) i) (choose i) Off ≡ x → grow r choose (i + 1) ≡ grow r choose i ++ (x ∷ [])
-    unfolding grow
-    longer x e =
-        let s : i + 1 ≡ suc i = omega arith in
-        ap (grow r choose) s ∙ ap (λ (b : Bool). grow r choose i ++ (pick b (choose i) Off ∷ [])) (sym same-reached) ∙ ap (λ (y : Node). grow r choose i ++ (y ∷ [])) e
-
-    pub grow-passed : reached r (treeOf t) i ≡ false → Growing r choose t (i + 1)
-    grow-passed f =
-        record {
-          upto = omega arith;
-          front = front-less ∙ sym (rw (longer Off (rw f)) (append-snoc (grow r choose i) Off (replicate (blockCount - (i + 1)) Off)));
-        }
-
-    pub grow-taken : (b : Block) → reached r (treeOf t) i ≡ true → nodeOf b ≡ choose i → Growing r choose (set t i b) (i + 1)
-    grow-taken b f e =
-        record {
-          upto = omega arith;
-          front = tree-set t i b ∙ rw (front-less, longer (nodeOf b) (rw f (sym e)))
-              (set-at (grow r choose i) Off (replicate (blockCount - (i + 1)) Off) (nodeOf b) i (length-grow r choose i) ∙ sym (append-snoc (grow r choose i) (nodeOf b) (replicate (blockCount - (i + 1)) Off)));
-        }
+leaf-any h book codebook most skips lambda d target predictor i b l = record { leaf = l .leaf; whole = l .whole; weighs = l .weighs; clean = l .clean }
 
 -- ---- every block, the last first
--- the blocks from i on are planned
+-- the blocks from i on are planned, and every record's leaf choice has its one form
 pub record Filling (g : Planning) (a : List PlannedBlock) (i : ℕ) : Type 0 where
   pub upto : i ≤ blockCount
   pub long : length a ≡ blockCount
   pub done : Done g a i
+  pub clean : All CleanChoice a
 
 module _ (g : Planning) where
-  pub fill-begins : (a : List PlannedBlock) → length a ≡ blockCount → Filling g a blockCount
-  fill-begins a e = record { upto = omega arith; long = e; done = λ k l u t. absurd (omega arith) }
+  pub fill-begins : (a : List PlannedBlock) → a ≡ replicate blockCount (leafRecord Skip (replicate 6 0) 0 0) → Filling g a blockCount
+  fill-begins a e =
+      record {
+        upto = omega arith;
+        long = ap length e;
+        done = λ k l u t. absurd (omega arith);
+        clean = rw e (all-repeat CleanChoice blockCount (leafRecord Skip (replicate 6 0) 0 0) (skip-clean (replicate 6 0) refl));
+      }
 
   module _ (a : List PlannedBlock) (j i : ℕ) (f : Filling g a j) (e : j ≡ i + 1) where
     pub fill-behind : Done g a (i + 1)
     fill-behind = rw (← e) (f .done)
 
     pub fill-passed : inTree (g .level) i ≡ false → Filling g a i
-    fill-passed n = record { upto = omega (arith, f .upto); long = f .long; done = no-block g a i n fill-behind }
+    fill-passed n = record { upto = omega (arith, f .upto); long = f .long; done = no-block g a i n fill-behind; clean = f .clean }
 
     pub fill-taken : (b : PlannedBlock) → PlannedAt g i b → Filling g (set a i b) i
     fill-taken b q =
@@ -190,6 +147,7 @@ module _ (g : Planning) where
           upto = omega (arith, f .upto);
           long = length-set a i b ∙ f .long;
           done = one-block g a i b (omega (arith, f .upto, f .long)) fill-behind q;
+          clean = all-set CleanChoice a i b (q .clean) (f .clean);
         }
 
   pub fill-ends : (a : List PlannedBlock) (i : ℕ) → Filling g a i → i ≤ 0 → Done g a 0
@@ -279,15 +237,16 @@ module _ (d : ℕ) (five : d ≤ 5) where
       (same-pick (reached (first d) (grow (first d) u n) n) (c n) (u n) (λ q. e n (omega arith) (under-root u n (omega arith) (suc n) n (omega arith) (omega arith) (omega arith) q))))
 
 pub plan-found : (g : Planning) → g .level ≤ 5 → (a : List PlannedBlock) → Done g a 0 → (r : ℕ) → r ≡ first (g .level) → (bs : List Block)
-    → treeOf bs ≡ grow r (λ i. plannedNode (getD a i blank)) blockCount
+    → treeOf bs ≡ grow r (λ i. plannedNode (getD a i blank)) blockCount → All CleanBlock bs
     → PlanFound g (record { bits = getD a r blank .bits; error = getD a r blank .error; blocks = bs })
 unfolding planTree planWeight
-plan-found g five a done r is-root bs e =
+plan-found g five a done r is-root bs e c =
     let q = done (first (g .level)) (omega arith) (at-first (g .level) five .1) (tree-root (g .level) five) in
     record {
       tree = e ∙ ap (λ (k : ℕ). grow k (λ i. plannedNode (getD a i blank)) blockCount) is-root
           ∙ grow-same (g .level) five (λ i. plannedNode (getD a i blank)) (λ i. pick (planSplits g i) Split (Ends (leafAt g i))) same-node blockCount (omega arith);
       weighs = ap (λ (k : ℕ). weigh (getD a k blank)) is-root ∙ rw (at-first (g .level) five .0) at (q .weighs);
+      clean = c;
     }
   where
     same-node : (i : ℕ) → i < blockCount → inTree (g .level) i ≡ true → plannedNode (getD a i blank) ≡ pick (planSplits g i) Split (Ends (leafAt g i))

@@ -3,13 +3,13 @@
 pub mod leaves;
 
 ghost use mathlib.Core.Path.{_≡_};
-ghost use Prim.Native.Nat.{_+_, _-_, _*_, _<_};
+ghost use Prim.Native.Nat.{_+_};
 ghost use lib.ListN.{length, getD};
-ghost use Rattle.book.specs.Level.{width};
-ghost use Rattle.tree.specs.Blocks.{level, blockCount};
-ghost use Rattle.tree.specs.Nodes.{nodeOf, treeOf};
+ghost use Rattle.bits.specs.Basics.{All};
+ghost use Rattle.tree.specs.Blocks.{blockCount};
+ghost use Rattle.tree.specs.Nodes.{nodeOf, treeOf, CleanBlock};
 ghost use Rattle.tree.specs.TreeBits.{grow};
-ghost use Rattle.plan.specs.Planned.{Light, decided};
+ghost use Rattle.plan.specs.Planned.{Light, CleanChoice, decided};
 ghost use Rattle.plan.specs.PlannedLaws.{blank, PlannedAt, Done};
 ghost use Rattle.plan.specs.Planning.{PlanReady, BlockReady, planningIn, plannedNode, PlanFound};
 ghost use Rattle.plan.specs.Front.{FrontReady, FrontShown};
@@ -109,7 +109,7 @@ fn plan_blocks(
     predictor: &[u8],
 ) -> [PlannedBlock; 63]
     requires { ⌜ PlanReady half (now book) (now codebook) (now raised) most skip d (now target) (now predictor) ⌝ }
-    ensures { λ r. ⌜ Done (planningIn half (now (book .entry)) (now (codebook .entry)) most skip lambda d (now (target .entry)) (now (predictor .entry))) r 0 ⌝ }
+    ensures { λ r. ⌜ Done (planningIn half (now (book .entry)) (now (codebook .entry)) most skip lambda d (now (target .entry)) (now (predictor .entry))) r 0 × All CleanChoice r ⌝ }
 {
     let mut a = [PlannedBlock {
         split: false,
@@ -144,7 +144,8 @@ fn plan_blocks(
 
 // A planned block as a block of the tree.
 fn block_as(b: PlannedBlock) -> Block
-    ensures { λ r. ⌜ nodeOf r ≡ plannedNode b ⌝ }
+    requires { ⌜ CleanChoice b ⌝ }
+    ensures { λ r. ⌜ (nodeOf r ≡ plannedNode b) × CleanBlock r ⌝ }
 {
     let code = b.code;
     let stages = b.stages;
@@ -162,7 +163,8 @@ fn block_as(b: PlannedBlock) -> Block
 
 // The tree that the planned blocks make from the root on: what is not reached is off.
 fn grow_tree(a: [PlannedBlock; 63], root: usize) -> [Block; 63]
-    ensures { λ r. ⌜ treeOf r ≡ grow root (λ i. plannedNode (getD a i blank)) blockCount ⌝ }
+    requires { ⌜ All CleanChoice a ⌝ }
+    ensures { λ r. ⌜ (treeOf r ≡ grow root (λ i. plannedNode (getD a i blank)) blockCount) × All CleanBlock r ⌝ }
 {
     let mut t = [Block {
         node: TreeNode::Off,

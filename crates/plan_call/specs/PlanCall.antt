@@ -5,7 +5,7 @@ use mathlib.Core.List.{List}
 use Prim.Native.Nat.{ℕ, _-_, _≤_}
 use lib.Dec.{eqb}
 use lib.ListN.{length, take, drop, replicate}
-use Rattle.bits.specs.Basics.{pick}
+use Rattle.bits.specs.Basics.{pick, All}
 use Rattle.bits.specs.Calls.{Answer, done, refused}
 use Rattle.book.specs.Level.{area}
 use Rattle.book.specs.declared.svq1_vlc.Svq1Half.{Svq1Half}
@@ -13,14 +13,13 @@ use Rattle.codebook.specs.Codebook.{vectorAt}
 use Rattle.leaf_call.specs.LeafAnswer.{Searchable}
 use Rattle.leaf.specs.LeafCall.{BlockIn}
 use Rattle.tree.specs.Blocks.{blockCount}
-use Rattle.tree.specs.Nodes.{treeOf}
+use Rattle.tree.specs.Nodes.{treeOf, offBlock, CleanBlock}
+use Rattle.plan.specs.PlanClaim.{PlanClaim}
 use Rattle.plan.specs.Planned.{weight}
 use Rattle.plan.specs.Planning.{planningIn, PlanFound}
 use Rattle.tree.specs.TreeBits.{PlanMade, planAnswer, planTree, treeShown}
-use Rattle.tree.specs.declared.svq1_enc_tree.Block.{Block}
 use Rattle.plan.specs.declared.svq1_enc_tree.MbPlan.{MbPlan}
 use Rattle.plan_call.specs.declared.svq1_enc_tree.PlanAnswer.{PlanAnswer}
-use Rattle.tree.specs.declared.svq1_enc_tree.TreeNode.the-variants as node
 
 -- ---- the call
 -- what an accepted call asks of its parts: as a leaf's, and 256 zeros to show into
@@ -41,14 +40,14 @@ planAnswerOf n r =
     pick (eqb (r .refused) 0) (done (record { tree = treeOf (r .blocks); weight = weight (r .bits) (r .error); shown = take n (r .samples) })) (refused (r .refused))
 
 -- what a refused call answers: its number, and nothing else
-abbrev pub offBlock : Block
-offBlock = record { node = node.Off; stages = replicate 6 0 }
-
 abbrev pub refusedPlan : ℕ → PlanAnswer
 refusedPlan n = record { refused = n; bits = 0; error = 0; blocks = replicate blockCount offBlock; samples = replicate 256 0 }
 
--- a call's answer: by the definition, with zeros behind the block's samples
+-- a call's answer: by the definition, with zeros behind the block's samples and every block in its one form; a refused one is its number and nothing else; of an
+-- accepted one document 01's sentence on plans holds
 pub record PlanAnswered (b : BlockIn) (lambda : ℕ) (r : PlanAnswer) : Type 0 where
   pub answer : planAnswerOf (length (b .target)) r ≡ planAnswer b lambda
   pub behind : drop (length (b .target)) (r .samples) ≡ replicate (256 - length (b .target)) 0
   pub bare : (r .refused ≡ 0 → ⊥) → r ≡ refusedPlan (r .refused)
+  pub clean : All CleanBlock (r .blocks)
+  pub claimed : r .refused ≡ 0 → PlanClaim b lambda

@@ -3,7 +3,7 @@
 use mathlib.Core.Path.{_≡_, refl, ap, _∙_}
 use mathlib.Core.Bool.{Bool}
 use mathlib.Core.List.{List}
-use Prim.Native.Nat.{ℕ, zero, suc, _-_, _≤_}
+use Prim.Native.Nat.{ℕ, zero, suc, _≤_}
 use native.Mathlib.Omega.{arith}
 use borrow.Author.Tests.{eq-eqb, ne-eqb}
 use lib.ListN.{length, take, drop, replicate}
@@ -15,18 +15,20 @@ use Rattle.leaf.specs.LeafCall.{BlockIn, halfAt, blockRefusal}
 use Rattle.leaf_call.specs.LeafAnswerLaws.{block-passes, drop-replicate}
 use Rattle.codebook.specs.Raised.{raisedCodebook}
 use Rattle.codebook.specs.RaisedLaws.{raised-length}
-use Rattle.tree.specs.Blocks.{level}
+use Rattle.tree.specs.Blocks.{blockCount}
 use Rattle.tree.specs.GeometryLaws.{area-most}
 use Rattle.tree.specs.Plan.{Planning}
 use Rattle.plan.specs.Planning.{PlanReady, planningIn, PlanFound}
 use Rattle.plan.specs.PlanningLaws.{plan-ready}
 use Rattle.tree_samples.specs.ShownLaws.{rebuilt-shown}
 use Rattle.tree.specs.TreeBits.{treeShown, planMade, planAnswer}
-use Rattle.tree.specs.Nodes.{treeOf}
+use Rattle.tree.specs.Nodes.{treeOf, offBlock, CleanBlock}
 use Rattle.tree.specs.Walk.{SoundTree}
 use Rattle.plan.specs.Front.{FrontReady, FrontShown}
 use Rattle.plan_call.specs.PlanCall.{Plannable, PlanShown, refusedPlan, PlanAnswered}
 use Rattle.plan.specs.declared.svq1_enc_tree.MbPlan.{MbPlan}
+use Rattle.plan.specs.AllLaws.{all-repeat}
+use Rattle.plan.specs.PlanClaimLaws.{plan-claimed}
 use Rattle.plan.specs.SoundLaws.{plan-sound}
 
 module _ (book codebook raised : List ℕ) (d : ℕ) (h : Svq1Half) (target predictor : List ℕ) (most : ℕ) (skips : Bool) (samples : List ℕ)
@@ -86,17 +88,21 @@ plan-refused b lambda n e h =
       answer = rw (← e, ne-eqb n 0 h);
       behind = drop-replicate (length (b .target)) 256;
       bare = λ z. refl;
+      clean = all-repeat CleanBlock blockCount offBlock refl;
+      claimed = λ z. absurd (h z);
     }
 
-pub plan-answered : (b : BlockIn) (lambda : ℕ) → blockRefusal b ≡ 0 → (h : Svq1Half) → h ≡ halfAt (b .half) → (p : MbPlan) (samples : List ℕ)
+pub plan-answered : (b : BlockIn) (lambda : ℕ) → Bytes (b .target) → Bytes (b .predictor) → blockRefusal b ≡ 0 → (h : Svq1Half) → h ≡ halfAt (b .half) → (p : MbPlan) (samples : List ℕ)
     → PlanShown (b .book) (b .codebook) (b .level) h (b .target) (b .predictor) (b .cap) (b .allowSkip) lambda p samples
     → PlanAnswered b lambda (record { refused = 0; bits = p .bits; error = p .error; blocks = p .blocks; samples = samples })
 unfolding planAnswer planMade
-plan-answered b lambda e h eh p samples s =
+plan-answered b lambda bt bp e h eh p samples s =
     let q = block-passes b e in
     let u = rw eh at s in
     record {
       answer = rw (q .target, eq-eqb (blockRefusal b) 0 e, u .found .tree, u .found .weighs, u .front);
       behind = rw (q .target) (u .behind);
       bare = λ z. absurd (z refl);
+      clean = s .found .clean;
+      claimed = λ z. plan-claimed b lambda bt bp e;
     }

@@ -23,6 +23,10 @@ nodeOf b = nodeAs (b .node) (b .stages)
 unfoldable pub treeOf : List Block → List Node
 treeOf bs = map nodeOf bs
 
+-- the record of a block that the tree does not reach
+abbrev pub offBlock : Block
+offBlock = record { node = node.Off; stages = replicate 6 0 }
+
 -- a block's one form in memory: six zeros beside a block that is off or split, and a leaf in its own
 abbrev pub CleanNode : TreeNode → List ℕ → Type 0
 CleanNode node.Off js = js ≡ replicate 6 0

@@ -34,7 +34,12 @@ level-of-requires c κs =
     omega (arith, p .level)
 
 half-of-requires : tie.Need-half-of-requires
-half-of-requires c κs = search needs
+half-of-requires c κs =
+    let a = c .before .before .before .before .before .before .before .before .args in
+    let b : BlockIn = record { book = a .book .now; codebook = a .codebook .now; level = a .level; half = a .half; cap = a .cap; allowSkip = a .skip; target = a .target .now; predictor = a .predictor .now } in
+    let none : blockRefusal b ≡ 0 = sym (c .before .before .before .block-refusal .ensures) ∙ c .before .before .if1 .left in
+    let p = block-passes b none in
+    omega (arith, p .half)
 
 searched-requires : tie.Need-searched-requires
 searched-requires c κs =

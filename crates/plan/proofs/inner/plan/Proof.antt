@@ -20,12 +20,12 @@ array-copy-out-top : tie.Need-array-copy-out-top
 array-copy-out-top c = omega (arith, c .first-of .ensures, at-first (c .before .before .before .before .before .before .before .args .d) (c .before .before .before .before .before .before .before .pre .five) .1)
 
 grow-tree-requires : tie.Need-grow-tree-requires
-grow-tree-requires c κs = search needs
+grow-tree-requires c κs = c .before .before .plan-blocks .ensures .1
 
 returns : tie.Need-returns
 returns c =
     let a = c .before .before .before .before .before .before .before .before .before .args in
-    plan-found (planningIn (a .half) (a .book .now) (a .codebook .now) (a .most) (a .skip) (a .lambda) (a .d) (a .target .now) (a .predictor .now)) (c .before .before .before .before .before .before .before .before .before .pre .five) (c .before .before .before .plan-blocks .result) (c .before .before .before .plan-blocks .ensures) _ (c .before .before .first-of .ensures) _ (c .grow-tree .ensures)
+    plan-found (planningIn (a .half) (a .book .now) (a .codebook .now) (a .most) (a .skip) (a .lambda) (a .d) (a .target .now) (a .predictor .now)) (c .before .before .before .before .before .before .before .before .before .pre .five) (c .before .before .before .plan-blocks .result) (c .before .before .before .plan-blocks .ensures .0) _ (c .before .before .first-of .ensures) _ (c .grow-tree .ensures .0) (c .grow-tree .ensures .1)
 
 pub plan-spec : {M : Type 1} → statement M
 plan-spec =

@@ -50,7 +50,7 @@ loop-again-2 c =
     fill-passed (planningIn (a .half) (a .book .now) (a .codebook .now) (a .most) (a .skip) (a .lambda) (a .d) (a .target .now) (a .predictor .now)) (l .a) (l .i) _ (l .inv) (omega (arith, c .before .before .loop-test .taken)) (sym (c .before .in-tree .ensures) ∙ c .if1 .left)
 
 returns : tie.Need-returns Inv-loop μ-loop
-returns c = fill-ends _ _ _ (c .before .loop .inv) (c .loop-test .left)
+returns c = (fill-ends _ _ _ (c .before .loop .inv) (c .loop-test .left), c .before .loop .inv .clean)
 
 pub plan-blocks-spec : {M : Type 1} → statement M
 plan-blocks-spec =

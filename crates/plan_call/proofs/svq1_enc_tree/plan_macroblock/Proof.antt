@@ -1,5 +1,7 @@
 -- Refused, or planned. Assumes nothing.
 use mathlib.Core.Path.{_≡_, refl, _∙_, sym}
+use native.Mathlib.Omega.{arith}
+use Rattle.bits.specs.Basics.{Bytes}
 use Rattle.leaf.specs.LeafCall.{BlockIn, blockRefusal}
 use Rattle.leaf_call.specs.LeafAnswerLaws.{block-passes}
 use Rattle.plan_call.specs.PlanCallLaws.{plan-refused, plan-answered}
@@ -23,7 +25,12 @@ slice-aggregate-planned : tie.Need-slice-aggregate-planned
 slice-aggregate-planned c = search needs
 
 half-of-requires : tie.Need-half-of-requires
-half-of-requires c κs = search needs
+half-of-requires c κs =
+    let a = c .before .before .before .before .before .before .before .args in
+    let b : BlockIn = record { book = a .book .now; codebook = a .codebook .now; level = a .level; half = a .half; cap = a .cap; allowSkip = a .skip; target = a .target .now; predictor = a .predictor .now } in
+    let none : blockRefusal b ≡ 0 = sym (c .before .before .block-refusal .ensures) ∙ c .before .if1 .left in
+    let p = block-passes b none in
+    omega (arith, p .half)
 
 slice-aggregate-planned-2 : tie.Need-slice-aggregate-planned-2
 slice-aggregate-planned-2 c = search needs
@@ -53,7 +60,9 @@ returns-2 c =
     let a = c .before .before .before .before .before .before .before .before .before .before .before .before .before .args in
     let b : BlockIn = record { book = a .book .now; codebook = a .codebook .now; level = a .level; half = a .half; cap = a .cap; allowSkip = a .skip; target = a .target .now; predictor = a .predictor .now } in
     let none : blockRefusal b ≡ 0 = sym (c .before .before .before .before .before .before .before .before .block-refusal .ensures) ∙ c .before .before .before .before .before .before .before .if1 .left in
-    plan-answered b (a .lambda) none _ (c .before .before .before .before .before .half-of .ensures) (c .before .before .before .planned .result) _ (c .before .before .before .planned .ensures)
+    let bt : Bytes (a .target .now) = λ k. omega (arith, c .before .before .before .before .before .before .before .before .before .before .shared-slice-known3 .given k) in
+    let bp : Bytes (a .predictor .now) = λ k. omega (arith, c .before .before .before .before .before .before .before .before .before .shared-slice-known4 .given k) in
+    plan-answered b (a .lambda) bt bp none _ (c .before .before .before .before .before .half-of .ensures) (c .before .before .before .planned .result) _ (c .before .before .before .planned .ensures)
 
 pub plan-macroblock-spec : {M : Type 1} → statement M
 plan-macroblock-spec =

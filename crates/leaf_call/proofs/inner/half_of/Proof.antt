@@ -1,8 +1,8 @@
 -- 0 is the intra half. Assumes nothing.
 use Rattle.leaf_call.specs.LeafAnswerLaws.{half-inter}
 use borrow.Author.Needs.{needs}
-use Rattle.leaf_call.proofs.svq1_enc_leaf.half_of.Statement.{statement}
-use Rattle.leaf_call.proofs.svq1_enc_leaf.half_of.Tie as tie
+use Rattle.leaf_call.proofs.inner.half_of.Statement.{statement}
+use Rattle.leaf_call.proofs.inner.half_of.Tie as tie
 
 returns : tie.Need-returns
 returns c = search needs
