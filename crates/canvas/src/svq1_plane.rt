@@ -41,7 +41,7 @@ fn rounded_up(n: usize) -> usize
     requires { ⌜ n ≤ largestSide ⌝ }
     ensures { λ r. ⌜ (r ≡ padded16 n) × (r ≤ padded16 largestSide) ⌝ }
 {
-    16 * ((n + 15) / 16)
+    MB_DIM * ((n + (MB_DIM - 1)) / MB_DIM)
 }
 
 // Of a canvas for a size that passes.

@@ -11,9 +11,9 @@ use Rattle.codebook.specs.declared.svq1_codebook.Place.{Place}
 use Rattle.codebook.specs.declared.svq1_codebook.Place.the-variants.{At, Nowhere}
 
 -- the place of each case of the answers' enum
-abbrev pub placeOf : Place → Option ℕ
-placeOf (At p) = some p
-placeOf Nowhere = none
+abbrev pub placeNumber : Place → Option ℕ
+placeNumber (At p) = some p
+placeNumber Nowhere = none
 
 -- where a half's page of a level begins in the payload; L4 and L5 have no page
 unfoldable pub pagePlace : ℕ → Svq1Half → Option ℕ

@@ -3,7 +3,7 @@ ghost use mathlib.Core.Path.{_≡_};
 ghost use Prim.Native.Nat.{_<_};
 ghost use Rattle.book.specs.Level.{levelNumber};
 ghost use Rattle.codebook.specs.Codebook.{rasterOf};
-ghost use Rattle.codebook.specs.CodebookCalls.{placeOf, pagePlace, rasterPlace};
+ghost use Rattle.codebook.specs.CodebookCalls.{placeNumber, pagePlace, rasterPlace};
 use super::inner::page_start;
 use book::svq1_blocktree::Svq1Level;
 use book::svq1_vlc::Svq1Half;
@@ -16,7 +16,7 @@ pub enum Place {
 
 // Where the half's page of the level begins in the payload.
 pub fn half_byte_offset_in_payload(level: Svq1Level, half: Svq1Half) -> Place
-    ensures { λ r. ⌜ placeOf r ≡ pagePlace (levelNumber level) half ⌝ }
+    ensures { λ r. ⌜ placeNumber r ≡ pagePlace (levelNumber level) half ⌝ }
 {
     let d = level.number();
     if d < 4 {
@@ -35,7 +35,7 @@ fn tile_place(b: usize) -> usize
 
 // Where a byte of one of the level's vectors goes in the block, in raster order.
 pub fn vector_byte_to_raster(level: Svq1Level, byte: usize) -> Place
-    ensures { λ r. ⌜ placeOf r ≡ rasterPlace (levelNumber level) byte ⌝ }
+    ensures { λ r. ⌜ placeNumber r ≡ rasterPlace (levelNumber level) byte ⌝ }
 {
     let d = level.number();
     if 3 < d {

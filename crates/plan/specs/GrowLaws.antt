@@ -14,7 +14,7 @@ use Rattle.tree.specs.TreeBits.{Node, Off, reached, grow}
 use Rattle.tree.specs.TreeLaws.{length-grow}
 use Rattle.tree.specs.WalkLaws.{tree-set, reached-front}
 use Rattle.tree.specs.declared.svq1_enc_tree.Block.{Block}
-use Rattle.plan.specs.AllLaws.{all-set, all-repeat}
+use Rattle.bits.specs.ListLaws.{all-set, all-repeat}
 
 -- the first i nodes of what the planned blocks make stand in the array t, whose blocks have their one form
 pub record Growing (r : ℕ) (choose : ℕ → Node) (t : List Block) (i : ℕ) : Type 0 where

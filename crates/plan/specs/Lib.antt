@@ -5,7 +5,6 @@ pub mod PlanClaim
 pub mod PlanClaimLaws
 pub mod Planned
 pub mod PlannedLaws
-pub mod AllLaws
 pub mod GrowLaws
 pub mod Planning
 pub mod PlanningLaws

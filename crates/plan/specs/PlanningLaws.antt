@@ -31,7 +31,7 @@ use Rattle.tree.specs.Blocks.{blockCount, left, right, level, first, blockOf}
 use Rattle.tree.specs.GeometryLaws.{length-block, at-first}
 use Rattle.tree.specs.Plan.{Planning, leafAt, shownAt, weightAt, planSplits, planWeight}
 use Rattle.plan.specs.PlanClaimLaws as claim
-use Rattle.plan.specs.AllLaws.{all-set, all-repeat}
+use Rattle.bits.specs.ListLaws.{all-set, all-repeat}
 use Rattle.plan.specs.Planned.{weigh, Light, CleanChoice, decided}
 use Rattle.plan.specs.PlannedLaws.{blank, LeafAt, PlannedAt, Done, one-block, no-block, leaf-light, planned-light, parts-planned}
 use Rattle.tree_samples.specs.Subtree.{inTree}

@@ -27,7 +27,7 @@ use Rattle.tree.specs.Walk.{SoundTree}
 use Rattle.plan.specs.Front.{FrontReady, FrontShown}
 use Rattle.plan_call.specs.PlanCall.{Plannable, PlanShown, refusedPlan, PlanAnswered}
 use Rattle.plan.specs.declared.svq1_enc_tree.MbPlan.{MbPlan}
-use Rattle.plan.specs.AllLaws.{all-repeat}
+use Rattle.bits.specs.ListLaws.{all-repeat}
 use Rattle.plan.specs.PlanClaimLaws.{plan-claimed}
 use Rattle.plan.specs.SoundLaws.{plan-sound}
 

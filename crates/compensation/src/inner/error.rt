@@ -35,7 +35,7 @@ pub fn mean4(a: u8, b: u8, c: u8, d: u8) -> u8
 
 // The absolute error of n samples against a row, against the means of two rows, and of four. The gaps are made of bytes and a row's
 // sum is kept in 16 bits, which lets it be made by `psadbw`.
-fn sum_full(t: &[u8], a: &[u8], n: usize) -> u16
+fn sad(t: &[u8], a: &[u8], n: usize) -> u16
     requires { ⌜ (n ≤ 16) × (length (now t) ≡ n) × (length (now a) ≡ n) ⌝ }
     ensures { λ r. ⌜ (r ≡ sum (λ k. gapOf (getD (now (t .entry)) k 0) (getD (now (a .entry)) k 0)) n) × (r ≤ 255 * n) ⌝ }
 {
@@ -212,7 +212,7 @@ fn rows_full(
     while i < n {
         let a = n * i;
         let p = (y0 + i) * stride + x0;
-        sum += sum_full(&t[a..a + n], &reference[p..p + n], n) as u64;
+        sum += sad(&t[a..a + n], &reference[p..p + n], n) as u64;
         i += 1;
         if limit <= sum {
             return Taken {

@@ -6,7 +6,7 @@ use lib.ListN.{getD}
 use Rattle.plan.specs.PlannedLaws.{blank}
 use Rattle.plan.specs.Planned.{CleanChoice}
 use Rattle.plan.specs.Planning.{plannedNode}
-use Rattle.plan.specs.AllLaws.{all-at}
+use Rattle.bits.specs.ListLaws.{all-at}
 use Rattle.plan.specs.GrowLaws.{Growing, grow-begins, grow-ends, grow-passed, grow-taken, grow-moved}
 use borrow.Author.Needs.{needs}
 use Rattle.plan.proofs.inner.grow_tree.Statement.{statement}

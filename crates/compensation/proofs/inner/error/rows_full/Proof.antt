@@ -40,32 +40,32 @@ mul-p c = omega (arith, row c)
 add-p-2 : tie.Need-add-p-2 Inv-loop μ-loop
 add-p-2 c = omega (arith, row c)
 
-add-sum-full : tie.Need-add-sum-full Inv-loop μ-loop
-add-sum-full c = omega (arith, row c)
+add-sad : tie.Need-add-sad Inv-loop μ-loop
+add-sad c = omega (arith, row c)
 
-sub-sum-full : tie.Need-sub-sum-full Inv-loop μ-loop
-sub-sum-full c = search needs
+sub-sad : tie.Need-sub-sad Inv-loop μ-loop
+sub-sad c = search needs
 
-part-sum-full-start : tie.Need-part-sum-full-start Inv-loop μ-loop
-part-sum-full-start c = search needs
+part-sad-start : tie.Need-part-sad-start Inv-loop μ-loop
+part-sad-start c = search needs
 
-part-sum-full-end : tie.Need-part-sum-full-end Inv-loop μ-loop
-part-sum-full-end c = omega (arith, row c)
+part-sad-end : tie.Need-part-sad-end Inv-loop μ-loop
+part-sad-end c = omega (arith, row c)
 
-add-sum-full-2 : tie.Need-add-sum-full-2 Inv-loop μ-loop
-add-sum-full-2 c = omega (arith, row (c .before))
+add-sad-2 : tie.Need-add-sad-2 Inv-loop μ-loop
+add-sad-2 c = omega (arith, row (c .before))
 
-sub-sum-full-2 : tie.Need-sub-sum-full-2 Inv-loop μ-loop
-sub-sum-full-2 c = search needs
+sub-sad-2 : tie.Need-sub-sad-2 Inv-loop μ-loop
+sub-sad-2 c = search needs
 
-part-sum-full-start-2 : tie.Need-part-sum-full-start-2 Inv-loop μ-loop
-part-sum-full-start-2 c = search needs
+part-sad-start-2 : tie.Need-part-sad-start-2 Inv-loop μ-loop
+part-sad-start-2 c = search needs
 
-part-sum-full-end-2 : tie.Need-part-sum-full-end-2 Inv-loop μ-loop
-part-sum-full-end-2 c = omega (arith, row (c .before))
+part-sad-end-2 : tie.Need-part-sad-end-2 Inv-loop μ-loop
+part-sad-end-2 c = omega (arith, row (c .before))
 
-sum-full-requires : tie.Need-sum-full-requires Inv-loop μ-loop
-sum-full-requires c κs =
+sad-requires : tie.Need-sad-requires Inv-loop μ-loop
+sad-requires c κs =
     let a = c .before .before .before .before .before .before .args in
     let f = row (c .before .before) in
     (f .1 .side .most, part-len (a .t .now) _ (a .n) (f .0 .target), part-len (a .reference .now) ((a .y0 + c .before .before .before .loop .i) * a .stride + a .x0) (a .n) (omega (arith, f .0 .canvas)))
@@ -85,7 +85,7 @@ returns c =
     let a = c .before .before .before .before .before .before .before .before .args in
     let l = c .before .before .before .before .before .loop in
     let v : Canvas = record { samples = a .reference .now; stride = a .stride; rows = a .rows } in
-    let e = c .before .sum-full .ensures .0 ∙ row-full (a .t .now) v (a .n) 0 0 (a .n * l .i) ((a .y0 + l .i) * a .stride + a .x0) refl refl in
+    let e = c .before .sad .ensures .0 ∙ row-full (a .t .now) v (a .n) 0 0 (a .n * l .i) ((a .y0 + l .i) * a .stride + a .x0) refl refl in
     record {
       answer = stop (rowAt (a .t .now) v (a .n) 0 0 (a .x0) (a .y0)) (a .limit) (a .n) (l .i) (l .sum) _ _ (l .inv .1) e (c .before .before .before .before .loop-test .taken) (c .if1 .taken);
       most = omega (arith, c .before .before .before .before .before .before .before .before .pre .side);
@@ -100,7 +100,7 @@ loop-again c =
     let a = c .before .before .before .before .before .before .before .before .args in
     let l = c .before .before .before .before .before .loop in
     let v : Canvas = record { samples = a .reference .now; stride = a .stride; rows = a .rows } in
-    let e = c .before .sum-full .ensures .0 ∙ row-full (a .t .now) v (a .n) 0 0 (a .n * l .i) ((a .y0 + l .i) * a .stride + a .x0) refl refl in (
+    let e = c .before .sad .ensures .0 ∙ row-full (a .t .now) v (a .n) 0 0 (a .n * l .i) ((a .y0 + l .i) * a .stride + a .x0) refl refl in (
       omega arith,
       turn (rowAt (a .t .now) v (a .n) 0 0 (a .x0) (a .y0)) (a .limit) (a .n) (l .i) (l .sum) _ _ (l .inv .1) e (c .before .before .before .before .loop-test .taken) (c .if1 .left),
       omega (arith, c .before .before .before .before .before .before .before .before .pre .side),
@@ -123,15 +123,15 @@ rows-full-spec =
     add-p
     mul-p
     add-p-2
-    add-sum-full
-    sub-sum-full
-    part-sum-full-start
-    part-sum-full-end
-    add-sum-full-2
-    sub-sum-full-2
-    part-sum-full-start-2
-    part-sum-full-end-2
-    sum-full-requires
+    add-sad
+    sub-sad
+    part-sad-start
+    part-sad-end
+    add-sad-2
+    sub-sad-2
+    part-sad-start-2
+    part-sad-end-2
+    sad-requires
     cast-sum
     add-sum
     add-i

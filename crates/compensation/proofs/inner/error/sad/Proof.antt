@@ -6,8 +6,8 @@ use Rattle.bits.specs.Basics.{sum, gap}
 use Rattle.bits.specs.SumLaws.{sum-more}
 use native.Mathlib.Omega.{arith}
 use borrow.Author.Needs.{needs}
-use Rattle.compensation.proofs.inner.error.sum_full.Statement.{statement}
-use Rattle.compensation.proofs.inner.error.sum_full.Tie as tie
+use Rattle.compensation.proofs.inner.error.sad.Statement.{statement}
+use Rattle.compensation.proofs.inner.error.sad.Tie as tie
 
 abbrev Inv-loop : tie.InvT-loop
 Inv-loop t a n total₀ i₀ total i =
@@ -46,8 +46,8 @@ returns : tie.Need-returns Inv-loop μ-loop
 returns c =
     let e : c .before .loop .i ≡ c .before .before .before .before .args .n = omega arith in (c .before .loop .inv .1 ∙ rw e, omega arith)
 
-pub sum-full-spec : {M : Type 1} → statement M
-sum-full-spec =
+pub sad-spec : {M : Type 1} → statement M
+sad-spec =
     tie.close
     (tie.spec
     Inv-loop
