@@ -2,7 +2,7 @@
 use Prim.Native.Nat.{ℕ, _+_, _*_, _/_, _%_}
 use mathlib.Core.List.{List, [], _∷_, _++_}
 use lib.ListN.{replicate, getD}
-use lib.IntN.{_-ℤ_}
+use lib.IntN.{ℤ}
 use Rattle.bits.specs.Basics.{valuesFrom}
 use Rattle.code_tables.specs.Codes.{codesOf, code}
 use Rattle.book.specs.Book.{tablesOf, modeTable, vectorTable}
@@ -10,7 +10,7 @@ use Rattle.book.specs.declared.svq1_vlc.Svq1Half.{Svq1Half}
 use Rattle.book.specs.declared.svq1_vlc.Svq1Half.the-variants.{Intra, Inter}
 use Rattle.codebook.specs.Codebook.{vectorAt}
 use Rattle.vectors.specs.declared.svq1_motion_predictor.Svq1Mv.{Svq1Mv}
-use Rattle.vectors.specs.Vectors.{zeroMv, placeOf}
+use Rattle.vectors.specs.Vectors.{zeroMv, differenceMv, placeOf}
 use Rattle.mv_cache.specs.Neighbours.{Near, forOne, forFirst, forSecond, forThird, forFourth}
 use Rattle.canvas.specs.Canvas.{Canvas, blocksAlong}
 use Rattle.compensation.specs.Compensation.{movedSample, movedBlock}
@@ -102,9 +102,16 @@ modeCodes g = codesOf (modeTable (g .book))
 abbrev pub vectorCodes : Given → List (List ℕ)
 vectorCodes g = codesOf (vectorTable (g .book))
 
--- a vector against its predictor: the codes of the differences, x before y
+-- the code of a difference's component, and of both, x before y
+abbrev pub componentBits : Given → ℤ → List ℕ
+componentBits g d = code (vectorCodes g) (placeOf d)
+
+abbrev pub differenceBits : Given → Svq1Mv → List ℕ
+differenceBits g d = componentBits g (d .x) ++ componentBits g (d .y)
+
+-- a vector against its predictor: its difference
 unfoldable pub vectorBits : Given → Svq1Mv → Svq1Mv → List ℕ
-vectorBits g p v = code (vectorCodes g) (placeOf (v .x -ℤ p .x)) ++ code (vectorCodes g) (placeOf (v .y -ℤ p .y))
+vectorBits g p v = differenceBits g (differenceMv p v)
 
 -- the vectors of a motion; those of four are predicted from the ones before them
 unfoldable pub motionBits : Given → Near → Motion → List ℕ

@@ -7,12 +7,11 @@ use mathlib.Core.Option.{Option, none, some}
 use Prim.Native.Nat.{ℕ, zero, suc, _+_, _-_, _*_, _^_, _≤_, _<_}
 use native.Mathlib.Omega.{arith}
 use native.Mathlib.Nat.{mul-le-mul}
-use lib.IntN.{_-ℤ_}
 use lib.ListN.{length, replicate, length-append, length-replicate}
 use Rattle.bits.specs.Basics.{pick, All, Bytes}
 use Rattle.bits.specs.BasicsLaws.{length-values}
 use Rattle.bits.specs.ListLaws.{all-append, all-map, all-both}
-use Rattle.code_tables.specs.Codes.{code, got}
+use Rattle.code_tables.specs.Codes.{got}
 use Rattle.code_tables.specs.CodeReadLaws.{take-code}
 use Rattle.book.specs.Book.{tablesOf, modeTable, vectorTable, bookRefusal}
 use Rattle.code_tables.specs.CodesLaws.{code-most}
@@ -23,8 +22,8 @@ use Rattle.codebook.specs.Codebook.{vectorAt}
 use Rattle.leaf.specs.Leaf.{sse}
 use Rattle.leaf.specs.LeafLaws.{vectors-sized}
 use Rattle.vectors.specs.declared.svq1_motion_predictor.Svq1Mv.{Svq1Mv}
-use Rattle.vectors.specs.Vectors.{placeOf}
-use Rattle.vectors.specs.VectorsLaws.{Codable, Inside, place-lt, final-back, codable-inside, zero-inside}
+use Rattle.vectors.specs.Vectors.{differenceMv, placeOf}
+use Rattle.vectors.specs.VectorsLaws.{Codable, Inside, place-lt, places-back, final-back, codable-inside, difference-inside, zero-inside}
 use Rattle.mv_cache.specs.Neighbours.{Near, forOne, forFirst, forSecond, forThird, forFourth}
 use Rattle.mv_cache.specs.Grid.{part}
 use Rattle.compensation.specs.CompensationLaws.{bytes-list, moved-byte, bytes-moved, length-moved}
@@ -38,10 +37,10 @@ use Rattle.tree.specs.TreeBits.{Node, planTree, treeBits, treeShown}
 use Rattle.macroblock.specs.declared.svq1_enc_inter.Svq1MbMode.{Svq1MbMode}
 use Rattle.macroblock.specs.declared.svq1_enc_inter.Svq1MbMode.the-variants as Mode
 use Rattle.macroblock.specs.Mode.{modePosition}
-use Rattle.macroblock.specs.Macroblock.{Given, cols, Motion, still, single, four, Choice, skipped, coded, motionMode, halfOf, vectorsOf, leftOf, topOf, referenceBlock, vectorFor, baseline, shown, modeCodes, vectorCodes, vectorBits, motionBits, modeBits, choiceBits}
+use Rattle.macroblock.specs.Macroblock.{Given, cols, Motion, still, single, four, Choice, skipped, coded, motionMode, halfOf, vectorsOf, leftOf, topOf, referenceBlock, vectorFor, baseline, shown, modeCodes, vectorCodes, componentBits, differenceBits, vectorBits, motionBits, modeBits, choiceBits}
 use Rattle.macroblock.specs.Choice.{Task, paddedSource, target, searchFor, blockSearchFor, ifFound, singleTried, fourTried, motionsTried, skipsLeaves, planningFor, tried, fitting, weightOf, chosen}
 use Rattle.macroblock.specs.ChoiceLaws.{chosen-one, all-fitting, Fits, skip-first, costOf, chosen-cost}
-use Rattle.macroblock.specs.Reading.{readVector, readCoded, readBehind, readMacroblock}
+use Rattle.macroblock.specs.Reading.{readDifference, readVector, readCoded, readBehind, readMacroblock}
 
 -- ---- a block of 256 bytes
 pub record Block (x : List ℕ) : Type 0 where
@@ -120,15 +119,17 @@ module _ (g : Given) (t : Task) (ok : Fine g t) where
   treeFor k m = planTree (planningFor g t k m)
 
   -- ---- reading back, in front of anything
+  difference-read : (d : Svq1Mv) (r : List ℕ) → Inside d → readDifference g (differenceBits g d ++ r) ≡ got d r
+  unfolding readDifference
+  difference-read d r h =
+      let hx : placeOf (d .x) < length (vectorCodes g) = rw (good .vector .count) (place-lt (d .x) (h .x-in)) in
+      let hy : placeOf (d .y) < length (vectorCodes g) = rw (good .vector .count) (place-lt (d .y) (h .y-in)) in
+      rw (append-assoc, take-code (vectorCodes g) (placeOf (d .x)) (componentBits g (d .y) ++ r) (good .vector .free) hx, take-code (vectorCodes g) (placeOf (d .y)) r (good .vector .free) hy)
+      (ap (λ (w : Svq1Mv). got w r) (places-back d h))
+
   vector-read : (p v : Svq1Mv) (r : List ℕ) → Codable p v → readVector g p (vectorBits g p v ++ r) ≡ got v r
   unfolding readVector vectorBits
-  vector-read p v r c =
-      let dx = placeOf (v .x -ℤ p .x) in
-      let dy = placeOf (v .y -ℤ p .y) in
-      let hx : dx < length (vectorCodes g) = rw (good .vector .count) (place-lt (v .x -ℤ p .x) (c .dx-in)) in
-      let hy : dy < length (vectorCodes g) = rw (good .vector .count) (place-lt (v .y -ℤ p .y) (c .dy-in)) in
-      rw (append-assoc, take-code (vectorCodes g) dx (code (vectorCodes g) dy ++ r) (good .vector .free) hx, take-code (vectorCodes g) dy r (good .vector .free) hy)
-      (ap (λ (w : Svq1Mv). got w r) (final-back p v c))
+  vector-read p v r c = rw (difference-read (differenceMv p v) r (difference-inside p v c)) (ap (λ (w : Svq1Mv). got w r) (final-back p v (codable-inside p v c)))
 
   -- the differences behind a mode
   motion-read : (n : Near) (m : Motion) (r : List ℕ) → Codables n m → readBehind g n (modePosition (motionMode m)) (motionBits g n m ++ r) ≡ readCoded g m r
@@ -164,8 +165,8 @@ module _ (g : Given) (t : Task) (ok : Fine g t) where
   vector-short : (p v : Svq1Mv) → length (vectorBits g p v) ≤ 64
   unfolding vectorBits
   vector-short p v =
-      simp length-append
-      (omega (arith, code-most (vectorTable (g .book)) (good .vector .good) (placeOf (v .x -ℤ p .x)), code-most (vectorTable (g .book)) (good .vector .good) (placeOf (v .y -ℤ p .y))))
+      let d = differenceMv p v in
+      simp length-append (omega (arith, code-most (vectorTable (g .book)) (good .vector .good) (placeOf (d .x)), code-most (vectorTable (g .book)) (good .vector .good) (placeOf (d .y))))
 
   motion-short : (n : Near) (m : Motion) → length (motionBits g n m) ≤ 256
   unfolding motionBits

@@ -9,12 +9,16 @@ use Rattle.mv_cache.specs.Neighbours.{Near, forOne, forFirst, forSecond, forThi
 use Rattle.tree.specs.TreeBits.{readTree}
 use Rattle.macroblock.specs.Macroblock.{Given, Motion, still, single, four, Choice, skipped, coded, halfOf, modeCodes, vectorCodes}
 
--- a vector: the codes of its differences, x before y, added to the predictor and clipped
-unfoldable pub readVector : Given → Svq1Mv → List ℕ → Got Svq1Mv
-readVector g p bits =
+-- a difference: the codes of its components, x before y
+unfoldable pub readDifference : Given → List ℕ → Got Svq1Mv
+readDifference g bits =
     then (takeCode (vectorCodes g) bits) λ dx r.
     then (takeCode (vectorCodes g) r) λ dy q.
-    got (finalMv p (differenceAt dx) (differenceAt dy)) q
+    got (record { x = differenceAt dx; y = differenceAt dy }) q
+
+-- a vector: its difference, added to the predictor and clipped
+unfoldable pub readVector : Given → Svq1Mv → List ℕ → Got Svq1Mv
+readVector g p bits = then (readDifference g bits) λ d r. got (finalMv p (d .x) (d .y)) r
 
 -- the tree behind a motion
 unfoldable pub readCoded : Given → Motion → List ℕ → Got Choice

@@ -44,6 +44,10 @@ clipped (negsuc n) = negsuc (min 31 n)
 abbrev pub finalMv : Svq1Mv → ℤ → ℤ → Svq1Mv
 finalMv p dx dy = record { x = clipped (p .x +ℤ dx); y = clipped (p .y +ℤ dy) }
 
+-- a vector's difference from its predictor
+abbrev pub differenceMv : Svq1Mv → Svq1Mv → Svq1Mv
+differenceMv p v = record { x = v .x -ℤ p .x; y = v .y -ℤ p .y }
+
 -- in -32..31
 abbrev pub inRange : ℤ → Bool
 inRange z = leZ (negsuc 31) z && leZ z (pos 31)

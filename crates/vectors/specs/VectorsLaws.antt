@@ -13,7 +13,7 @@ use Rattle.bits.specs.BasicsLaws.{both-true}
 use Rattle.vectors.specs.declared.svq1_motion_predictor.Svq1Mv.{Svq1Mv}
 use Rattle.vectors.specs.declared.svq1_motion_predictor.Neighbour.{Neighbour}
 use Rattle.vectors.specs.declared.svq1_motion_predictor.Neighbour.the-variants.{Absent, Present}
-use Rattle.vectors.specs.Vectors.{zeroMv, minZ, maxZ, median, medianMv, predicted, clipped, finalMv, inRange, codable, placeOf, differenceAt}
+use Rattle.vectors.specs.Vectors.{zeroMv, minZ, maxZ, median, medianMv, predicted, clipped, finalMv, differenceMv, inRange, codable, placeOf, differenceAt}
 
 -- ---- in -32..31
 abbrev pub InRange : ℤ → Type 0
@@ -60,30 +60,36 @@ is-codable p v e f =
     let b = both-true (inRange (v .y)) (inRange (v .y -ℤ p .y)) f in
     record { x-in = a .0; y-in = b .0; dx-in = a .1; dy-in = b .1 }
 
--- one component: the place of the difference gives the vector back
-back : (p v : ℤ) → InRange v → InRange (v -ℤ p) → clipped (p +ℤ differenceAt (placeOf (v -ℤ p))) ≡ v
-back p v h k =
-    ap (λ (z : ℤ). clipped (p +ℤ z)) (difference-place (v -ℤ p) k) ∙ ap clipped (+ℤ-comm p (v -ℤ p) ∙ -ℤ-+ℤ-cancel v p) ∙ clip-in v h
-
--- the vector of the predictor and a codable vector's difference is the vector
-pub final-back : (p v : Svq1Mv) → Codable p v → finalMv p (differenceAt (placeOf (v .x -ℤ p .x))) (differenceAt (placeOf (v .y -ℤ p .y))) ≡ v
-final-back p v c = λ i. record { x = back (p .x) (v .x) (c .x-in) (c .dx-in) i; y = back (p .y) (v .y) (c .y-in) (c .dy-in) i }
-
--- ---- a prediction from vectors in -32..31 is in -32..31
+-- ---- both components in -32..31
 pub record Inside (v : Svq1Mv) : Type 0 where
   pub x-in : InRange (v .x)
   pub y-in : InRange (v .y)
 
--- an absent neighbour too
-abbrev pub InsideIf : Neighbour → Type 0
-InsideIf Absent = Unit
-InsideIf (Present v) = Inside v
+-- a vector comes back from its difference
+back : (p v : ℤ) → InRange v → clipped (p +ℤ (v -ℤ p)) ≡ v
+back p v h = ap clipped (+ℤ-comm p (v -ℤ p) ∙ -ℤ-+ℤ-cancel v p) ∙ clip-in v h
+
+pub final-back : (p v : Svq1Mv) → Inside v → finalMv p (differenceMv p v .x) (differenceMv p v .y) ≡ v
+final-back p v h = λ i. record { x = back (p .x) (v .x) (h .x-in) i; y = back (p .y) (v .y) (h .y-in) i }
+
+-- and a difference from its places in the vector table
+pub places-back : (d : Svq1Mv) → Inside d → _≡_ {A = Svq1Mv} (record { x = differenceAt (placeOf (d .x)); y = differenceAt (placeOf (d .y)) }) d
+places-back d h = λ i. record { x = difference-place (d .x) (h .x-in) i; y = difference-place (d .y) (h .y-in) i }
 
 pub codable-inside : (p v : Svq1Mv) → Codable p v → Inside v
 codable-inside p v c = record { x-in = c .x-in; y-in = c .y-in }
 
+pub difference-inside : (p v : Svq1Mv) → Codable p v → Inside (differenceMv p v)
+difference-inside p v c = record { x-in = c .dx-in; y-in = c .dy-in }
+
 pub zero-inside : Inside zeroMv
 zero-inside = record { x-in = refl; y-in = refl }
+
+-- ---- a prediction from vectors in -32..31 is in -32..31
+-- an absent neighbour too
+abbrev pub InsideIf : Neighbour → Type 0
+InsideIf Absent = Unit
+InsideIf (Present v) = Inside v
 
 pick-in : (f : Bool) (a b : ℤ) → InRange a → InRange b → InRange (pick f a b)
 pick-in true a b h k = h

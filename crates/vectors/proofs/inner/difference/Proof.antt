@@ -3,9 +3,9 @@ use mathlib.Core.Path.{refl}
 use lib.IntN.{_-ℤ_}
 use mir.ValLaws.{toZ-ofZ}
 use mir.Syntax.{w32}
 use Rattle.vectors.specs.VectorsLaws.{difference-small}
-use Rattle.macroblock_search.proofs.inner.motions.difference.Statement.{statement}
-use Rattle.macroblock_search.proofs.inner.motions.difference.Tie as tie
+use Rattle.vectors.proofs.inner.difference.Statement.{statement}
+use Rattle.vectors.proofs.inner.difference.Tie as tie
 
 sub-result : tie.Need-sub-result
 sub-result c =
