@@ -5,23 +5,24 @@ use mathlib.Core.List.{List, [], _++_, append-assoc}
 use Prim.Native.Nat.{ℕ, suc, _+_, _-_, _*_, _/_, _≤_, _<_}
 use native.Mathlib.Omega.{arith}
 use borrow.Author.Tests.{le-ltb}
-use lib.IntN.{ℤ, pos, negsuc, _+ℤ_, _-ℤ_}
-use lib.ListN.{length, length-append}
+use lib.IntN.{ℤ, pos, negsuc, _+ℤ_}
+use lib.ListN.{length, getD, length-append}
 use Rattle.code_tables.specs.Codes.{code, codesOf, codeLen}
 use Rattle.code_tables.specs.CodesLaws.{code-length}
 use Rattle.bits.specs.Inner.{Fits, Wrote}
 use Rattle.code_tables.specs.Inner.{GoodEntry}
 use Rattle.bits.specs.InnerLaws.{wrote-more}
-use Rattle.book.specs.Book.{vectorTable}
 use Rattle.book.specs.BookLaws.{GoodCodes, good-entry}
 use Rattle.vectors.specs.declared.svq1_motion_predictor.Svq1Mv.{Svq1Mv}
-use Rattle.vectors.specs.Vectors.{placeOf}
-use Rattle.vectors.specs.VectorsLaws.{InRange, range-pos, range-neg, Codable}
-use Rattle.mv_cache.specs.Neighbours.{Near, forOne, forFirst, forSecond, forThird, forFourth}
-use Rattle.macroblock.specs.Macroblock.{Given, Motion, still, single, four, vectorBits, motionBits}
+use Rattle.vectors.specs.Vectors.{zeroMv, differenceMv, placeOf}
+use Rattle.vectors.specs.VectorsLaws.{InRange, range-pos, range-neg, Codable, Inside, difference-inside}
+use Rattle.mv_cache.specs.Neighbours.{Near, forOne, forFirst, forSecond}
+use Rattle.macroblock.specs.Macroblock.{Given, Motion, still, four, differenceBits, vectorBits, motionBits}
 use Rattle.macroblock.specs.MacroblockLaws.{Codables}
-use Rattle.macroblock_bits.specs.Coding.{componentBits, Counted}
-use Rattle.macroblock.specs.Inner.{byBook}
+use Rattle.macroblock.specs.declared.svq1_enc_inter.MbMotion.{MbMotion}
+use Rattle.macroblock.specs.declared.svq1_enc_inter.MbMotion.the-variants.{One}
+use Rattle.macroblock.specs.Motions.{motionOf, Differs}
+use Rattle.macroblock_bits.specs.Coding.{Counted, fourDifferences}
 
 -- ---- one code: entry j of the lent table u is entry k of the table t
 module _ (n : ℕ) (t u : List ℕ) (g : GoodCodes n t) (e : u ≡ t) (k j : ℕ) (q : j ≡ k) (h : k < n) where
@@ -42,7 +43,7 @@ module _ (n : ℕ) (t u : List ℕ) (g : GoodCodes n t) (e : u ≡ t) (k j : ℕ
   pub entry-wrote : {out left : List ℕ} {at next : ℕ} → Wrote out at (code (codesOf u) j) next left → Wrote out at (code (codesOf t) k) next left
   entry-wrote w = rw (e, q) at w
 
--- ---- a component's difference
+-- ---- a difference's component
 -- its place, by cases
 abbrev pub placedAt : ℤ → ℕ
 placedAt (pos n) = n + 32
@@ -60,15 +61,7 @@ placed (negsuc n) h =
     let e : 32 - suc n ≡ 31 - n = omega arith in
     record { sum = simp (le-ltb 32 (suc n) (omega arith), e); is = simp (le-ltb 32 (suc n) (omega arith), e); small = omega arith }
 
--- ---- vectors
-pub vector-parts : (book : List ℕ) (p v : Svq1Mv) → vectorBits (byBook book) p v ≡ componentBits book (p .x) (v .x) ++ componentBits book (p .y) (v .y)
-unfolding vectorBits componentBits
-vector-parts book p v = refl
-
-pub component-is : (book : List ℕ) (p v : ℤ) → componentBits book p v ≡ code (codesOf (vectorTable book)) (placeOf (v -ℤ p))
-unfolding componentBits
-component-is book p v = refl
-
+-- ---- one run behind another
 pub counted-both : (xs ys : List ℕ) (a b m n : ℕ) → Counted xs m a → Counted ys n b → Counted (xs ++ ys) (m + n) (a + b)
 counted-both xs ys a b m n f g = record { is = rw length-append (omega (arith, f .is, g .is)); few = omega (arith, f .few, g .few) }
 
@@ -83,54 +76,50 @@ pub second-fits : (xs ys : List ℕ) {out mid : List ℕ} {at next bytes : ℕ} 
     → Fits bytes next (length ys)
 second-fits xs ys f w e = record { bytes-fit = omega (arith, f .bytes-fit); bits-fit = omega (arith, f .bits-fit, length-append xs ys, w .behind) }
 
-pub four-parts : (g : Given) (n : Near) (a b c d : Svq1Mv) → motionBits g n (four a b c d)
-    ≡ (vectorBits g (forFirst n) a ++ vectorBits g (forSecond n a) b) ++ (vectorBits g (forThird n a b) c ++ vectorBits g (forFourth a b c) d)
-unfolding motionBits
-four-parts g n a b c d = sym (append-assoc (vectorBits g (forFirst n) a) (vectorBits g (forSecond n a) b) _)
+-- ---- motions, by the differences that the code holds
+-- one vector, by the difference that it carries
+module _ (g : Given) (n : Near) (motion : MbMotion) (vs : List Svq1Mv) (v d : Svq1Mv) (e : motion ≡ One v d) (h : Differs n motion) where
+  carried : d ≡ differenceMv (forOne n) v
+  carried = rw e at h
 
--- ---- predictors and motions as the code holds them
-pub codable-as : (p q v : Svq1Mv) → p ≡ q → Codable q v → Codable p v
-codable-as p q v e h = rw e h
+  pub one-inside : Codables n (motionOf motion vs) → Inside d
+  one-inside c = let k : Codable (forOne n) v = rw e at c in rw carried (difference-inside (forOne n) v k)
 
-module _ (g : Given) (n : Near) (a b c d : Svq1Mv) where
-  -- the predictors of four vectors, as they were computed
-  pub record Predicted (p q u w : Svq1Mv) : Type 0 where
-    pub first : p ≡ forFirst n
-    pub second : q ≡ forSecond n a
-    pub third : u ≡ forThird n a b
-    pub fourth : w ≡ forFourth a b c
+  pub one-bits : motionBits g n (motionOf motion vs) ≡ differenceBits g d
+  unfolding motionBits vectorBits
+  one-bits = rw (e, carried)
 
-  module _ (p q u w : Svq1Mv) (e : Predicted p q u w) where
-    by-pairs : motionBits g n (four a b c d) ≡ (vectorBits g p a ++ vectorBits g q b) ++ (vectorBits g u c ++ vectorBits g w d)
-    by-pairs = rw (e .first, e .second, e .third, e .fourth) (four-parts g n a b c d)
+-- four, by a list of their differences
+module _ (g : Given) (n : Near) (a b c d : Svq1Mv) (ds : List Svq1Mv) (e : ds ≡ fourDifferences n a b c d) where
+  abbrev diff : ℕ → List ℕ
+  diff i = differenceBits g (getD ds i zeroMv)
 
-    pub four-counted : (x y : ℕ) → Counted (vectorBits g p a ++ vectorBits g q b) 128 x → Counted (vectorBits g u c ++ vectorBits g w d) 128 y
-        → Counted (motionBits g n (four a b c d)) 256 (x + y)
-    four-counted x y f h = rw by-pairs (counted-both _ _ x y 128 128 f h)
+  by-pairs : motionBits g n (four a b c d) ≡ (diff 0 ++ diff 1) ++ (diff 2 ++ diff 3)
+  unfolding motionBits vectorBits
+  by-pairs = rw e (sym (append-assoc (vectorBits g (forFirst n) a) (vectorBits g (forSecond n a) b) _))
 
-    pub four-first : {bytes at : ℕ} → Fits bytes at (length (motionBits g n (four a b c d))) → Fits bytes at (length (vectorBits g p a ++ vectorBits g q b))
-    four-first f = first-fits (vectorBits g p a ++ vectorBits g q b) (vectorBits g u c ++ vectorBits g w d) (rw by-pairs at f)
+  pub four-inside : Codables n (four a b c d) → Inside (getD ds 0 zeroMv) × Inside (getD ds 1 zeroMv) × Inside (getD ds 2 zeroMv) × Inside (getD ds 3 zeroMv)
+  four-inside h = rw e (difference-inside _ a (h .0), difference-inside _ b (h .1), difference-inside _ c (h .2), difference-inside _ d (h .3))
 
-    pub four-second : {out mid : List ℕ} {at next bytes : ℕ} → Fits (length out) at (length (motionBits g n (four a b c d))) → Wrote out at (vectorBits g p a ++ vectorBits g q b) next mid
-        → bytes ≡ length out → Fits bytes next (length (vectorBits g u c ++ vectorBits g w d))
-    four-second f h s = second-fits (vectorBits g p a ++ vectorBits g q b) (vectorBits g u c ++ vectorBits g w d) (rw by-pairs at f) h s
+  pub four-counted : (x y : ℕ) → Counted (diff 0 ++ diff 1) 128 x → Counted (diff 2 ++ diff 3) 128 y → Counted (motionBits g n (four a b c d)) 256 (x + y)
+  four-counted x y f h = rw by-pairs (counted-both _ _ x y 128 128 f h)
 
-    pub four-wrote : {out mid left : List ℕ} {at next end : ℕ} → at ≤ 8 * length out → Wrote out at (vectorBits g p a ++ vectorBits g q b) next mid
-        → Wrote mid next (vectorBits g u c ++ vectorBits g w d) end left → Wrote out at (motionBits g n (four a b c d)) end left
-    four-wrote h x y = rw by-pairs (wrote-more h x y)
+  pub four-first : {bytes at : ℕ} → Fits bytes at (length (motionBits g n (four a b c d))) → Fits bytes at (length (diff 0 ++ diff 1))
+  four-first f = first-fits (diff 0 ++ diff 1) (diff 2 ++ diff 3) (rw by-pairs at f)
 
--- the bits of a motion by its case
+  pub four-second : {out mid : List ℕ} {at next bytes : ℕ} → Fits (length out) at (length (motionBits g n (four a b c d))) → Wrote out at (diff 0 ++ diff 1) next mid
+      → bytes ≡ length out → Fits bytes next (length (diff 2 ++ diff 3))
+  four-second f h s = second-fits (diff 0 ++ diff 1) (diff 2 ++ diff 3) (rw by-pairs at f) h s
+
+  pub four-wrote : {out mid left : List ℕ} {at next end : ℕ} → at ≤ 8 * length out → Wrote out at (diff 0 ++ diff 1) next mid → Wrote mid next (diff 2 ++ diff 3) end left
+      → Wrote out at (motionBits g n (four a b c d)) end left
+  four-wrote h x y = rw by-pairs (wrote-more h x y)
+
+-- the other cases
 module _ (g : Given) (n : Near) (m : Motion) where
   pub still-bits : m ≡ still → motionBits g n m ≡ []
   unfolding motionBits
   still-bits e = rw e
-
-  pub single-bits : (v p : Svq1Mv) → m ≡ single v → p ≡ forOne n → motionBits g n m ≡ vectorBits g p v
-  unfolding motionBits
-  single-bits v p e q = rw (e, q)
-
-  pub single-codable : (v p : Svq1Mv) → m ≡ single v → p ≡ forOne n → Codables n m → Codable p v
-  single-codable v p e q h = rw q (rw e at h)
 
   pub four-codable : (a b c d : Svq1Mv) → m ≡ four a b c d → Codables n m → Codables n (four a b c d)
   four-codable a b c d e h = rw e at h

@@ -5,7 +5,7 @@ use Rattle.mv_cache.specs.Cache.{nearFrom}
 use Rattle.macroblock.specs.declared.svq1_enc_inter.MbMotion.{MbMotion}
 use Rattle.macroblock.specs.Motions.{motionOf}
 use Rattle.macroblock.specs.Inner.{byBook}
-use Rattle.macroblock_bits.specs.CodingLaws.{still-bits, single-bits, single-codable, four-codable, counted-none, counted-less, counted-as}
+use Rattle.macroblock_bits.specs.CodingLaws.{one-inside, one-bits, still-bits, four-codable, counted-none, counted-less, counted-as}
 use Rattle.macroblock.specs.Macroblock.{motionBits}
 use borrow.Author.Needs.{needs}
 use Rattle.macroblock_bits.proofs.inner.motion_bits.Statement.{statement}
@@ -17,16 +17,11 @@ enum-told c = search needs
 enum-known-motion : tie.Need-enum-known-motion
 enum-known-motion c = search needs
 
-predict-one-requires : tie.Need-predict-one-requires
-predict-one-requires c κs = search needs
-
 vector-bits-requires : tie.Need-vector-bits-requires
 vector-bits-requires c κs =
-    let s = c .before .before .before .before .before in
+    let s = c .before .before .before .before in
     let a = s .args in
-    let m = c .before .before .motion in
-    let e = ap (λ (x : MbMotion). motionOf x (a .t4)) (m .given .1) in
-    (s .pre .0, single-codable (byBook (a .book .now)) (nearFrom (a .near)) (motionOf (a .motion) (a .t4)) _ _ e (c .predict-one .ensures) (s .pre .1))
+    (s .pre .0, one-inside (byBook (a .book .now)) (nearFrom (a .near)) (a .motion) (a .t4) _ _ (c .before .motion .given .1) (s .pre .2) (s .pre .1))
 
 enum-told-2 : tie.Need-enum-told-2
 enum-told-2 c = search needs
@@ -58,10 +53,9 @@ returns c =
 
 returns-2 : tie.Need-returns-2
 returns-2 c =
-    let s = c .before .before .before .before .before .before in
+    let s = c .before .before .before .before .before in
     let a = s .args in
-    let e = ap (λ (x : MbMotion). motionOf x (a .t4)) (c .before .before .before .motion .given .1) in
-    counted-less _ _ 64 256 _ (single-bits (byBook (a .book .now)) (nearFrom (a .near)) (motionOf (a .motion) (a .t4)) _ _ e (c .before .predict-one .ensures)) (omega arith) (c .vector-bits .ensures)
+    counted-less _ _ 64 256 _ (one-bits (byBook (a .book .now)) (nearFrom (a .near)) (a .motion) (a .t4) _ _ (c .before .before .motion .given .1) (s .pre .2)) (omega arith) (c .vector-bits .ensures)
 
 returns-3 : tie.Need-returns-3
 returns-3 c =
@@ -75,7 +69,6 @@ motion-bits-spec =
     (tie.spec
     enum-told
     enum-known-motion
-    predict-one-requires
     vector-bits-requires
     enum-told-2
     array-copy-out-four-bits

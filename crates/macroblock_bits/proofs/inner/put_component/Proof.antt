@@ -2,12 +2,10 @@
 use Rattle.book.specs.BookLaws.{good-book}
 use Rattle.book.specs.Book.{vectorTable}
 use Rattle.vectors.specs.Vectors.{placeOf}
-use lib.IntN.{_-ℤ_}
 use mir.ValLaws.{toZ-ofZ}
 use mir.Syntax.{w32}
 use mathlib.Core.Path.{_≡_}
-use Rattle.tree.specs.WalkLaws.{wrote-as}
-use Rattle.macroblock_bits.specs.CodingLaws.{entry-fits, entry-wrote, component-is}
+use Rattle.macroblock_bits.specs.CodingLaws.{entry-fits, entry-wrote}
 use borrow.Author.Needs.{needs}
 use Rattle.macroblock_bits.proofs.inner.put_component.Statement.{statement}
 use Rattle.macroblock_bits.proofs.inner.put_component.Tie as tie
@@ -22,10 +20,9 @@ put-code-requires : tie.Need-put-code-requires
 put-code-requires c κs =
     let s = c .before .before .before .before .before in
     let a = s .args in
-    let w : c .before .difference-place .result ≡ placeOf (s .args .v -ℤ s .args .p) = simp (toZ-ofZ w32 (s .args .v) (s .fits .v), toZ-ofZ w32 (s .args .p) (s .fits .p)) at (c .before .difference-place .ensures .0) in
-    let b = c .before .difference-place .ensures .1 in
-    entry-fits 64 (vectorTable (a .book .now)) _ (good-book _ (s .pre .0) .vector) (c .before .before .vector-table .ensures) (placeOf (a .v -ℤ a .p)) _ w (rw w at b) _ _
-    (rw (component-is (a .book .now) (a .p) (a .v)) at (s .pre .2))
+    let p = c .before .difference-place in
+    let w : p .result ≡ placeOf (a .d) = simp (toZ-ofZ w32 (a .d) (s .fits .d)) at (p .ensures .0) in
+    entry-fits 64 (vectorTable (a .book .now)) _ (good-book _ (s .pre .0) .vector) (c .before .before .vector-table .ensures) (placeOf (a .d)) _ w (rw w at (p .ensures .1)) _ _ (s .pre .2)
 
 same-length : tie.Need-same-length
 same-length c = search needs
@@ -34,10 +31,9 @@ returns : tie.Need-returns
 returns c =
     let s = c .before .before .before .before .before .before .before .before in
     let a = s .args in
-    let w : c .before .before .before .before .difference-place .result ≡ placeOf (s .args .v -ℤ s .args .p) = simp (toZ-ofZ w32 (s .args .v) (s .fits .v), toZ-ofZ w32 (s .args .p) (s .fits .p)) at (c .before .before .before .before .difference-place .ensures .0) in
-    let b = c .before .before .before .before .difference-place .ensures .1 in
-    wrote-as _ _ (component-is (a .book .now) (a .p) (a .v))
-    (entry-wrote 64 (vectorTable (a .book .now)) _ (good-book _ (s .pre .0) .vector) (c .before .before .before .before .before .vector-table .ensures) (placeOf (a .v -ℤ a .p)) _ w (rw w at b) (c .before .before .put-code .ensures))
+    let p = c .before .before .before .before .difference-place in
+    let w : p .result ≡ placeOf (a .d) = simp (toZ-ofZ w32 (a .d) (s .fits .d)) at (p .ensures .0) in
+    entry-wrote 64 (vectorTable (a .book .now)) _ (good-book _ (s .pre .0) .vector) (c .before .before .before .before .before .vector-table .ensures) (placeOf (a .d)) _ w (rw w at (p .ensures .1)) (c .before .before .put-code .ensures)
 
 pub put-component-spec : {M : Type 1} → statement M
 put-component-spec =

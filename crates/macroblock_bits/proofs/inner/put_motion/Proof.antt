@@ -6,7 +6,7 @@ use Rattle.tree.specs.WalkLaws.{wrote-as}
 use Rattle.macroblock.specs.declared.svq1_enc_inter.MbMotion.{MbMotion}
 use Rattle.macroblock.specs.Motions.{motionOf}
 use Rattle.macroblock.specs.Inner.{byBook}
-use Rattle.macroblock_bits.specs.CodingLaws.{still-bits, single-bits, single-codable, four-codable, fits-as}
+use Rattle.macroblock_bits.specs.CodingLaws.{one-inside, one-bits, still-bits, four-codable, fits-as}
 use Rattle.macroblock.specs.Macroblock.{motionBits}
 use borrow.Author.Needs.{needs}
 use Rattle.macroblock_bits.proofs.inner.put_motion.Statement.{statement}
@@ -18,21 +18,11 @@ enum-told c = search needs
 enum-known-motion : tie.Need-enum-known-motion
 enum-known-motion c = search needs
 
-predict-one-requires : tie.Need-predict-one-requires
-predict-one-requires c κs = search needs
-
 push-mv-differential-requires : tie.Need-push-mv-differential-requires
 push-mv-differential-requires c κs =
-    let s = c .before .before .before .before .before .before .before in
+    let s = c .before .before .before .before .before .before in
     let a = s .args in
-    let g = byBook (a .book .now) in
-    let n = nearFrom (a .near) in
-    let m = motionOf (a .motion) (a .t6) in
-    let e = ap (λ (x : MbMotion). motionOf x (a .t6)) (c .before .before .before .motion .given .1) in (
-      s .pre .0,
-      single-codable g n m _ _ e (c .predict-one .ensures) (s .pre .1),
-      fits-as _ (motionBits g n m) (single-bits g n m _ _ e (c .predict-one .ensures)) (s .pre .2),
-    )
+    (s .pre .0, one-inside (byBook (a .book .now)) (nearFrom (a .near)) (a .motion) (a .t6) _ _ (c .before .before .motion .given .1) (s .pre .2) (s .pre .1), fits-as _ _ (one-bits (byBook (a .book .now)) (nearFrom (a .near)) (a .motion) (a .t6) _ _ (c .before .before .motion .given .1) (s .pre .2)) (s .pre .3))
 
 enum-told-2 : tie.Need-enum-told-2
 enum-told-2 c = search needs
@@ -53,11 +43,11 @@ put-four-requires : tie.Need-put-four-requires
 put-four-requires c κs =
     let s = c .before .before .before .before .before .before .before .before .before in
     let a = s .args in
+    let e = ap (λ (x : MbMotion). motionOf x (a .t6)) (c .before .before .before .before .before .enum-told2 .given .1) in
     let g = byBook (a .book .now) in
     let n = nearFrom (a .near) in
     let m = motionOf (a .motion) (a .t6) in
-    let e = ap (λ (x : MbMotion). motionOf x (a .t6)) (c .before .before .before .before .before .enum-told2 .given .1) in
-    (s .pre .0, four-codable g n m _ _ _ _ e (s .pre .1), fits-as _ (motionBits g n m) (ap (motionBits g n) e) (s .pre .2))
+    (s .pre .0, four-codable g n m _ _ _ _ e (s .pre .1), fits-as _ (motionBits g n m) (ap (motionBits g n) e) (s .pre .3))
 
 returns : tie.Need-returns
 returns c =
@@ -70,10 +60,9 @@ same-length c = search needs
 
 returns-2 : tie.Need-returns-2
 returns-2 c =
-    let s = c .before .before .before .before .before .before .before .before .before .before in
+    let s = c .before .before .before .before .before .before .before .before .before in
     let a = s .args in
-    let e = ap (λ (x : MbMotion). motionOf x (a .t6)) (c .before .before .before .before .before .before .motion .given .1) in
-    wrote-as _ _ (single-bits (byBook (a .book .now)) (nearFrom (a .near)) (motionOf (a .motion) (a .t6)) _ _ e (c .before .before .before .predict-one .ensures)) (c .before .before .push-mv-differential .ensures)
+    wrote-as _ _ (one-bits (byBook (a .book .now)) (nearFrom (a .near)) (a .motion) (a .t6) _ _ (c .before .before .before .before .before .motion .given .1) (s .pre .2)) (c .before .before .push-mv-differential .ensures)
 
 same-length-2 : tie.Need-same-length-2
 same-length-2 c = search needs
@@ -90,7 +79,6 @@ put-motion-spec =
     (tie.spec
     enum-told
     enum-known-motion
-    predict-one-requires
     push-mv-differential-requires
     enum-told-2
     array-copy-out-put-four

@@ -1,7 +1,7 @@
 -- One behind the other. Assumes nothing.
 use native.Mathlib.Omega.{arith}
 use Rattle.bits.specs.InnerLaws.{wrote-more}
-use Rattle.macroblock.specs.Macroblock.{vectorBits}
+use Rattle.macroblock.specs.Macroblock.{differenceBits}
 use Rattle.macroblock.specs.Inner.{byBook}
 use Rattle.macroblock_bits.specs.CodingLaws.{first-fits, second-fits}
 use borrow.Author.Needs.{needs}
@@ -13,7 +13,7 @@ push-mv-differential-requires c κs =
     let s = c .before .before .before in
     let a = s .args in
     let g = byBook (a .book .now) in
-    (s .pre .0, s .pre .1, first-fits (vectorBits g (a .p) (a .v)) (vectorBits g (a .q) (a .w)) (s .pre .3))
+    (s .pre .0, s .pre .1, first-fits (differenceBits g (a .a)) (differenceBits g (a .b)) (s .pre .3))
 
 push-mv-differential-requires-2 : tie.Need-push-mv-differential-requires-2
 push-mv-differential-requires-2 c κs =
@@ -21,7 +21,7 @@ push-mv-differential-requires-2 c κs =
     let a = s .args in
     let g = byBook (a .book .now) in
     let w = c .before .before .before .push-mv-differential in
-    (s .pre .0, s .pre .2, second-fits (vectorBits g (a .p) (a .v)) (vectorBits g (a .q) (a .w)) (s .pre .3) (w .ensures) (w .kept .0))
+    (s .pre .0, s .pre .2, second-fits (differenceBits g (a .a)) (differenceBits g (a .b)) (s .pre .3) (w .ensures) (w .kept .0))
 
 same-length : tie.Need-same-length
 same-length c = search needs
