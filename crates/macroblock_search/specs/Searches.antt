@@ -4,7 +4,6 @@ use mathlib.Core.Bool.{true, false}
 use mathlib.Core.List.{List, [], _∷_}
 use mathlib.Core.Option.{Option, none, some}
 use Prim.Native.Nat.{ℕ, _+_, _*_, _/_, _%_, _≤_, _<_}
-use lib.IntN.{_-ℤ_}
 use lib.ListN.{length}
 use Rattle.bits.specs.Basics.{pick, All}
 use Rattle.vectors.specs.declared.svq1_motion_predictor.Svq1Mv.{Svq1Mv}
@@ -23,7 +22,7 @@ use Rattle.canvas.specs.declared.svq1_plane.Svq1PlaneCanvas.{Svq1PlaneCanvas}
 use Rattle.macroblock.specs.Macroblock.{Given, Motion, coded, vectorsOf}
 use Rattle.macroblock.specs.MacroblockLaws.{Codables}
 use Rattle.macroblock.specs.Choice.{Task, target, ifFound}
-use Rattle.macroblock.specs.Motions.{motionOf}
+use Rattle.macroblock.specs.Motions.{motionOf, Differs}
 use Rattle.macroblock.specs.Inner.{givenBy}
 
 -- the search for a block of this side at (x, y)
@@ -81,19 +80,16 @@ noneFound = record { found = false; motion = None; vectors = zeroMv ∷ zeroMv �
 abbrev pub stillFound : FoundMotion
 stillFound = record { found = true; motion = None; vectors = zeroMv ∷ zeroMv ∷ zeroMv ∷ zeroMv ∷ [] }
 
--- a vector's difference from its predictor
-abbrev pub differenceMv : Svq1Mv → Svq1Mv → Svq1Mv
-differenceMv p v = record { x = v .x -ℤ p .x; y = v .y -ℤ p .y }
-
 abbrev pub oneFound : Svq1Mv → Svq1Mv → FoundMotion
 oneFound v d = record { found = true; motion = One v d; vectors = v ∷ v ∷ v ∷ v ∷ [] }
 
 abbrev pub fourFound : Svq1Mv → Svq1Mv → Svq1Mv → Svq1Mv → FoundMotion
 fourFound a b c d = record { found = true; motion = Four; vectors = a ∷ b ∷ c ∷ d ∷ [] }
 
--- r has the motions ms, whatever the book and the task, as long as the task has these samples and this radius; they are codable, and the vectors are those to store
+-- r has the motions ms, whatever the book and the task, as long as the task has these samples and this radius; they are codable, the vectors are those to store, and one vector goes with its difference
 pub record MotionsFound (c : Svq1PlaneCanvas) (reference block : List ℕ) (radius k : ℕ) (n : Near) (ms : Given → Task → List Motion) (r : FoundMotion) : Type 0 where
   pub are : (book codebook : List ℕ) (t : Task) → block ≡ target (givenBy c reference book codebook) t k → radius ≡ t .radius
       → motionsOf r ≡ ms (givenBy c reference book codebook) t
   pub codes : All (Codables n) (motionsOf r)
   pub stored : r .vectors ≡ vectorsOf (coded (motionOf (r .motion) (r .vectors)) [])
+  pub differs : Differs n (r .motion)

@@ -13,6 +13,7 @@ use Rattle.bits.specs.Calls.{done, refused}
 use Rattle.vectors.specs.declared.svq1_motion_predictor.Svq1Mv.{Svq1Mv}
 use Rattle.motion.specs.declared.svq1_enc_inter.Searched.{Searched}
 use Rattle.motion.specs.declared.svq1_enc_inter.Searched.the-variants.{Vector, Refused}
+use Rattle.vectors.specs.Vectors.{differenceMv}
 use Rattle.vectors.specs.VectorsLaws.{Codable, Inside}
 use Rattle.mv_cache.specs.Neighbours.{Near, forOne, forFirst, forSecond, forThird, forFourth}
 use Rattle.motion.specs.Search.{Search, searched, foundAnswer}
@@ -30,7 +31,7 @@ use Rattle.macroblock.specs.Macroblock.{Given, Motion, still, four}
 use Rattle.macroblock.specs.MacroblockLaws.{Codables}
 use Rattle.macroblock.specs.Choice.{Task, target, ifFound, singleTried, fourTried}
 use Rattle.macroblock.specs.Motions.{motionOf}
-use Rattle.macroblock_search.specs.Searches.{searchBy, wholeBy, quarterBy, Cornered, Searching, vectorFound, PairFound, motionsOf, noneFound, stillFound, differenceMv, oneFound, fourFound, MotionsFound}
+use Rattle.macroblock_search.specs.Searches.{searchBy, wholeBy, quarterBy, Cornered, Searching, vectorFound, PairFound, motionsOf, noneFound, stillFound, oneFound, fourFound, MotionsFound}
 
 -- ---- a test that is turned round
 pub was-off : (b : Bool) → not b ≡ true → b ≡ false
@@ -155,10 +156,10 @@ module _ (s : Search) (u : Svq1Mv → Search) (r : FoundPair) where
 -- ---- the motions
 module _ (c : Svq1PlaneCanvas) (reference block : List ℕ) (radius k : ℕ) (n : Near) where
   pub moves-still : MotionsFound c reference block radius k n (λ g t. still ∷ []) stillFound
-  moves-still = record { are = λ book codebook t e q. refl; codes = (tt, tt); stored = refl }
+  moves-still = record { are = λ book codebook t e q. refl; codes = (tt, tt); stored = refl; differs = tt }
 
   pub moves-off : MotionsFound c reference block radius k n (λ g t. []) noneFound
-  moves-off = record { are = λ book codebook t e q. refl; codes = tt; stored = refl }
+  moves-off = record { are = λ book codebook t e q. refl; codes = tt; stored = refl; differs = tt }
 
   module _ (v : FoundMv) (e : vectorFound v ≡ searched (wholeBy c reference block k (forOne n) radius)) where
     pub moves-single : v .found ≡ true → MotionsFound c reference block radius k n (λ g t. singleTried g t k n) (oneFound (v .mv) (differenceMv (forOne n) (v .mv)))
@@ -167,6 +168,7 @@ module _ (c : Svq1PlaneCanvas) (reference block : List ℕ) (radius k : ℕ) (n 
       are = λ book codebook t eb er. rw (← eb, ← er, is-found v (wholeBy c reference block k (forOne n) radius) e h);
       codes = (found-codes v (wholeBy c reference block k (forOne n) radius) e h, tt);
       stored = refl;
+      differs = refl;
     }
 
     pub moves-none : v .found ≡ false → MotionsFound c reference block radius k n (λ g t. singleTried g t k n) noneFound
@@ -175,6 +177,7 @@ module _ (c : Svq1PlaneCanvas) (reference block : List ℕ) (radius k : ℕ) (n 
       are = λ book codebook t eb er. rw (← eb, ← er, not-found v (wholeBy c reference block k (forOne n) radius) e h);
       codes = tt;
       stored = refl;
+      differs = tt;
     }
 
   -- four vectors, by two pairs
@@ -187,7 +190,7 @@ module _ (c : Svq1PlaneCanvas) (reference block : List ℕ) (radius k : ℕ) (n 
   module _ (p : FoundPair) (hp : PairFound (quarter 0 (forFirst n)) (λ a. quarter 1 (forSecond n a)) p) where
     pub moves-no-first : p .found ≡ false → MotionsFound c reference block radius k n (λ g t. fourTried g t k n) noneFound
     unfolding fourTried
-    moves-no-first h = record { are = λ book codebook t eb er. rw (← eb, ← er) (sym (hp .is behind ∙ rw h)); codes = tt; stored = refl }
+    moves-no-first h = record { are = λ book codebook t eb er. rw (← eb, ← er) (sym (hp .is behind ∙ rw h)); codes = tt; stored = refl; differs = tt }
 
     module _ (q : FoundPair) (hq : PairFound (quarter 2 (forThird n (p .a) (p .b))) (λ d. quarter 3 (forFourth (p .a) (p .b) d)) q) (h : p .found ≡ true) where
       pub moves-no-second : q .found ≡ false → MotionsFound c reference block radius k n (λ g t. fourTried g t k n) noneFound
@@ -196,6 +199,7 @@ module _ (c : Svq1PlaneCanvas) (reference block : List ℕ) (radius k : ℕ) (n 
         are = λ book codebook t eb er. rw (← eb, ← er) (sym (hp .is behind ∙ rw h (hq .is (λ d e. four (p .a) (p .b) d e ∷ []) ∙ rw z)));
         codes = tt;
         stored = refl;
+        differs = tt;
       }
 
       pub moves-four : q .found ≡ true → MotionsFound c reference block radius k n (λ g t. fourTried g t k n) (fourFound (p .a) (p .b) (q .a) (q .b))
@@ -204,15 +208,16 @@ module _ (c : Svq1PlaneCanvas) (reference block : List ℕ) (radius k : ℕ) (n 
         are = λ book codebook t eb er. rw (← eb, ← er) (sym (hp .is behind ∙ rw h (hq .is (λ d e. four (p .a) (p .b) d e ∷ []) ∙ rw z)));
         codes = ((hp .first h, hp .second h, hq .first z, hq .second z), tt);
         stored = refl;
+        differs = tt;
       }
 
   -- by the flag
   pub moves-flag : (f : Bool) (ms : Given → Task → List Motion) (r : FoundMotion) → f ≡ true → MotionsFound c reference block radius k n ms r
       → MotionsFound c reference block radius k n (λ g t. pick f (ms g t) []) r
-  moves-flag f ms r e h = record { are = λ book codebook t eb er. rw e (h .are book codebook t eb er); codes = h .codes; stored = h .stored }
+  moves-flag f ms r e h = record { are = λ book codebook t eb er. rw e (h .are book codebook t eb er); codes = h .codes; stored = h .stored; differs = h .differs }
 
   pub moves-flag-off : (f : Bool) (ms : Given → Task → List Motion) → f ≡ false → MotionsFound c reference block radius k n (λ g t. pick f (ms g t) []) noneFound
-  moves-flag-off f ms e = record { are = λ book codebook t eb er. rw e; codes = tt; stored = refl }
+  moves-flag-off f ms e = record { are = λ book codebook t eb er. rw e; codes = tt; stored = refl; differs = tt }
 
 -- ---- a motion to try, or none
 module _ (f : FoundMotion) where

@@ -1,13 +1,11 @@
 // The motions that are tried for a macroblock: one vector and four, where their searches find them, and none.
 ghost use mathlib.Core.Path.{_≡_};
 ghost use mathlib.Core.List.{[]};
-ghost use lib.IntN.{_-ℤ_};
 ghost use Rattle.bits.specs.Basics.{pick};
-ghost use Rattle.vectors.specs.VectorsLaws.{InRange, Codable};
 ghost use Rattle.mv_cache.specs.NeighboursLaws.{Around};
 ghost use Rattle.mv_cache.specs.Cache.{nearFrom};
 ghost use Rattle.macroblock.specs.Choice.{singleTried, fourTried};
-ghost use Rattle.macroblock_search.specs.Searches.{Searching, MotionsFound, differenceMv, oneFound, fourFound, noneFound, stillFound};
+ghost use Rattle.macroblock_search.specs.Searches.{Searching, MotionsFound, oneFound, fourFound, noneFound, stillFound};
 use super::super::inner::searches::corner_of;
 use super::super::inner::searches::find_vector;
 use super::super::inner::searches::first_pair;
@@ -16,6 +14,7 @@ use canvas::svq1_plane::Svq1PlaneCanvas;
 use macroblock::svq1_enc_inter::MbMotion;
 use mv_cache::svq1_mv_cache::NearBlocks;
 use mv_cache::svq1_mv_cache::predict_one;
+use vectors::inner::difference_of;
 use vectors::svq1_motion_predictor::Svq1Mv;
 use vectors::svq1_motion_predictor::zero_vector;
 
@@ -47,25 +46,6 @@ pub fn still_found() -> FoundMotion
         found: true,
         motion: MbMotion::None,
         vectors: [z, z, z, z],
-    }
-}
-
-// A component's difference from its prediction.
-fn difference(v: i32, p: i32) -> i32
-    requires { ⌜ InRange (v -ℤ p) ⌝ }
-    ensures { λ r. ⌜ r ≡ v -ℤ p ⌝ }
-{
-    v - p
-}
-
-// A vector's difference from its predictor.
-fn difference_of(p: Svq1Mv, v: Svq1Mv) -> Svq1Mv
-    requires { ⌜ Codable p v ⌝ }
-    ensures { λ r. ⌜ r ≡ differenceMv p v ⌝ }
-{
-    Svq1Mv {
-        x: difference(v.x, p.x),
-        y: difference(v.y, p.y),
     }
 }
 
