@@ -2,13 +2,14 @@
 use mathlib.Core.Path.{_≡_}
 use mathlib.Core.Bool.{false}
 use mathlib.Core.List.{List, [], _∷_}
+use mathlib.Core.Option.{Option, none, some}
 use Prim.Native.Nat.{ℕ, zero, suc, _*_, _/_, _≤_, _<_}
 use lib.Dec.{eqb}
 use lib.ListN.{length, drop, getD}
 use Rattle.bits.specs.Basics.{pick, All}
 use Rattle.bits.specs.Bits.{bitsOf}
 use Rattle.code_tables.specs.Codes.{codesOf, Got, got, bad, then, takeCode}
-use Rattle.book.specs.Book.{vectorTable}
+use Rattle.book.specs.Book.{modeTable}
 use Rattle.book.specs.declared.svq1_vlc.Svq1Half.{Svq1Half}
 use Rattle.vectors.specs.declared.svq1_motion_predictor.Svq1Mv.{Svq1Mv}
 use Rattle.vectors.specs.Vectors.{zeroMv}
@@ -21,10 +22,13 @@ use Rattle.tree.specs.Walk.{SoundTree}
 use Rattle.macroblock_dec.specs.declared.inner.codes.ReadPosition.{ReadPosition}
 use Rattle.macroblock_dec.specs.declared.inner.reading.ReadMotion.{ReadMotion}
 use Rattle.macroblock_dec.specs.declared.inner.reading.ReadChoice.{ReadChoice}
+use Rattle.macroblock.specs.declared.svq1_enc_inter.MbMotion.{MbMotion}
+use Rattle.macroblock.specs.declared.svq1_enc_inter.MbMotion.the-variants.{None, One, Four}
 use Rattle.macroblock.specs.Macroblock.{Given, Motion, still, single, four, Choice, coded, halfOf, vectorsOf}
 use Rattle.macroblock.specs.Laying.{choiceBy}
+use Rattle.macroblock.specs.Inner.{byBook}
 use Rattle.macroblock.specs.Motions.{motionOf}
-use Rattle.macroblock.specs.Reading.{readVector}
+use Rattle.macroblock.specs.Reading.{readDifference, readVector}
 
 -- an answer as reading gives it: a value and the bits left, or the refusal
 abbrev pub gotBy : {A : Type 0} → ℕ → A → ℕ → List ℕ → Got A
@@ -40,16 +44,10 @@ pub record PositionFound (s : List ℕ) (at : ℕ) (table : List ℕ) (r : ReadP
   pub found : Found s (takeCode (codesOf table) (drop at (bitsOf s))) (r .refused) (r .position) (r .next)
   pub there : r .position < length table / 3
 
--- the positions of two differences
-pub record Pair : Type 0 where
-  pub x : ℕ
-  pub y : ℕ
-
-unfoldable pub readPair : List ℕ → List ℕ → Got Pair
-readPair book bits =
-    then (takeCode (codesOf (vectorTable book)) bits) λ a r.
-    then (takeCode (codesOf (vectorTable book)) r) λ b q.
-    got (record { x = a; y = b }) q
+-- the value that was read, if there is one
+abbrev pub valueOf : {A : Type 0} → Got A → Option A
+valueOf (got a r) = some a
+valueOf (bad k) = none
 
 -- ---- motions
 -- four vectors, each predicted from those before it
@@ -69,11 +67,25 @@ readMotion g n zero bits = then (readVector g (forOne n) bits) λ v r. got (sing
 readMotion g n (suc zero) bits = then (readFour g n bits) λ vs r. got (fourOf vs) r
 readMotion g n (suc (suc k)) bits = got still bits
 
--- a motion, and the vectors that it leaves
-pub record MotionFound (s : List ℕ) (g : Got Motion) (r : ReadMotion) : Type 0 where
+-- the difference that stands at a bit, and the one behind the mode that stands there
+abbrev pub differenceHere : List ℕ → List ℕ → ℕ → Got Svq1Mv
+differenceHere s book at = readDifference (byBook book) (drop at (bitsOf s))
+
+unfoldable pub modeDifference : List ℕ → List ℕ → ℕ → Got Svq1Mv
+modeDifference s book at = then (takeCode (codesOf (modeTable book)) (drop at (bitsOf s))) λ k r. readDifference (byBook book) r
+
+-- one vector goes with the difference that was read
+abbrev pub DiffersBy : Got Svq1Mv → MbMotion → Type 0
+DiffersBy d None = Unit
+DiffersBy d (One v e) = valueOf d ≡ some e
+DiffersBy d Four = Unit
+
+-- a motion, the vectors that it leaves, and its difference
+pub record MotionFound (s : List ℕ) (g : Got Motion) (d : Got Svq1Mv) (r : ReadMotion) : Type 0 where
   pub found : Found s g (r .refused) (motionOf (r .motion) (r .vectors)) (r .next)
   pub vectors-are : r .vectors ≡ vectorsOf (coded (motionOf (r .motion) (r .vectors)) [])
   pub inside : All Inside (r .vectors)
+  pub differs : r .refused ≡ 0 → DiffersBy d (r .motion)
 
 -- a tree that can be shown
 pub record TreeFound (s : List ℕ) (g : Got (List Node)) (h : Svq1Half) (r : ReadTree) : Type 0 where
@@ -86,9 +98,10 @@ readMotionOf r = motionOf (r .motion) (r .vectors)
 abbrev pub choiceOf : ReadChoice → Choice
 choiceOf r = choiceBy (r .skip) (readMotionOf r) (treeOf (r .blocks))
 
--- what it is, the vectors that it leaves, and that its tree can be shown
-pub record ChoiceFound (s : List ℕ) (g : Got Choice) (r : ReadChoice) : Type 0 where
+-- what it is, the vectors that it leaves, its difference, and that its tree can be shown
+pub record ChoiceFound (s : List ℕ) (g : Got Choice) (d : Got Svq1Mv) (r : ReadChoice) : Type 0 where
   pub found : Found s g (r .refused) (choiceOf r) (r .next)
   pub vectors-are : r .vectors ≡ vectorsOf (choiceOf r)
   pub inside : All Inside (r .vectors)
+  pub differs : r .refused ≡ 0 → DiffersBy d (r .motion)
   pub sound : r .refused ≡ 0 → r .skip ≡ false → SoundTree (halfOf (readMotionOf r)) (treeOf (r .blocks))

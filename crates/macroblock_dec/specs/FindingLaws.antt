@@ -4,6 +4,7 @@ use mathlib.Core.Path.{_≡_, refl, sym, _∙_}
 use mathlib.Core.Bool.{Bool, true, false}
 use mathlib.Core.List.{List, [], _∷_}
 use mathlib.Core.Logic.{_⊎_, ⊎-elim}
+use mathlib.Core.Option.{some}
 use Prim.Native.Nat.{ℕ, _*_, _≤_, min}
 use native.Mathlib.Omega.{arith}
 use lib.Dec.{eqb}
@@ -34,8 +35,8 @@ use Rattle.macroblock.specs.declared.svq1_enc_inter.MbMotion.the-variants.{None
 use Rattle.macroblock_dec.specs.declared.inner.reading.ReadMotion.{ReadMotion}
 use Rattle.macroblock.specs.Mode.{modePosition}
 use Rattle.macroblock.specs.Macroblock.{Motion, still, single}
-use Rattle.macroblock.specs.Reading.{readVector}
-use Rattle.macroblock_dec.specs.Finding.{Found, PositionFound, Pair, readPair, readFour, fourOf, readMotion, MotionFound, TreeFound}
+use Rattle.macroblock.specs.Reading.{readDifference, readVector}
+use Rattle.macroblock_dec.specs.Finding.{Found, PositionFound, valueOf, differenceHere, readFour, fourOf, readMotion, MotionFound, TreeFound}
 use Rattle.macroblock.specs.Inner.{byBook}
 use Rattle.macroblock.specs.SamplesLaws.{four-are}
 
@@ -60,6 +61,10 @@ found-made s g h n a next one = record { is = go (eqb n 0) (one .is); within = o
     go : (q : Bool) → pick q (got a (drop next (bitsOf s))) (bad n) ≡ g → pick q (got (h a) (drop next (bitsOf s))) (bad n) ≡ then g (λ x r. got (h x) r)
     go true e = rw (← e)
     go false e = rw (← e)
+
+-- a value that was read is the one that stands there
+pub found-value : {A : Type 0} (s : List ℕ) (g : Got A) (n : ℕ) (a : A) (next : ℕ) → Found s g n a next → n ≡ 0 → valueOf g ≡ some a
+found-value s g n a next f z = let e : got a (drop next (bitsOf s)) ≡ g = rw (eq-eqb n 0 z) at (f .is) in rw (← e)
 
 -- a string that goes on behind what was read
 pub reads-on : (book : List ℕ) (d bytes at next : ℕ) → Reads book d bytes at → next ≤ 8 * bytes → Reads book d bytes next
@@ -86,43 +91,28 @@ module _ (s book : List ℕ) (at : ℕ) where
   abbrev codes : List (List ℕ)
   codes = codesOf (vectorTable book)
 
-  pub pair-refused : (n k next : ℕ) → Found s (takeCode codes (drop at (bitsOf s))) n k next → (n ≡ 0 → ⊥) → at ≤ 8 * length s
-      → Found s (readPair book (drop at (bitsOf s))) n (record { x = 0; y = 0 }) at
-  unfolding readPair
-  pair-refused n k next one h l = found-refused s _ _ n k next one (record { x = 0; y = 0 }) at h l
+  pub first-component-refused : (n k next : ℕ) (d : Svq1Mv) → Found s (takeCode codes (drop at (bitsOf s))) n k next → (n ≡ 0 → ⊥) → at ≤ 8 * length s → Found s (differenceHere s book at) n d at
+  unfolding readDifference
+  first-component-refused n k next d one h l = found-refused s _ _ n k next one d at h l
 
-  pub pair-found : (n a next m b behind : ℕ) → Found s (takeCode codes (drop at (bitsOf s))) n a next → n ≡ 0 → Found s (takeCode codes (drop next (bitsOf s))) m b behind
-      → Found s (readPair book (drop at (bitsOf s))) m (record { x = a; y = b }) behind
-  unfolding readPair
-  pair-found n a next m b behind one h two =
-      found-then s (takeCode codes (drop at (bitsOf s))) (λ (i : ℕ) (r : List ℕ). then (takeCode codes r) (λ (j : ℕ) (q : List ℕ). got (record { x = i; y = j }) q)) n a next one
-      m (record { x = a; y = b }) behind h (found-made s (takeCode codes (drop next (bitsOf s))) (λ (j : ℕ). record { x = a; y = j }) m b behind two)
-
-vector-pair : (book : List ℕ) (p : Svq1Mv) (bits : List ℕ)
-    → then (readPair book bits) (λ (d : Pair) r. got (finalMv p (differenceAt (d .x)) (differenceAt (d .y))) r) ≡ readVector (byBook book) p bits
-unfolding readPair readVector
-vector-pair book p bits = one (takeCode (codesOf (vectorTable book)) bits)
-  where
-    two : (a : ℕ) (g : Got ℕ) → then (then g (λ b q. got (record { x = a; y = b }) q)) (λ (d : Pair) r. got (finalMv p (differenceAt (d .x)) (differenceAt (d .y))) r)
-        ≡ then g (λ dy q. got (finalMv p (differenceAt a) (differenceAt dy)) q)
-    two a (got b r) = refl
-    two a (bad k) = refl
-
-    one : (g : Got ℕ) → then (then g (λ a r. then (takeCode (codesOf (vectorTable book)) r) (λ b q. got (record { x = a; y = b }) q))) (λ (d : Pair) r. got (finalMv p (differenceAt (d .x)) (differenceAt (d .y))) r)
-        ≡ then g (λ dx r. then (takeCode (codesOf (vectorTable book)) r) (λ dy q. got (finalMv p (differenceAt dx) (differenceAt dy)) q))
-    one (got a r) = two a (takeCode (codesOf (vectorTable book)) r)
-    one (bad k) = refl
+  pub difference-found : (n a next m b behind : ℕ) → Found s (takeCode codes (drop at (bitsOf s))) n a next → n ≡ 0 → Found s (takeCode codes (drop next (bitsOf s))) m b behind
+      → Found s (differenceHere s book at) m (record { x = differenceAt a; y = differenceAt b }) behind
+  unfolding readDifference
+  difference-found n a next m b behind one h two =
+      found-then s _ _ n a next one m (record { x = differenceAt a; y = differenceAt b }) behind h
+      (found-made s (takeCode codes (drop next (bitsOf s))) (λ (j : ℕ). record { x = differenceAt a; y = differenceAt j }) m b behind two)
 
 clipped-in : (z : ℤ) → InRange (clipped z)
 clipped-in (pos n) = pos-in (min 31 n) (omega arith)
 clipped-in (negsuc n) = neg-in (min 31 n) (omega arith)
 
-pub vector-found : (s book : List ℕ) (at : ℕ) (p v : Svq1Mv) (n a b next : ℕ) → v ≡ finalMv p (differenceAt a) (differenceAt b)
-    → Found s (readPair book (drop at (bitsOf s))) n (record { x = a; y = b }) next → Found s (readVector (byBook book) p (drop at (bitsOf s))) n v next × Inside v
-vector-found s book at p v n a b next e f =
-    rw (e, ← vector-pair book p (drop at (bitsOf s))) (
-      found-made s (readPair book (drop at (bitsOf s))) (λ (d : Pair). finalMv p (differenceAt (d .x)) (differenceAt (d .y))) n (record { x = a; y = b }) next f,
-      record { x-in = clipped-in (p .x +ℤ differenceAt a); y-in = clipped-in (p .y +ℤ differenceAt b) },
+pub vector-found : (s book : List ℕ) (at : ℕ) (p v d : Svq1Mv) (n next : ℕ) → v ≡ finalMv p (d .x) (d .y)
+    → Found s (differenceHere s book at) n d next → Found s (readVector (byBook book) p (drop at (bitsOf s))) n v next × Inside v
+unfolding readVector
+vector-found s book at p v d n next e f =
+    rw e (
+      found-made s (differenceHere s book at) (λ (w : Svq1Mv). finalMv p (w .x) (w .y)) n d next f,
+      record { x-in = clipped-in (p .x +ℤ d .x); y-in = clipped-in (p .y +ℤ d .y) },
     )
 
 pub zeros-inside : (v : Svq1Mv) → v ≡ zeroMv → All Inside (replicate 4 v)
@@ -164,28 +154,30 @@ module _ (s book : List ℕ) (n : Near) (at : ℕ) (m : Svq1MbMode) where
   motionAt = readMotion (byBook book) n (modePosition m) (drop at (bitsOf s))
 
   pub one-found : (k : ℕ) (v d : Svq1Mv) (next : ℕ) → m ≡ Mode.Inter → Found s (readVector (byBook book) (forOne n) (drop at (bitsOf s))) k v next → Inside v
-      → MotionFound s motionAt (record { refused = k; next = next; motion = One v d; vectors = replicate 4 v })
+      → Found s (differenceHere s book at) k d next → MotionFound s motionAt (differenceHere s book at) (record { refused = k; next = next; motion = One v d; vectors = replicate 4 v })
   unfolding readMotion
-  one-found k v d next e f i = rw e (record {
+  one-found k v d next e f i h = rw e (record {
     found = found-made s (readVector (byBook book) (forOne n) (drop at (bitsOf s))) single k v next f;
     vectors-are = refl;
     inside = (i, (i, (i, (i, tt))));
+    differs = found-value s (differenceHere s book at) k d next h;
   })
 
   pub fours-found : (k : ℕ) (vs : List Svq1Mv) (next : ℕ) → length vs ≡ 4 → m ≡ Mode.Inter4Mv → Found s (readFour (byBook book) n (drop at (bitsOf s))) k vs next → All Inside vs
-      → MotionFound s motionAt (record { refused = k; next = next; motion = Four; vectors = vs })
+      → MotionFound s motionAt (differenceHere s book at) (record { refused = k; next = next; motion = Four; vectors = vs })
   unfolding readMotion
   fours-found k vs next l e f i = rw e (record {
     found = found-made s (readFour (byBook book) n (drop at (bitsOf s))) fourOf k vs next f;
     vectors-are = four-are vs l;
     inside = i;
+    differs = λ z. tt;
   })
 
-  pub none-found : at ≤ 8 * length s → (m ≡ Mode.Intra) ⊎ (m ≡ Mode.Skip) → (r : ReadMotion) → r ≡ record { refused = 0; next = at; motion = None; vectors = replicate 4 zeroMv } → MotionFound s motionAt r
+  pub none-found : at ≤ 8 * length s → (m ≡ Mode.Intra) ⊎ (m ≡ Mode.Skip) → (r : ReadMotion) → r ≡ record { refused = 0; next = at; motion = None; vectors = replicate 4 zeroMv } → MotionFound s motionAt (differenceHere s book at) r
   unfolding readMotion
   none-found l e r z =
       let is : got still (drop at (bitsOf s)) ≡ motionAt = ⊎-elim (λ a. rw a) (λ a. rw a) e in
-      rw z (record { found = record { is = is; within = l }; vectors-are = refl; inside = zeros-inside zeroMv refl })
+      rw z (record { found = record { is = is; within = l }; vectors-are = refl; inside = zeros-inside zeroMv refl; differs = λ z. tt })
 
 -- ---- a tree
 pub tree-found : (book : List ℕ) → bookRefusal book ≡ 0 → (h : Svq1Half) (s : List ℕ) (at : ℕ) (r : ReadTree) → TreeHere (tablesOf book h) 5 s at r

@@ -6,6 +6,7 @@ use mathlib.Core.List.{List, []}
 use Prim.Native.Nat.{ℕ, zero, suc, _*_, _≤_, _<_}
 use native.Mathlib.Omega.{arith}
 use lib.ListN.{length, drop, replicate}
+use borrow.Author.Tests.{eq-eqb}
 use Rattle.bits.specs.Bits.{bitsOf}
 use Rattle.code_tables.specs.Codes.{codesOf, Got, got, bad, then, takeCode}
 use Rattle.book.specs.Book.{modeTable, tablesOf}
@@ -22,8 +23,8 @@ use Rattle.macroblock_dec.specs.declared.inner.reading.ReadMotion.{ReadM
 use Rattle.macroblock_dec.specs.declared.inner.reading.ReadChoice.{ReadChoice}
 use Rattle.macroblock.specs.Macroblock.{Given, Motion, still, single, four, Choice, skipped, coded, halfOf, vectorsOf, modeCodes}
 use Rattle.macroblock.specs.Motions.{motionOf}
-use Rattle.macroblock.specs.Reading.{readVector, readCoded, readBehind, readMacroblock}
-use Rattle.macroblock_dec.specs.Finding.{Found, readFour, readMotion, MotionFound, TreeFound, choiceOf, ChoiceFound}
+use Rattle.macroblock.specs.Reading.{readDifference, readVector, readCoded, readBehind, readMacroblock}
+use Rattle.macroblock_dec.specs.Finding.{Found, readFour, readMotion, MotionFound, TreeFound, choiceOf, differenceHere, modeDifference, ChoiceFound}
 use Rattle.macroblock.specs.Inner.{byBook}
 use Rattle.macroblock_dec.specs.FindingLaws.{found-refused, found-then, found-made, zeros-inside}
 
@@ -65,16 +66,17 @@ module _ (s book : List ℕ) (n : Near) (at k : ℕ) where
   abbrev motionFrom : Got Motion
   motionFrom = readMotion (byBook book) n k (drop at (bitsOf s))
 
-  module _ (r : ReadMotion) (l : k < 3) (f : MotionFound s motionFrom r) where
+  module _ (r : ReadMotion) (l : k < 3) (f : MotionFound s motionFrom (differenceHere s book at) r) where
     abbrev moved : Motion
     moved = motionOf (r .motion) (r .vectors)
 
     pub motion-refused : (bs : List Block) → at ≤ 8 * length s → (r .refused ≡ 0 → ⊥)
-        → ChoiceFound s behindAt (record { refused = r .refused; next = at; skip = false; motion = r .motion; vectors = r .vectors; blocks = bs })
+        → ChoiceFound s behindAt (differenceHere s book at) (record { refused = r .refused; next = at; skip = false; motion = r .motion; vectors = r .vectors; blocks = bs })
     motion-refused bs h e = record {
       found = rw (← behind-coded (byBook book) n k (drop at (bitsOf s)) l) (found-refused s motionFrom (readCoded (byBook book)) (r .refused) moved (r .next) (f .found) (coded moved (treeOf bs)) at e h);
       vectors-are = f .vectors-are ∙ of-motion moved [] (treeOf bs);
       inside = f .inside;
+      differs = λ z. absurd (e z);
       sound = λ z. absurd (e z);
     }
 
@@ -84,7 +86,7 @@ module _ (s book : List ℕ) (n : Near) (at k : ℕ) where
     tree-behind t g = found-made s (readTree (tablesOf book (halfOf moved)) 5 (drop (r .next) (bitsOf s))) (coded moved) (t .refused) (treeOf (t .blocks)) (t .next) (g .found)
 
     pub coded-found : (t : ReadTree) (half : Svq1Half) → r .refused ≡ 0 → half ≡ halfOf moved → TreeFound s (readTree (tablesOf book half) 5 (drop (r .next) (bitsOf s))) half t
-        → ChoiceFound s behindAt (record { refused = t .refused; next = t .next; skip = false; motion = r .motion; vectors = r .vectors; blocks = t .blocks })
+        → ChoiceFound s behindAt (differenceHere s book at) (record { refused = t .refused; next = t .next; skip = false; motion = r .motion; vectors = r .vectors; blocks = t .blocks })
     coded-found t half z e g =
         let here : TreeFound s (readTree (tablesOf book (halfOf moved)) 5 (drop (r .next) (bitsOf s))) (halfOf moved) t = rw e at g in
         record {
@@ -92,6 +94,7 @@ module _ (s book : List ℕ) (n : Near) (at k : ℕ) where
               (found-then s motionFrom (readCoded (byBook book)) (r .refused) moved (r .next) (f .found) (t .refused) (coded moved (treeOf (t .blocks))) (t .next) z (tree-behind t here));
           vectors-are = f .vectors-are ∙ of-motion moved [] (treeOf (t .blocks));
           inside = f .inside;
+          differs = λ y. f .differs z;
           sound = λ y _. here .sound y;
         }
 
@@ -102,11 +105,12 @@ module _ (s book : List ℕ) (n : Near) (at k : ℕ) where
   behind-skip (suc (suc zero)) bits l = absurd (omega arith)
   behind-skip (suc (suc (suc k))) bits l = refl
 
-  pub skip-found : (r : ReadChoice) → 3 ≤ k → at ≤ 8 * length s → r ≡ skippedAt 0 at (r .blocks) → ChoiceFound s behindAt r
+  pub skip-found : (r : ReadChoice) → 3 ≤ k → at ≤ 8 * length s → r ≡ skippedAt 0 at (r .blocks) → ChoiceFound s behindAt (differenceHere s book at) r
   skip-found r l h z = rw z (record {
     found = record { is = behind-skip k (drop at (bitsOf s)) l; within = h };
     vectors-are = refl;
     inside = zeros-inside zeroMv refl;
+    differs = λ y. tt;
     sound = λ _ e. absurd (true≢false e);
   })
 
@@ -115,27 +119,29 @@ module _ (s book : List ℕ) (n : Near) (at m k next : ℕ) (f : Found s (takeCo
   abbrev macroblockAt : Got Choice
   macroblockAt = readMacroblock (byBook book) n (drop at (bitsOf s))
 
-  pub mode-refused : (r : ReadChoice) → (m ≡ 0 → ⊥) → at ≤ 8 * length s → r ≡ skippedAt m at (r .blocks) → ChoiceFound s macroblockAt r
+  pub mode-refused : (r : ReadChoice) → (m ≡ 0 → ⊥) → at ≤ 8 * length s → r ≡ skippedAt m at (r .blocks) → ChoiceFound s macroblockAt (modeDifference s book at) r
   unfolding readMacroblock
   mode-refused r e h z = rw z (record {
     found = found-refused s _ _ m k next f skipped at e h;
     vectors-are = refl;
     inside = zeros-inside zeroMv refl;
+    differs = λ y. tt;
     sound = λ y. absurd (e y);
   })
 
-  pub mode-found : (c : ReadChoice) → m ≡ 0 → ChoiceFound s (readBehind (byBook book) n k (drop next (bitsOf s))) c → ChoiceFound s macroblockAt c
-  unfolding readMacroblock
+  pub mode-found : (c : ReadChoice) → m ≡ 0 → ChoiceFound s (readBehind (byBook book) n k (drop next (bitsOf s))) (differenceHere s book next) c → ChoiceFound s macroblockAt (modeDifference s book at) c
+  unfolding readMacroblock modeDifference
   mode-found c e g = record {
     found = found-then s _ _ m k next f (c .refused) (choiceOf c) (c .next) e (g .found);
     vectors-are = g .vectors-are;
     inside = g .inside;
+    differs = let w : got k (drop next (bitsOf s)) ≡ takeCode (codesOf (modeTable book)) (drop at (bitsOf s)) = rw (eq-eqb m 0 e) at (f .is) in rw (← w) (g .differs);
     sound = g .sound;
   }
 
 -- READING LOOKS AT THE BOOK, and at nothing else of what is given
 pub by-book : (g : Given) (n : Near) (bits : List ℕ) → readMacroblock (byBook (g .book)) n bits ≡ readMacroblock g n bits
-unfolding readMacroblock readBehind readCoded readVector
+unfolding readMacroblock readBehind readCoded readVector readDifference
 by-book g n bits = go (takeCode (modeCodes g) bits)
   where
     each : (k : ℕ) (r : List ℕ) → readBehind (byBook (g .book)) n k r ≡ readBehind g n k r

@@ -21,7 +21,7 @@ use Rattle.macroblock.specs.Reading.{readMacroblock}
 use Rattle.macroblock.specs.Slices.{Slices, near}
 use Rattle.macroblock.specs.Inner.{givenBy, byBook}
 use Rattle.macroblock.specs.InnerLaws.{fits, book-passes, stands, vectors-held, recon-held}
-use Rattle.macroblock_dec.specs.Finding.{readMotionOf, choiceOf, ChoiceFound}
+use Rattle.macroblock_dec.specs.Finding.{readMotionOf, choiceOf, modeDifference, ChoiceFound}
 use Rattle.macroblock_dec.specs.MacroblockReadLaws.{by-book}
 use Rattle.macroblock.specs.Laying.{ShowingIf, Laying, LaysChoice}
 use Rattle.macroblock_dec.specs.MacroblockRead.{Ready, MbRead}
@@ -53,7 +53,7 @@ module _ (c : Svq1PlaneCanvas) (reference book codebook raised s : List ℕ) (at
   here-is : here ≡ readMacroblock g (near g u k) (drop at (bitsOf s))
   here-is = rw (cols-call, rows-call) (by-book g (near g u k) (drop at (bitsOf s)))
 
-  module _ (r : ReadChoice) (f : ChoiceFound s here r) where
+  module _ (r : ReadChoice) (f : ChoiceFound s here (modeDifference s book at) r) where
     pub call-refused : (r .refused ≡ 0 → ⊥) → MbRead g s at k u (record { refused = r .refused; next = at }) u
     call-refused e =
         let no = ne-eqb (r .refused) 0 e in

@@ -12,7 +12,7 @@ ghost use Rattle.vectors.specs.VectorsLaws.{Inside};
 ghost use Rattle.tree.specs.Walk.{Reads};
 ghost use Rattle.macroblock.specs.Mode.{modePosition};
 ghost use Rattle.macroblock.specs.Reading.{readVector};
-ghost use Rattle.macroblock_dec.specs.Finding.{Found, PositionFound, readPair};
+ghost use Rattle.macroblock_dec.specs.Finding.{Found, PositionFound, differenceHere};
 ghost use Rattle.macroblock.specs.Inner.{byBook};
 use code_tables::svq1_vlc::CodeRead;
 use macroblock::svq1_enc_inter::Svq1MbMode;
@@ -105,10 +105,10 @@ fn read_mv_component(s: &[u8], at: usize, book: &[u8]) -> ReadPosition
     read_position(s, at, &book[12..204])
 }
 
-// The positions of a vector's two differences, x before y.
+// The positions of a difference's components, x before y.
 pub fn read_mv_differential(s: &[u8], at: usize, book: &[u8]) -> ReadPair
     requires { ⌜ Reads (now book) 5 (length (now s)) at ⌝ }
-    ensures { λ r. ⌜ Found (now (s .entry)) (readPair (now (book .entry)) (drop at (bitsOf (now (s .entry))))) (r .refused) (record { x = r .x; y = r .y }) (r .next) × (r .x < 64) × (r .y < 64) ⌝ }
+    ensures { λ r. ⌜ Found (now (s .entry)) (differenceHere (now (s .entry)) (now (book .entry)) at) (r .refused) (record { x = differenceAt (r .x); y = differenceAt (r .y) }) (r .next) × (r .x < 64) × (r .y < 64) ⌝ }
 {
     let a = read_mv_component(s, at, book);
     if a.refused != 0 {
@@ -136,10 +136,10 @@ fn difference_at(k: usize) -> i32
     k as i32 - 32
 }
 
-// The vector that stands at bit `at`, against its predictor.
+// The vector that stands at bit `at`, against its predictor, and its difference as it stands there.
 pub fn read_vector(s: &[u8], at: usize, book: &[u8], predictor: Svq1Mv) -> ReadMv
     requires { ⌜ Reads (now book) 5 (length (now s)) at ⌝ }
-    ensures { λ r. ⌜ Found (now (s .entry)) (readVector (byBook (now (book .entry))) predictor (drop at (bitsOf (now (s .entry))))) (r .refused) (r .mv) (r .next) × Inside (r .mv) ⌝ }
+    ensures { λ r. ⌜ Found (now (s .entry)) (readVector (byBook (now (book .entry))) predictor (drop at (bitsOf (now (s .entry))))) (r .refused) (r .mv) (r .next) × Inside (r .mv) × Found (now (s .entry)) (differenceHere (now (s .entry)) (now (book .entry)) at) (r .refused) (r .diff) (r .next) ⌝ }
 {
     let p = read_mv_differential(s, at, book);
     let x = difference_at(p.x);
@@ -149,6 +149,6 @@ pub fn read_vector(s: &[u8], at: usize, book: &[u8], predictor: Svq1Mv) -> ReadM
         refused: p.refused,
         next: p.next,
         mv,
-        diff: Svq1Mv { x, y },
+        diff: Svq1Mv::new(x, y),
     }
 }

@@ -16,7 +16,7 @@ ghost use Rattle.macroblock.specs.Mode.{modePosition};
 ghost use Rattle.macroblock_dec.specs.MacroblockRead.{Ready, MbRead};
 ghost use Rattle.macroblock.specs.Inner.{givenBy, byBook};
 ghost use Rattle.macroblock.specs.Reading.{readBehind, readMacroblock};
-ghost use Rattle.macroblock_dec.specs.Finding.{Found, MotionFound, TreeFound, ChoiceFound, readFour, readMotion};
+ghost use Rattle.macroblock_dec.specs.Finding.{Found, MotionFound, TreeFound, ChoiceFound, readFour, readMotion, differenceHere, modeDifference};
 use super::super::inner::codes::read_mb_mode;
 use super::super::inner::codes::read_vector;
 use book::svq1_vlc::Svq1Half;
@@ -127,7 +127,7 @@ fn no_motion(at: usize) -> ReadMotion
 // The motion of a mode that stands at bit `at`; INTRA has none, and neither has SKIP.
 fn read_motion(s: &[u8], at: usize, book: &[u8], near: NearBlocks, mode: Svq1MbMode) -> ReadMotion
     requires { ⌜ Reads (now book) 5 (length (now s)) at ⌝ }
-    ensures { λ r. ⌜ MotionFound (now (s .entry)) (readMotion (byBook (now (book .entry))) (nearFrom near) (modePosition mode) (drop at (bitsOf (now (s .entry))))) r ⌝ }
+    ensures { λ r. ⌜ MotionFound (now (s .entry)) (readMotion (byBook (now (book .entry))) (nearFrom near) (modePosition mode) (drop at (bitsOf (now (s .entry))))) (differenceHere (now (s .entry)) (now (book .entry)) at) r ⌝ }
 {
     match mode {
         Svq1MbMode::Inter => {
@@ -191,7 +191,7 @@ fn skipped_at(refused: u8, at: usize) -> ReadChoice
 // What stands behind a mode other than SKIP: its motion and its tree.
 fn read_coded(s: &[u8], at: usize, book: &[u8], near: NearBlocks, mode: Svq1MbMode) -> ReadChoice
     requires { ⌜ Reads (now book) 5 (length (now s)) at × (modePosition mode < 3) ⌝ }
-    ensures { λ r. ⌜ ChoiceFound (now (s .entry)) (readBehind (byBook (now (book .entry))) (nearFrom near) (modePosition mode) (drop at (bitsOf (now (s .entry))))) r ⌝ }
+    ensures { λ r. ⌜ ChoiceFound (now (s .entry)) (readBehind (byBook (now (book .entry))) (nearFrom near) (modePosition mode) (drop at (bitsOf (now (s .entry))))) (differenceHere (now (s .entry)) (now (book .entry)) at) r ⌝ }
 {
     let m = read_motion(s, at, book, near, mode);
     let motion = m.motion;
@@ -222,7 +222,7 @@ fn read_coded(s: &[u8], at: usize, book: &[u8], near: NearBlocks, mode: Svq1MbMo
 // What stands behind a mode: nothing behind SKIP.
 fn read_behind(s: &[u8], at: usize, book: &[u8], near: NearBlocks, mode: Svq1MbMode) -> ReadChoice
     requires { ⌜ Reads (now book) 5 (length (now s)) at ⌝ }
-    ensures { λ r. ⌜ ChoiceFound (now (s .entry)) (readBehind (byBook (now (book .entry))) (nearFrom near) (modePosition mode) (drop at (bitsOf (now (s .entry))))) r ⌝ }
+    ensures { λ r. ⌜ ChoiceFound (now (s .entry)) (readBehind (byBook (now (book .entry))) (nearFrom near) (modePosition mode) (drop at (bitsOf (now (s .entry))))) (differenceHere (now (s .entry)) (now (book .entry)) at) r ⌝ }
 {
     if mode.position() < 3 {
         return read_coded(s, at, book, near, mode);
@@ -233,7 +233,7 @@ fn read_behind(s: &[u8], at: usize, book: &[u8], near: NearBlocks, mode: Svq1MbM
 // The macroblock that stands at bit `at`, among these neighbours.
 fn read_choice(s: &[u8], at: usize, book: &[u8], near: NearBlocks) -> ReadChoice
     requires { ⌜ Reads (now book) 5 (length (now s)) at ⌝ }
-    ensures { λ r. ⌜ ChoiceFound (now (s .entry)) (readMacroblock (byBook (now (book .entry))) (nearFrom near) (drop at (bitsOf (now (s .entry))))) r ⌝ }
+    ensures { λ r. ⌜ ChoiceFound (now (s .entry)) (readMacroblock (byBook (now (book .entry))) (nearFrom near) (drop at (bitsOf (now (s .entry))))) (modeDifference (now (s .entry)) (now (book .entry)) at) r ⌝ }
 {
     let m = read_mb_mode(s, at, book);
     let mode = m.mode;
@@ -255,7 +255,7 @@ fn read_among(
     k: usize,
 ) -> ReadChoice
     requires { ⌜ Reads (now book) 5 (length (now s)) at × Slices cols rows (now vx) (now vy) × (k < rows * cols) ⌝ }
-    ensures { λ r. ⌜ ChoiceFound (now (s .entry)) (readMacroblock (byBook (now (book .entry))) (nearOf cols rows (now (vx .entry)) (now (vy .entry)) k) (drop at (bitsOf (now (s .entry))))) r ⌝ }
+    ensures { λ r. ⌜ ChoiceFound (now (s .entry)) (readMacroblock (byBook (now (book .entry))) (nearOf cols rows (now (vx .entry)) (now (vy .entry)) k) (drop at (bitsOf (now (s .entry))))) (modeDifference (now (s .entry)) (now (book .entry)) at) r ⌝ }
 {
     let near = near_blocks(vx, vy, cols, rows, k);
     read_choice(s, at, book, near)

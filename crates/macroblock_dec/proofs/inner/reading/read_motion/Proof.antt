@@ -37,7 +37,7 @@ no-motion-requires-2 c κs = search needs
 returns : tie.Need-returns
 returns c =
     let a = c .before .before .before .before .before .before .before .before .args in
-    one-found (a .s .now) (a .book .now) (nearFrom (a .near)) (a .at) (a .mode) _ _ _ _ (c .before .before .before .before .enum-told .given .1) (rw (c .before .before .before .predict-one .ensures) at (c .before .before .read-vector .ensures .0)) (c .before .before .read-vector .ensures .1)
+    one-found (a .s .now) (a .book .now) (nearFrom (a .near)) (a .at) (a .mode) _ _ _ _ (c .before .before .before .before .enum-told .given .1) (rw (c .before .before .before .predict-one .ensures) at (c .before .before .read-vector .ensures .0)) (c .before .before .read-vector .ensures .1) (c .before .before .read-vector .ensures .2)
 
 returns-2 : tie.Need-returns-2
 returns-2 c =
