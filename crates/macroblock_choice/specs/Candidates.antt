@@ -15,12 +15,13 @@ use Rattle.costs.specs.Cost.{costOf}
 use Rattle.tree.specs.TreeBits.{planTree}
 use Rattle.macroblock_choice.specs.declared.inner.candidates.MbCandidate.{MbCandidate}
 use Rattle.macroblock.specs.declared.svq1_enc_inter.MbMotion.{MbMotion}
+use Rattle.macroblock.specs.declared.svq1_enc_inter.MbMotion.the-variants.{None}
 use Rattle.macroblock.specs.declared.svq1_enc_inter.Svq1MbMode.{Svq1MbMode}
 use Rattle.macroblock.specs.declared.svq1_enc_inter.Svq1MbMode.the-variants as Mode
 use Rattle.macroblock.specs.Macroblock.{Given, Motion, Choice, skipped, coded, modeOf, motionMode, vectorsOf, shown, motionBits, modeBits, choiceBits}
 use Rattle.bits.specs.Basics.{passing}
 use Rattle.macroblock.specs.Choice.{Task, target, planningFor, motionsTried, weightOf, bestOf}
-use Rattle.macroblock.specs.Motions.{motionOf}
+use Rattle.macroblock.specs.Motions.{motionOf, Differs}
 use Rattle.macroblock.specs.Inner.{byBook}
 use Rattle.macroblock.specs.Laying.{choiceBy}
 
@@ -35,16 +36,18 @@ skips Mode.Skip = true
 abbrev pub choiceOf : MbCandidate → Choice
 choiceOf c = choiceBy (skips (c .mode)) (motionOf (c .motion) (c .vectors)) (treeOf (c .blocks))
 
--- it states its mode, the vectors to store, all its bits, and the squared distance of what it shows from the block that macroblock k is to show
+-- it states its mode, the vectors to store, one vector's difference, all its bits, and the squared distance of what it shows from the block that macroblock k is to show
 pub record Stated (g : Given) (block : List ℕ) (k : ℕ) (n : Near) (c : MbCandidate) : Type 0 where
   pub mode : c .mode ≡ modeOf (choiceOf c)
   pub vectors : c .vectors ≡ vectorsOf (choiceOf c)
+  pub differs : Differs n (c .motion)
   pub bits : c .bits ≡ length (choiceBits g n (choiceOf c))
   pub error : c .error ≡ sse block (shown g k (choiceOf c))
 
 -- SKIP with these bits and this error
 pub record Skipping (bits error : ℕ) (r : MbCandidate) : Type 0 where
   pub mode : r .mode ≡ Mode.Skip
+  pub motion-is : r .motion ≡ None
   pub vectors : r .vectors ≡ replicate 4 zeroMv
   pub bits-are : r .bits ≡ bits
   pub error-is : r .error ≡ error

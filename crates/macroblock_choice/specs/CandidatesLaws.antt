@@ -24,7 +24,7 @@ use Rattle.macroblock.specs.declared.svq1_enc_inter.MbMotion.{MbMotion}
 use Rattle.macroblock.specs.declared.svq1_enc_inter.Svq1MbMode.the-variants as Mode
 use Rattle.macroblock.specs.Macroblock.{Given, Motion, still, single, four, Choice, skipped, coded, modeOf, motionMode, halfOf, vectorsOf, referenceBlock, shown, vectorBits, motionBits, modeBits, choiceBits}
 use Rattle.macroblock.specs.Choice.{Task, target, singleTried, fourTried, motionsTried, weightOf, beats, bestOf}
-use Rattle.macroblock.specs.Motions.{motionOf}
+use Rattle.macroblock.specs.Motions.{motionOf, Differs}
 use Rattle.macroblock.specs.Inner.{byBook}
 use Rattle.macroblock.specs.Laying.{choiceBy}
 use Rattle.macroblock_choice.specs.Candidates.{skips, choiceOf, Stated, Skipping, CandidateOf, preferred, codedFor, inRoom, Tried, chosenIn}
@@ -39,6 +39,7 @@ module _ (b e : ℕ) (r : MbCandidate) (s : Skipping b e r) where
   skip-stated g block k n eb ee = record {
     mode = s .mode ∙ sym (ap modeOf skip-is);
     vectors = s .vectors ∙ sym (ap vectorsOf skip-is);
+    differs = rw (s .motion-is) tt;
     bits = s .bits-are ∙ eb ∙ sym (ap (λ (c : Choice). length (choiceBits g n c)) skip-is);
     error = s .error-is ∙ ee ∙ sym (ap (λ (c : Choice). sse block (shown g k c)) skip-is);
   }
@@ -78,11 +79,12 @@ module _ (g : Given) (block : List ℕ) (k : ℕ) (n : Near) (motion : MbMotion)
   unfolding choiceBits
   counted = length-append (modeBits g (motionMode m)) _ ∙ ap (λ (i : ℕ). length (modeBits g (motionMode m)) + i) (length-append (motionBits g n m) _)
 
-  pub coded-stated : vectors ≡ vectorsOf (coded m []) → b ≡ length (treeBits (tablesOf (g .book) (halfOf m)) (treeOf blocks)) → e ≡ sse block (shown g k (coded m (treeOf blocks)))
+  pub coded-stated : vectors ≡ vectorsOf (coded m []) → Differs n motion → b ≡ length (treeBits (tablesOf (g .book) (halfOf m)) (treeOf blocks)) → e ≡ sse block (shown g k (coded m (treeOf blocks)))
       → Stated g block k n r
-  coded-stated ev eb ee = record {
+  coded-stated ev ed eb ee = record {
     mode = c .mode ∙ sym (ap modeOf coded-is);
     vectors = c .vectors-are ∙ ev ∙ vectors-any m [] (treeOf blocks) ∙ sym (ap vectorsOf coded-is);
+    differs = rw (c .motion-is) ed;
     bits = c .bits-are ∙ rw (motion-of-book g n m, eb) (sym counted) ∙ sym (ap (λ (d : Choice). length (choiceBits g n d)) coded-is);
     error = c .error-is ∙ ee ∙ sym (ap (λ (d : Choice). sse block (shown g k d)) coded-is);
   }

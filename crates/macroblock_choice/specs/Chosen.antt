@@ -15,7 +15,7 @@ use Rattle.macroblock.specs.declared.svq1_enc_inter.MbMotion.{MbMotion}
 use Rattle.macroblock.specs.Macroblock.{Given, cols, rows, Motion, coded, halfOf, vectorsOf, baseline}
 use Rattle.macroblock.specs.Limit.{Limit, unlimited, canSkipRest}
 use Rattle.macroblock.specs.Choice.{Task, target, skipsLeaves}
-use Rattle.macroblock.specs.Motions.{motionOf}
+use Rattle.macroblock.specs.Motions.{motionOf, Differs}
 use Rattle.macroblock.specs.Inner.{Accepted}
 use Rattle.macroblock_choice.specs.Candidates.{choiceOf, Stated, chosenIn}
 use Rattle.plan.specs.Planning.{planningIn}
@@ -49,9 +49,10 @@ pub record Sourced (g : Given) (raised source : List ℕ) (k : ℕ) : Type 0 whe
 abbrev pub planningBy : Given → List ℕ → ℕ → ℕ → Motion → Planning
 planningBy g block lambda k m = planningIn (halfOf m) (g .book) (g .codebook) stagesPerPage (skipsLeaves (halfOf m)) lambda 5 block (baseline g k m)
 
--- the vectors beside a motion are those that it stores
-abbrev pub Carries : MbMotion → List Svq1Mv → Type 0
-Carries m vs = vs ≡ vectorsOf (coded (motionOf m vs) [])
+-- the vectors beside a motion are those that it stores, and one vector goes with its difference
+pub record Carries (n : Near) (m : MbMotion) (vs : List Svq1Mv) : Type 0 where
+  pub stored : vs ≡ vectorsOf (coded (motionOf m vs) [])
+  pub differs : Differs n m
 
 -- the candidate of a motion
 pub record Made (g : Given) (block : List ℕ) (lambda k : ℕ) (n : Near) (m : Motion) (r : MbCandidate) : Type 0 where

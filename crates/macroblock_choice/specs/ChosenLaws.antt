@@ -85,14 +85,14 @@ module _ (g : Given) (raised : List ℕ) (k : ℕ) (block : List ℕ) (ready : P
         ap (λ (w : Weight). w .bits) (found .weighs) ∙ plan-bits (planningBy g block lambda k m) planned-by in
         omega (arith, plan-short (planningBy g block lambda k m) planned-by)
 
-    pub made-by : (n : Near) (motion : MbMotion) (vectors : List Svq1Mv) (r : MbCandidate) → m ≡ motionOf motion vectors → Carries motion vectors
+    pub made-by : (n : Near) (motion : MbMotion) (vectors : List Svq1Mv) (r : MbCandidate) → m ≡ motionOf motion vectors → Carries n motion vectors
         → CandidateOf (g .book) n motion vectors (p .blocks) (p .bits) (p .error) r → Made g block lambda k n m r
     unfolding shown
     made-by n motion vectors r em ev c =
         let is : choiceOf r ≡ coded m (treeOf (p .blocks)) = rw em (coded-is g block k n motion vectors (p .blocks) (p .bits) (p .error) r c) in
         record {
           is = rw (found .tree) at is;
-          stated = coded-stated g block k n motion vectors (p .blocks) (p .bits) (p .error) r c ev
+          stated = coded-stated g block k n motion vectors (p .blocks) (p .bits) (p .error) r c (ev .stored) (ev .differs)
               (rw (← em, found .tree) (ap (λ (w : Weight). w .bits) (found .weighs) ∙ plan-bits (planningBy g block lambda k m) planned-by))
               (rw (← em, found .tree) (ap (λ (w : Weight). w .err) (found .weighs) ∙ plan-error (planningBy g block lambda k m) planned-by));
         }

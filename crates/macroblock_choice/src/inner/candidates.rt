@@ -11,7 +11,7 @@ ghost use Rattle.mv_cache.specs.Cache.{nearFrom};
 ghost use Rattle.canvas.specs.Canvas.{blocksAlong};
 ghost use Rattle.macroblock.specs.Macroblock.{skipped, motionMode};
 ghost use Rattle.macroblock.specs.MacroblockLaws.{Codables};
-ghost use Rattle.macroblock.specs.Motions.{motionOf};
+ghost use Rattle.macroblock.specs.Motions.{motionOf, Differs};
 ghost use Rattle.macroblock.specs.Inner.{givenBy};
 ghost use Rattle.macroblock.specs.Samples.{Stands};
 ghost use Rattle.macroblock_choice.specs.Candidates.{choiceOf, preferred, Stated, Skipping, CandidateOf};
@@ -110,7 +110,7 @@ pub fn candidate_of(
     bits: u32,
     error: u32,
 ) -> MbCandidate
-    requires { ⌜ (bookRefusal (now book) ≡ 0) × Codables (nearFrom near) (motionOf motion vectors) × (bits ≤ 65536) ⌝ }
+    requires { ⌜ (bookRefusal (now book) ≡ 0) × Codables (nearFrom near) (motionOf motion vectors) × Differs (nearFrom near) motion × (bits ≤ 65536) ⌝ }
     ensures { λ r. ⌜ CandidateOf (now (book .entry)) (nearFrom near) motion vectors blocks bits error r ⌝ }
 {
     let mode = mode_of(motion);

@@ -37,7 +37,7 @@ fn try_motion(
     best: MbCandidate,
     room: u64,
 ) -> MbCandidate
-    requires { ⌜ Placing (givenBy canvas (now reference) (now book) (now codebook)) (now raised) k (now target) × All (Codables (nearFrom near)) (motionsOf found) × Carries (found .motion) (found .vectors) × Stated (givenBy canvas (now reference) (now book) (now codebook)) (now target) k (nearFrom near) best ⌝ }
+    requires { ⌜ Placing (givenBy canvas (now reference) (now book) (now codebook)) (now raised) k (now target) × All (Codables (nearFrom near)) (motionsOf found) × Carries (nearFrom near) (found .motion) (found .vectors) × Stated (givenBy canvas (now reference) (now book) (now codebook)) (now target) k (nearFrom near) best ⌝ }
     ensures { λ r. ⌜ Tried (givenBy canvas (now (reference .entry)) (now (book .entry)) (now (codebook .entry))) (now (target .entry)) lambda room k (nearFrom near) (motionsOf found) best r ⌝ }
 {
     if found.found {

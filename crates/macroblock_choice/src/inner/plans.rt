@@ -109,7 +109,7 @@ pub fn coded_candidate(
     motion: MbMotion,
     vectors: [Svq1Mv; 4],
 ) -> MbCandidate
-    requires { ⌜ Placing (givenBy canvas (now reference) (now book) (now codebook)) (now raised) k (now target) × Codables (nearFrom near) (motionOf motion vectors) × Carries motion vectors ⌝ }
+    requires { ⌜ Placing (givenBy canvas (now reference) (now book) (now codebook)) (now raised) k (now target) × Codables (nearFrom near) (motionOf motion vectors) × Carries (nearFrom near) motion vectors ⌝ }
     ensures { λ r. ⌜ Made (givenBy canvas (now (reference .entry)) (now (book .entry)) (now (codebook .entry))) (now (target .entry)) lambda k (nearFrom near) (motionOf motion vectors) r ⌝ }
 {
     let p = plan_motion(

@@ -1,4 +1,5 @@
 -- SKIP, then one vector, none and four, each against the best so far. Assumes nothing.
+use mathlib.Core.Path.{refl}
 use Rattle.mv_cache.specs.Cache.{nearFrom}
 use Rattle.macroblock.specs.Inner.{givenBy}
 use Rattle.macroblock.specs.InnerLaws.{stands, book-passes}
@@ -24,7 +25,7 @@ try-motion-requires c κs =
     let s = c .before .before .before .before .before .before .before in
     let a = s .args in
     let f = c .single-motion .ensures in
-    (s .pre .0, f .codes, f .stored, c .before .skip-candidate .ensures .1 (a .codebook .now) (nearFrom (a .near)))
+    (s .pre .0, f .codes, record { stored = f .stored; differs = f .differs }, c .before .skip-candidate .ensures .1 (a .codebook .now) (nearFrom (a .near)))
 
 still-found-requires : tie.Need-still-found-requires
 still-found-requires c κs = search needs
@@ -34,7 +35,7 @@ try-motion-requires-2 c κs =
     let s = c .before .before .before .before .before .before .before .before .before in
     let a = s .args in
     let e = c .still-found .ensures in
-    (s .pre .0, rw e (tt, tt), rw e, c .before .try-motion .ensures .stated)
+    (s .pre .0, rw e (tt, tt), rw e (record { stored = refl; differs = tt }), c .before .try-motion .ensures .stated)
 
 four-motion-requires : tie.Need-four-motion-requires
 four-motion-requires c κs =
@@ -46,7 +47,7 @@ try-motion-requires-3 : tie.Need-try-motion-requires-3
 try-motion-requires-3 c κs =
     let s = c .before .before .before .before .before .before .before .before .before .before .before in
     let f = c .four-motion .ensures in
-    (s .pre .0, f .codes, f .stored, c .before .try-motion2 .ensures .stated)
+    (s .pre .0, f .codes, record { stored = f .stored; differs = f .differs }, c .before .try-motion2 .ensures .stated)
 
 returns : tie.Need-returns
 returns c =
