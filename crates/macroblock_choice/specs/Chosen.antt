@@ -28,9 +28,13 @@ taskIn source lambda radius four limit = record { source = source; lambda = lamb
 abbrev pub taskBy : List ℕ → ℕ → ℕ → Bool → Task
 taskBy source lambda radius four = taskIn source lambda radius four unlimited
 
+-- more bits than any macroblock takes
+abbrev pub ampleRoom : ℕ
+ampleRoom = 65536
+
 -- room for bits of macroblock k that says what the limit says
 abbrev pub Allows : Limit → Given → ℕ → ℕ → ℕ → Type 0
-Allows l g k spent room = (bits : ℕ) → bits ≤ 65536 → leb bits room ≡ canSkipRest l g (suc k) (spent + bits)
+Allows l g k spent room = (bits : ℕ) → bits ≤ ampleRoom → leb bits room ≡ canSkipRest l g (suc k) (spent + bits)
 
 -- what is lent passes, macroblock k is one of the plane's, and it is to show a block of 256 samples
 pub record Placing (g : Given) (raised : List ℕ) (k : ℕ) (block : List ℕ) : Type 0 where

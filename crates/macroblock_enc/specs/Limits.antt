@@ -9,22 +9,26 @@ use Rattle.macroblock.specs.declared.svq1_enc_inter.Svq1MbMode.the-variants.{Sk
 use Rattle.macroblock.specs.Macroblock.{Given, modeBits}
 use Rattle.macroblock.specs.Limit.{Limit, unlimited, within, canSkipRest}
 use Rattle.macroblock.specs.Inner.{byBook}
+use Rattle.macroblock_choice.specs.Chosen.{ampleRoom}
 use Rattle.macroblock_enc.specs.declared.inner.limit.BitLimit.{BitLimit}
 use Rattle.macroblock_enc.specs.declared.inner.limit.BitLimit.the-variants.{Unlimited, Within}
 
+-- the limit that the code passes on
 abbrev pub limitOf : BitLimit → Limit
 limitOf Unlimited = unlimited
 limitOf (Within allowance behind) = within (record { allowance = allowance; behind = behind })
 
+-- the macroblocks of the planes behind, as far as the limit counts them
 abbrev pub behindOf : BitLimit → ℕ
 behindOf Unlimited = 0
 behindOf (Within allowance behind) = behind
 
 -- what is left behind the bits spent and a SKIP code for each macroblock to come, so many in this plane; with no limit, more than any macroblock takes
 abbrev pub roomOf : BitLimit → ℕ → ℕ → ℕ → ℕ
-roomOf Unlimited spent skip left = 65536
+roomOf Unlimited spent skip left = ampleRoom
 roomOf (Within allowance behind) spent skip left = allowance - (spent + skip * (left + behind))
 
+-- a SKIP code is left for each macroblock to come, of which there are not too many to count
 abbrev pub Reserved : BitLimit → ℕ → ℕ → ℕ → Type 0
 Reserved Unlimited spent skip left = Unit
 Reserved (Within allowance behind) spent skip left = (spent + skip * (left + behind) ≤ allowance) × (left + behind ≤ 8589934592)

@@ -11,7 +11,7 @@ use borrow.Author.Tests.{leb-true, leb-false, le-leb, lt-leb}
 use Rattle.macroblock.specs.declared.svq1_enc_inter.Svq1MbMode.the-variants.{Skip}
 use Rattle.macroblock.specs.Macroblock.{Given, cols, rows, modeBits}
 use Rattle.macroblock.specs.Limit.{canSkipRest}
-use Rattle.macroblock_choice.specs.Chosen.{Allows}
+use Rattle.macroblock_choice.specs.Chosen.{ampleRoom, Allows}
 use Rattle.macroblock_enc.specs.declared.inner.limit.BitLimit.{BitLimit}
 use Rattle.macroblock_enc.specs.declared.inner.limit.BitLimit.the-variants.{Unlimited, Within}
 use Rattle.macroblock_enc.specs.Limits.{limitOf, roomOf, Reserved, Spends}
@@ -42,7 +42,7 @@ module _ (g : Given) (k spent : ℕ) (h : k < rows g * cols g) where
   reserved (Within a b) l s = (stays a b (s .skips-rest), omega (arith, s .few))
 
   pub allows : (limit : BitLimit) (room : ℕ) → Spends g limit k spent → room ≡ roomOf limit spent skip left → Allows (limitOf limit) g k spent room
-  allows Unlimited room s e bits l = rw e (le-leb bits 65536 l)
+  allows Unlimited room s e bits l = rw e (le-leb bits ampleRoom l)
   allows (Within a b) room s e bits l =
       let q : rows g * cols g - suc k ≡ left = omega arith in
       rw (e, q) (fits-reads a spent (skip * (left + b)) bits (stays a b (s .skips-rest)))

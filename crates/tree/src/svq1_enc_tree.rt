@@ -1,4 +1,8 @@
 // The tree's records.
+ghost use mathlib.Core.Path.{_≡_};
+ghost use lib.ListN.{replicate};
+ghost use Rattle.tree.specs.Blocks.{blockCount};
+ghost use Rattle.tree.specs.Nodes.{offBlock};
 use leaf::svq1_enc_leaf::LeafCode;
 
 // A block of the tree: one that the tree does not reach, a split, or a leaf.
@@ -12,4 +16,14 @@ pub enum TreeNode {
 pub struct Block {
     pub node: TreeNode,
     pub stages: [u8; 6],
+}
+
+// No tree: every block is off.
+pub fn no_blocks() -> [Block; 63]
+    ensures { λ r. ⌜ r ≡ replicate blockCount offBlock ⌝ }
+{
+    [Block {
+        node: TreeNode::Off,
+        stages: [0u8; 6],
+    }; 63]
 }

@@ -23,9 +23,9 @@ use macroblock::svq1_enc_inter::MbMotion;
 use macroblock::svq1_enc_inter::Svq1MbMode;
 use macroblock_bits::inner::mb_mode_bits;
 use macroblock_bits::inner::motion_bits;
-use macroblock_dec::inner::reading::no_blocks;
 use mv_cache::svq1_mv_cache::NearBlocks;
 use tree::svq1_enc_tree::Block;
+use tree::svq1_enc_tree::no_blocks;
 use vectors::svq1_motion_predictor::Svq1Mv;
 use vectors::svq1_motion_predictor::zero_vector;
 

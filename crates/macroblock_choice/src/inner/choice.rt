@@ -19,7 +19,7 @@ use macroblock_search::inner::motions::FoundMotion;
 use macroblock_search::inner::motions::four_motion;
 use macroblock_search::inner::motions::single_motion;
 use macroblock_search::inner::motions::still_found;
-use macroblock_search::inner::target::target_block;
+use macroblock_search::inner::target::block;
 use mv_cache::svq1_mv_cache::NearBlocks;
 
 // The best so far, or a motion that was found, if it has room and is better.
@@ -149,7 +149,7 @@ fn choose_over(
     requires { ⌜ Sourced (givenBy canvas (now reference) (now book) (now codebook)) (now raised) (now source) k × Around (nearFrom near) × (length (now target) ≡ 256) ⌝ }
     ensures { λ r. ⌜ ((l : Limit) → ChosenBy (givenBy canvas (now (reference .entry)) (now (book .entry)) (now (codebook .entry))) (taskIn (now (source .entry)) lambda radius four l) room k (nearFrom near) r) ⌝ }
 {
-    target_block(canvas, source, k, target);
+    block(canvas, source, k, target);
     choose_for(
         canvas,
         reference,

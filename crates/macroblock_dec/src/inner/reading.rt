@@ -10,6 +10,8 @@ ghost use Rattle.vectors.specs.Vectors.{zeroMv};
 ghost use Rattle.vectors.specs.VectorsLaws.{Inside};
 ghost use Rattle.mv_cache.specs.Cache.{nearFrom, Slices};
 ghost use Rattle.mv_cache.specs.Neighbours.{nearOf};
+ghost use Rattle.tree.specs.Blocks.{blockCount};
+ghost use Rattle.tree.specs.Nodes.{offBlock};
 ghost use Rattle.tree.specs.TreeBits.{readTree};
 ghost use Rattle.tree.specs.Walk.{Reads};
 ghost use Rattle.macroblock.specs.Mode.{modePosition};
@@ -33,7 +35,7 @@ use mv_cache::svq1_mv_cache::predict_one;
 use mv_cache::svq1_mv_cache::predict_second;
 use mv_cache::svq1_mv_cache::predict_third;
 use tree::svq1_enc_tree::Block;
-use tree::svq1_enc_tree::TreeNode;
+use tree::svq1_enc_tree::no_blocks;
 use tree::walk::ReadTree;
 use vectors::svq1_motion_predictor::Svq1Mv;
 use vectors::svq1_motion_predictor::zero_vector;
@@ -164,17 +166,9 @@ fn decode_mb_block_tree(s: &[u8], at: usize, half: Svq1Half, book: &[u8]) -> Rea
     tree::walk::read(s, at, half, book, 5)
 }
 
-// No tree.
-pub fn no_blocks() -> [Block; 63] {
-    [Block {
-        node: TreeNode::Off,
-        stages: [0u8; 6],
-    }; 63]
-}
-
 // SKIP, which has nothing behind its mode, or a refusal.
 fn skipped_at(refused: u8, at: usize) -> ReadChoice
-    ensures { λ r. ⌜ r ≡ record { refused = refused; next = at; skip = true; motion = MbMotion.None; vectors = replicate 4 zeroMv; blocks = r .blocks } ⌝ }
+    ensures { λ r. ⌜ r ≡ record { refused = refused; next = at; skip = true; motion = MbMotion.None; vectors = replicate 4 zeroMv; blocks = replicate blockCount offBlock } ⌝ }
 {
     let none = zero_vector();
     let blocks = no_blocks();

@@ -5,6 +5,7 @@ ghost use lib.ListN.{length, getD};
 ghost use Rattle.compensation.specs.Moved.{rowSet};
 ghost use Rattle.canvas.specs.Canvas.{largestSide, blocksAlong};
 ghost use Rattle.macroblock_search.specs.Target.{Sources, targetOf};
+use canvas::svq1_plane::MB_DIM;
 use canvas::svq1_plane::Svq1PlaneCanvas;
 
 // Macroblocks along a side.
@@ -12,7 +13,7 @@ pub fn blocks_along(n: usize) -> usize
     requires { ⌜ n ≤ largestSide ⌝ }
     ensures { λ r. ⌜ r ≡ blocksAlong n ⌝ }
 {
-    (n + 15) / 16
+    (n + (MB_DIM - 1)) / MB_DIM
 }
 
 fn lesser(a: usize, b: usize) -> usize
@@ -57,7 +58,7 @@ fn target_row(out: &mut [u8], source: &[u8], o: usize, p: usize, x: usize, last:
 }
 
 // Macroblock k of the source, its last column and row repeated to whole macroblocks.
-pub fn target_block(canvas: Svq1PlaneCanvas, source: &[u8], k: usize, out: &mut [u8])
+pub fn block(canvas: Svq1PlaneCanvas, source: &[u8], k: usize, out: &mut [u8])
     requires { ⌜ Sources (canvas .width) (canvas .height) (now source) k × (length (now out) ≡ 256) ⌝ }
     ensures { λ _. ⌜ now (out .exit) ≡ targetOf (canvas .width) (canvas .height) (now (source .entry)) k ⌝ }
 {

@@ -1,4 +1,4 @@
--- Zero vectors. Assumes nothing.
+-- Zero vectors and no tree. Assumes nothing.
 use borrow.Author.Needs.{needs}
 use Rattle.macroblock_dec.proofs.inner.reading.skipped_at.Statement.{statement}
 use Rattle.macroblock_dec.proofs.inner.reading.skipped_at.Tie as tie
@@ -10,7 +10,7 @@ no-blocks-requires : tie.Need-no-blocks-requires
 no-blocks-requires c κs = search needs
 
 returns : tie.Need-returns
-returns c = rw (c .before .zero-vector .ensures)
+returns c = rw (c .before .zero-vector .ensures, c .no-blocks .ensures)
 
 pub skipped-at-spec : {M : Type 1} → statement M
 skipped-at-spec = tie.close (tie.spec zero-vector-requires no-blocks-requires returns)

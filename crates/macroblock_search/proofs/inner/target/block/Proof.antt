@@ -5,8 +5,8 @@ use native.Mathlib.Omega.{arith}
 use Rattle.macroblock_search.specs.Target.{targetSample, Filled}
 use Rattle.macroblock_search.specs.TargetLaws.{wide, left-most, top-most, row-in, filled-none, filled-row, filled-all}
 use borrow.Author.Needs.{needs}
-use Rattle.macroblock_search.proofs.inner.target.target_block.Statement.{statement}
-use Rattle.macroblock_search.proofs.inner.target.target_block.Tie as tie
+use Rattle.macroblock_search.proofs.inner.target.block.Statement.{statement}
+use Rattle.macroblock_search.proofs.inner.target.block.Tie as tie
 
 abbrev Inv-loop : tie.InvT-loop
 Inv-loop canvas source k out₀ cols x y i₀ out i = (i ≤ 16) × Filled (targetSample (canvas .width) (canvas .height) source k) (16 * i) out
@@ -106,8 +106,8 @@ same-length c = c .before .loop .inv .1 .whole ∙ sym (c .before .before .befor
 returns : tie.Need-returns Inv-loop μ-loop
 returns c = filled-all _ _ _ _ (c .before .before .before .before .before .pre .0) _ _ (c .loop-test .left) (c .before .loop .inv .1)
 
-pub target-block-spec : {M : Type 1} → statement M
-target-block-spec =
+pub block-spec : {M : Type 1} → statement M
+block-spec =
     tie.close
     (tie.spec
     Inv-loop
