@@ -98,6 +98,7 @@ module _ (v : Svq1PlaneCanvas) (reference book codebook raised source : List ℕ
       passes = book-passes g raised (ready .ok);
       mode = h .stated .mode;
       codes = codes-it;
+      differs = h .stated .differs;
       bits = h .stated .bits ∙ ap length (sym (choice-of-book g n (choiceOf c)));
       few = omega (arith, h .stated .bits, good-it .short);
       start = ready .start;

@@ -26,7 +26,7 @@ use Rattle.macroblock.specs.Choice.{Task, weightOf, chosen}
 use Rattle.macroblock.specs.Slices.{Slices, near, laid}
 use Rattle.macroblock.specs.Inner.{givenBy, Accepted, Held, byBook}
 use Rattle.macroblock.specs.Laying.{ShowingIf, Laying}
-use Rattle.macroblock.specs.Motions.{motionOf}
+use Rattle.macroblock.specs.Motions.{motionOf, Differs}
 use Rattle.macroblock_choice.specs.Candidates.{skips, choiceOf}
 
 -- ---- bits
@@ -42,11 +42,12 @@ pub record CodedRoom (book : List ℕ) (n : Near) (m : Motion) (t : List Node) (
   pub sound : SoundTree (halfOf m) t
   pub room : Fits bytes at (length (motionBits (byBook book) n m ++ treeBits (tablesOf book (halfOf m)) t))
 
--- a candidate with room for its bits
+-- a candidate with room for its bits, whose one vector goes with its difference
 pub record PutReady (book : List ℕ) (n : Near) (c : MbCandidate) (bytes at : ℕ) : Type 0 where
   pub passes : bookRefusal book ≡ 0
   pub mode : c .mode ≡ modeOf (choiceOf c)
   pub codes : Codes n (choiceOf c)
+  pub differs : Differs n (c .motion)
   pub room : Fits bytes at (length (choiceBits (byBook book) n (choiceOf c)))
 
 -- ---- samples and vectors
@@ -68,6 +69,7 @@ pub record WriteReady (book : List ℕ) (n : Near) (c : MbCandidate) (bytes at :
   pub passes : bookRefusal book ≡ 0
   pub mode : c .mode ≡ modeOf (choiceOf c)
   pub codes : Codes n (choiceOf c)
+  pub differs : Differs n (c .motion)
   pub bits : c .bits ≡ length (choiceBits (byBook book) n (choiceOf c))
   pub few : c .bits ≤ 65536
   pub start : Fits bytes at 0

@@ -106,6 +106,7 @@ module _ (book : List ℕ) (n : Near) (c : MbCandidate) (out : List ℕ) (at : �
     passes = w .passes;
     mode = w .mode;
     codes = w .codes;
+    differs = w .differs;
     room = record { bytes-fit = w .start .bytes-fit; bits-fit = omega (arith, w .bits) };
   }
 

@@ -8,7 +8,7 @@ ghost use Rattle.mv_cache.specs.Cache.{nearFrom};
 ghost use Rattle.tree.specs.Nodes.{treeOf};
 ghost use Rattle.tree.specs.TreeBits.{treeBits};
 ghost use Rattle.macroblock.specs.Macroblock.{halfOf, motionBits, choiceBits};
-ghost use Rattle.macroblock.specs.Motions.{motionOf};
+ghost use Rattle.macroblock.specs.Motions.{motionOf, Differs};
 ghost use Rattle.macroblock.specs.Inner.{byBook, givenBy};
 ghost use Rattle.macroblock_choice.specs.Candidates.{skips, choiceOf};
 ghost use Rattle.macroblock_enc.specs.Written.{CodedRoom, PutReady, LayReady, LaysCandidate, WriteReady, CandidateWritten, CandidateLaid, MbReady, MbWritten};
@@ -53,7 +53,7 @@ fn put_coded(
     vectors: [Svq1Mv; 4],
     blocks: [Block; 63],
 ) -> usize
-    requires { ⌜ CodedRoom (now book) (nearFrom near) (motionOf motion vectors) (treeOf blocks) (length (now out)) at ⌝ }
+    requires { ⌜ CodedRoom (now book) (nearFrom near) (motionOf motion vectors) (treeOf blocks) (length (now out)) at × Differs (nearFrom near) motion ⌝ }
     ensures { λ r. ⌜ Wrote (now (out .entry)) at (motionBits (byBook (now (book .entry))) (nearFrom near) (motionOf motion vectors) ++ treeBits (tablesOf (now (book .entry)) (halfOf (motionOf motion vectors))) (treeOf blocks)) r (now (out .exit)) ⌝ }
 {
     let half = half_of(motion);

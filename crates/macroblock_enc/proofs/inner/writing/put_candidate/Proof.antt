@@ -34,7 +34,7 @@ put-coded-requires c κs =
     let a = s .args in
     let z = sym (c .before .before .before .before .is-skip .ensures) ∙ c .before .before .before .if1 .left in
     let w = c .before .before .before .before .before .before .before .put-mode in
-    coded-room (a .c) (a .book .now) (nearFrom (a .near)) (a .out .now) _ (a .at) _ _ (s .pre) z (w .ensures) (w .kept .0)
+    (coded-room (a .c) (a .book .now) (nearFrom (a .near)) (a .out .now) _ (a .at) _ _ (s .pre) z (w .ensures) (w .kept .0), s .pre .differs)
 
 same-length-2 : tie.Need-same-length-2
 same-length-2 c = search needs

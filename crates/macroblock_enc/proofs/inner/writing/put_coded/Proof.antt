@@ -16,14 +16,14 @@ put-motion-requires : tie.Need-put-motion-requires
 put-motion-requires c κs =
     let s = c .before .before .before .before in
     let a = s .args in
-    (s .pre .passes, s .pre .codable, motion-fits (a .book .now) (nearFrom (a .near)) (motionOf (a .motion) (a .vectors)) (treeOf (a .blocks)) _ _ (s .pre))
+    (s .pre .0 .passes, s .pre .0 .codable, s .pre .1, motion-fits (a .book .now) (nearFrom (a .near)) (motionOf (a .motion) (a .vectors)) (treeOf (a .blocks)) _ _ (s .pre .0))
 
 emit-requires : tie.Need-emit-requires
 emit-requires c κs =
     let s = c .before .before .before .before .before .before .before .before in
     let a = s .args in
     let w = c .before .before .before .put-motion in
-    tree-room (a .book .now) (nearFrom (a .near)) (motionOf (a .motion) (a .vectors)) (treeOf (a .blocks)) _ (a .out .now) _ (a .at) _ _ (s .pre) (c .before .before .before .before .before .half-of .ensures (a .vectors)) (w .ensures) (w .kept .0)
+    tree-room (a .book .now) (nearFrom (a .near)) (motionOf (a .motion) (a .vectors)) (treeOf (a .blocks)) _ (a .out .now) _ (a .at) _ _ (s .pre .0) (c .before .before .before .before .before .half-of .ensures (a .vectors)) (w .ensures) (w .kept .0)
 
 same-length : tie.Need-same-length
 same-length c = search needs
@@ -33,7 +33,7 @@ returns c =
     let s = c .before .before .before .before .before .before .before .before .before .before .before in
     let a = s .args in
     let e = c .before .before .before .before .before .before .before .before .half-of .ensures (a .vectors) in
-    let room = s .pre .room .bits-fit in
+    let room = s .pre .0 .room .bits-fit in
     wrote-more (omega arith) (c .before .before .before .before .before .before .put-motion .ensures) (rw e at (c .before .before .emit .ensures))
 
 pub put-coded-spec : {M : Type 1} → statement M

@@ -3,7 +3,7 @@ use Prim.Native.Nat.{_+_, _*_, _≤_, _<_}
 use native.Mathlib.Omega.{arith}
 use lib.ListN.{length}
 use Rattle.mv_cache.specs.Cache.{nearFrom}
-use Rattle.macroblock_enc.specs.WrittenLaws.{wrote-candidate, wrote-nothing, laid-candidate, laid-nothing}
+use Rattle.macroblock_enc.specs.WrittenLaws.{put-ready, wrote-candidate, wrote-nothing, laid-candidate, laid-nothing}
 use borrow.Author.Needs.{needs}
 use Rattle.macroblock_enc.proofs.inner.writing.write_chosen.Statement.{statement}
 use Rattle.macroblock_enc.proofs.inner.writing.write_chosen.Tie as tie
@@ -18,7 +18,10 @@ mul-if1 : tie.Need-mul-if1
 mul-if1 c = search needs
 
 put-candidate-requires : tie.Need-put-candidate-requires
-put-candidate-requires c κs = search needs
+put-candidate-requires c κs =
+    let s = c .before .before .before .before .before .before .before .before .before in
+    let a = s .args in
+    put-ready (a .book .now) (nearFrom (a .near)) (a .c) (a .out .now) (a .at) (s .pre .0) (omega (arith, c .before .if1 .taken))
 
 lay-candidate-requires : tie.Need-lay-candidate-requires
 lay-candidate-requires c κs = search needs
