@@ -2,17 +2,12 @@
 ghost use Prim.Native.Nat.{_≤_};
 use super::line::print_line;
 use super::line::put_number;
+use super::line::put_short;
 use super::line::put_signed;
 use super::sums::residual_sum;
 use leaf::svq1_enc_leaf::LeafCode;
 use leaf_call::svq1_enc_leaf::search_leaf;
 use text::put_text;
-
-fn put_coded(line: &mut [u8], at: usize, mean: i16) -> usize {
-    let z = mean as i32;
-    let number = put_text(line, at, b"mean ");
-    put_signed(line, number, z)
-}
 
 // What the search answered: a refusal, skip, or the mean.
 fn put_mean(line: &mut [u8], at: usize, refused: u8, code: LeafCode) -> usize {
@@ -21,7 +16,7 @@ fn put_mean(line: &mut [u8], at: usize, refused: u8, code: LeafCode) -> usize {
     }
     match code {
         LeafCode::Skip => put_text(line, at, b"skip"),
-        LeafCode::Coded { mean, count: _ } => put_coded(line, at, mean),
+        LeafCode::Coded { mean, count: _ } => put_short(line, at, b"mean ", mean),
     }
 }
 

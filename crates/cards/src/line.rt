@@ -33,6 +33,13 @@ pub fn put_signed(line: &mut [u8], at: usize, z: i32) -> usize {
     put_decimal(line, at, size_of(z))
 }
 
+// A text and a signed number of 16 bits behind it.
+pub fn put_short(line: &mut [u8], at: usize, before: &[u8], n: i16) -> usize {
+    let z = n as i32;
+    let number = put_text(line, at, before);
+    put_signed(line, number, z)
+}
+
 // A text and a vector behind it, as (x,y).
 pub fn put_vector(line: &mut [u8], at: usize, before: &[u8], v: Svq1Mv) -> usize {
     let open = put_text(line, at, before);
@@ -88,9 +95,11 @@ pub fn print_line(line: &mut [u8], n: usize) -> usize
     }
 }
 
-// The last line: how many cards were printed.
-pub fn print_counts(line: &mut [u8], cards: usize, back: usize) {
-    let end = put_number(line, 0, b"cards ", cards as u64);
-    let all = put_number(line, end, b", read back ", back as u64);
+// The last line: how many cards and other lines were printed.
+pub fn print_counts(line: &mut [u8], cards: usize, back: usize, levels: usize, sums: usize) {
+    let a = put_number(line, 0, b"cards ", cards as u64);
+    let b = put_number(line, a, b", read back ", back as u64);
+    let c = put_number(line, b, b", levels ", levels as u64);
+    let all = put_number(line, c, b", sums ", sums as u64);
     print_line(line, all);
 }

@@ -1,5 +1,6 @@
 // Runs the bench cards of document 01 on the library's calls and prints a line for each: what was asked, a colon, what came out.
 mod leaf_cards;
+mod levels;
 mod line;
 mod mode;
 mod plane_text;
@@ -30,12 +31,14 @@ fn print_parts(line: &mut [u8], book: &[u8], codebook: &[u8]) -> usize
     means + predictors + searches + sample_cards::print_samples(line)
 }
 
-// All cards. Reading the first one back is no card, and is counted by itself.
+// All cards. Reading the first one back, the levels and the sums are no cards, and are counted by themselves.
 fn print_cards(line: &mut [u8], book: &[u8], codebook: &[u8]) {
     let planes = print_planes(line, book, codebook);
     let back = small_planes::print_read_back(line, book, codebook);
     let parts = print_parts(line, book, codebook);
-    line::print_counts(line, planes + parts, back);
+    let levels = levels::print_levels(line);
+    let sums = levels::print_sums(line);
+    line::print_counts(line, planes + parts, back, levels, sums);
 }
 
 fn main() {

@@ -1,7 +1,7 @@
 // Book files and the built-in tables.
-ghost use Rattle.book.specs.Book.{bookBytes, codebookBytes};
-ghost use Rattle.house.specs.Fill.{Filled};
-ghost use Rattle.house.specs.House.{houseBook, houseCodebook};
+ghost use Rattle.book.specs.Book.{codebookBytes};
+ghost use Rattle.house.specs.Fill.{Filled, BookFilled};
+ghost use Rattle.house.specs.House.{houseCodebook};
 ghost use Rattle.book_file.specs.Scan.{BookFileRead};
 use book_file::read_book_file;
 use house::fill_house_book;
@@ -18,7 +18,7 @@ pub extern "C" fn cabunlis_read_book_file(file: &[u8], book: &mut [u8]) -> u32
 // Fills a lent book with the built-in one; 0, or 5 where it has another size.
 #[no_mangle]
 pub extern "C" fn cabunlis_house_book(book: &mut [u8]) -> u32
-    ensures { λ r. ⌜ Filled bookBytes houseBook (now (book .entry)) r (now (book .exit)) ⌝ }
+    ensures { λ r. ⌜ BookFilled (now (book .entry)) r (now (book .exit)) ⌝ }
 {
     fill_house_book(book) as u32
 }

@@ -3,14 +3,11 @@ use native.Mathlib.Omega.{arith}
 use mir.Syntax.{w16}
 use mir.ValLaws.{toZ-ofZ}
 use borrow.Author.Needs.{needs}
-use Rattle.cards.proofs.leaf_cards.put_coded.Statement.{statement}
-use Rattle.cards.proofs.leaf_cards.put_coded.Tie as tie
+use Rattle.cards.proofs.line.put_short.Statement.{statement}
+use Rattle.cards.proofs.line.put_short.Tie as tie
 
 cast-z : tie.Need-cast-z
-cast-z c = rw (toZ-ofZ w16 (c .before .args .mean) (c .before .fits .mean)) (record { sfits = omega (arith, c .before .fits .mean .sfits) })
-
-slice-aggregate-put-text : tie.Need-slice-aggregate-put-text
-slice-aggregate-put-text c = search needs
+cast-z c = rw (toZ-ofZ w16 (c .before .before .args .n) (c .before .before .fits .n)) (record { sfits = omega (arith, c .before .before .fits .n .sfits) })
 
 put-text-requires : tie.Need-put-text-requires
 put-text-requires c κs = search needs
@@ -24,12 +21,11 @@ same-length c = search needs
 returns : tie.Need-returns
 returns c = search needs
 
-pub put-coded-spec : {M : Type 1} → statement M
-put-coded-spec =
+pub put-short-spec : {M : Type 1} → statement M
+put-short-spec =
     tie.close
     (tie.spec
     cast-z
-    slice-aggregate-put-text
     put-text-requires
     put-signed-requires
     same-length
