@@ -1,14 +1,5 @@
 // Runs the bench cards of document 01 on the library's calls and prints a line for each: what was asked, a colon, what came out.
-mod leaf_cards;
-mod levels;
-mod line;
-mod mode;
-mod plane_text;
-mod sample_cards;
-mod small_planes;
-mod sums;
-mod vector_cards;
-mod wide_planes;
+mod inner;
 
 ghost use Prim.Native.Nat.{_≤_};
 use house::fill_house_book;
@@ -18,27 +9,27 @@ use house::fill_house_codebook;
 fn print_planes(line: &mut [u8], book: &[u8], codebook: &[u8]) -> usize
     ensures { λ r. ⌜ r ≤ 6 ⌝ }
 {
-    let small = small_planes::print_planes(line, book, codebook);
-    small + wide_planes::print_planes(line, book, codebook)
+    let small = inner::small_planes::print_planes(line, book, codebook);
+    small + inner::wide_planes::print_planes(line, book, codebook)
 }
 
 fn print_parts(line: &mut [u8], book: &[u8], codebook: &[u8]) -> usize
     ensures { λ r. ⌜ r ≤ 12 ⌝ }
 {
-    let means = leaf_cards::print_means(line, book, codebook);
-    let predictors = vector_cards::print_predictors(line);
-    let searches = vector_cards::print_searches(line);
-    means + predictors + searches + sample_cards::print_samples(line)
+    let means = inner::leaf_cards::print_means(line, book, codebook);
+    let predictors = inner::vector_cards::print_predictors(line);
+    let searches = inner::vector_cards::print_searches(line);
+    means + predictors + searches + inner::sample_cards::print_samples(line)
 }
 
 // All cards. Reading the first one back, the levels and the sums are no cards, and are counted by themselves.
 fn print_cards(line: &mut [u8], book: &[u8], codebook: &[u8]) {
     let planes = print_planes(line, book, codebook);
-    let back = small_planes::print_read_back(line, book, codebook);
+    let back = inner::small_planes::print_read_back(line, book, codebook);
     let parts = print_parts(line, book, codebook);
-    let levels = levels::print_levels(line);
-    let sums = levels::print_sums(line);
-    line::print_counts(line, planes + parts, back, levels, sums);
+    let levels = inner::levels::print_levels(line);
+    let sums = inner::levels::print_sums(line);
+    inner::line::print_counts(line, planes + parts, back, levels, sums);
 }
 
 fn main() {
