@@ -1,11 +1,11 @@
 -- What reading finds at a bit: a refusal's number, or a value and the bit behind it (document 01, "Reading", refusals 10, 11, 24).
 use mathlib.Core.Path.{_≡_}
-use mathlib.Core.Bool.{false}
+use mathlib.Core.Bool.{true, false}
 use mathlib.Core.List.{List, [], _∷_}
 use mathlib.Core.Option.{Option, none, some}
 use Prim.Native.Nat.{ℕ, zero, suc, _*_, _/_, _≤_, _<_}
 use lib.Dec.{eqb}
-use lib.ListN.{length, drop, getD}
+use lib.ListN.{length, drop, getD, replicate}
 use Rattle.bits.specs.Basics.{pick, All}
 use Rattle.bits.specs.Bits.{bitsOf}
 use Rattle.code_tables.specs.Codes.{codesOf, Got, got, bad, then, takeCode}
@@ -16,7 +16,8 @@ use Rattle.vectors.specs.Vectors.{zeroMv}
 use Rattle.vectors.specs.VectorsLaws.{Inside}
 use Rattle.mv_cache.specs.Neighbours.{Near, forOne, forFirst, forSecond, forThird, forFourth}
 use Rattle.tree.specs.declared.walk.ReadTree.{ReadTree}
-use Rattle.tree.specs.Nodes.{treeOf}
+use Rattle.tree.specs.Blocks.{blockCount}
+use Rattle.tree.specs.Nodes.{treeOf, offBlock}
 use Rattle.tree.specs.TreeBits.{Node}
 use Rattle.tree.specs.Walk.{SoundTree}
 use Rattle.macroblock_dec.specs.declared.inner.codes.ReadPosition.{ReadPosition}
@@ -97,6 +98,10 @@ readMotionOf r = motionOf (r .motion) (r .vectors)
 
 abbrev pub choiceOf : ReadChoice → Choice
 choiceOf r = choiceBy (r .skip) (readMotionOf r) (treeOf (r .blocks))
+
+-- SKIP, which has nothing behind its mode, or a refusal: no motion and no tree
+abbrev pub skippedAt : ℕ → ℕ → ReadChoice
+skippedAt refused at = record { refused = refused; next = at; skip = true; motion = None; vectors = replicate 4 zeroMv; blocks = replicate blockCount offBlock }
 
 -- what it is, the vectors that it leaves, its difference, and that its tree can be shown
 pub record ChoiceFound (s : List ℕ) (g : Got Choice) (d : Got Svq1Mv) (r : ReadChoice) : Type 0 where

@@ -1,11 +1,11 @@
 -- Laws of a macroblock that is read: its mode, its motion and its tree, the first refusal met, and what it leaves in the result slices.
 -- Assumes nothing.
 use mathlib.Core.Path.{_≡_, refl, _∙_}
-use mathlib.Core.Bool.{true, false, true≢false}
+use mathlib.Core.Bool.{false, true≢false}
 use mathlib.Core.List.{List, []}
 use Prim.Native.Nat.{ℕ, zero, suc, _*_, _≤_, _<_}
 use native.Mathlib.Omega.{arith}
-use lib.ListN.{length, drop, replicate}
+use lib.ListN.{length, drop}
 use borrow.Author.Tests.{eq-eqb}
 use Rattle.bits.specs.Bits.{bitsOf}
 use Rattle.code_tables.specs.Codes.{codesOf, Got, got, bad, then, takeCode}
@@ -18,13 +18,12 @@ use Rattle.tree.specs.declared.svq1_enc_tree.Block.{Block}
 use Rattle.tree.specs.declared.walk.ReadTree.{ReadTree}
 use Rattle.tree.specs.Nodes.{treeOf}
 use Rattle.tree.specs.TreeBits.{Node, readTree}
-use Rattle.macroblock.specs.declared.svq1_enc_inter.MbMotion.the-variants.{None}
 use Rattle.macroblock_dec.specs.declared.inner.reading.ReadMotion.{ReadMotion}
 use Rattle.macroblock_dec.specs.declared.inner.reading.ReadChoice.{ReadChoice}
 use Rattle.macroblock.specs.Macroblock.{Given, Motion, still, single, four, Choice, skipped, coded, halfOf, vectorsOf, modeCodes}
 use Rattle.macroblock.specs.Motions.{motionOf}
 use Rattle.macroblock.specs.Reading.{readDifference, readVector, readCoded, readBehind, readMacroblock}
-use Rattle.macroblock_dec.specs.Finding.{Found, readFour, readMotion, MotionFound, TreeFound, choiceOf, differenceHere, modeDifference, ChoiceFound}
+use Rattle.macroblock_dec.specs.Finding.{Found, readFour, readMotion, MotionFound, TreeFound, choiceOf, differenceHere, modeDifference, skippedAt, ChoiceFound}
 use Rattle.macroblock.specs.Inner.{byBook}
 use Rattle.macroblock_dec.specs.FindingLaws.{found-refused, found-then, found-made, zeros-inside}
 
@@ -53,10 +52,6 @@ of-motion : (m : Motion) (t u : List Node) → vectorsOf (coded m t) ≡ vectors
 of-motion still t u = refl
 of-motion (single v) t u = refl
 of-motion (four a b c d) t u = refl
-
--- SKIP as the code answers it, or a refusal
-abbrev skippedAt : ℕ → ℕ → List Block → ReadChoice
-skippedAt refused at bs = record { refused = refused; next = at; skip = true; motion = None; vectors = replicate 4 zeroMv; blocks = bs }
 
 -- ---- behind a mode
 module _ (s book : List ℕ) (n : Near) (at k : ℕ) where
@@ -105,7 +100,7 @@ module _ (s book : List ℕ) (n : Near) (at k : ℕ) where
   behind-skip (suc (suc zero)) bits l = absurd (omega arith)
   behind-skip (suc (suc (suc k))) bits l = refl
 
-  pub skip-found : (r : ReadChoice) → 3 ≤ k → at ≤ 8 * length s → r ≡ skippedAt 0 at (r .blocks) → ChoiceFound s behindAt (differenceHere s book at) r
+  pub skip-found : (r : ReadChoice) → 3 ≤ k → at ≤ 8 * length s → r ≡ skippedAt 0 at → ChoiceFound s behindAt (differenceHere s book at) r
   skip-found r l h z = rw z (record {
     found = record { is = behind-skip k (drop at (bitsOf s)) l; within = h };
     vectors-are = refl;
@@ -119,7 +114,7 @@ module _ (s book : List ℕ) (n : Near) (at m k next : ℕ) (f : Found s (takeCo
   abbrev macroblockAt : Got Choice
   macroblockAt = readMacroblock (byBook book) n (drop at (bitsOf s))
 
-  pub mode-refused : (r : ReadChoice) → (m ≡ 0 → ⊥) → at ≤ 8 * length s → r ≡ skippedAt m at (r .blocks) → ChoiceFound s macroblockAt (modeDifference s book at) r
+  pub mode-refused : (r : ReadChoice) → (m ≡ 0 → ⊥) → at ≤ 8 * length s → r ≡ skippedAt m at → ChoiceFound s macroblockAt (modeDifference s book at) r
   unfolding readMacroblock
   mode-refused r e h z = rw z (record {
     found = found-refused s _ _ m k next f skipped at e h;

@@ -10,15 +10,13 @@ ghost use Rattle.vectors.specs.Vectors.{zeroMv};
 ghost use Rattle.vectors.specs.VectorsLaws.{Inside};
 ghost use Rattle.mv_cache.specs.Cache.{nearFrom, Slices};
 ghost use Rattle.mv_cache.specs.Neighbours.{nearOf};
-ghost use Rattle.tree.specs.Blocks.{blockCount};
-ghost use Rattle.tree.specs.Nodes.{offBlock};
 ghost use Rattle.tree.specs.TreeBits.{readTree};
 ghost use Rattle.tree.specs.Walk.{Reads};
 ghost use Rattle.macroblock.specs.Mode.{modePosition};
 ghost use Rattle.macroblock_dec.specs.MacroblockRead.{Ready, MbRead};
 ghost use Rattle.macroblock.specs.Inner.{givenBy, byBook};
 ghost use Rattle.macroblock.specs.Reading.{readBehind, readMacroblock};
-ghost use Rattle.macroblock_dec.specs.Finding.{Found, MotionFound, TreeFound, ChoiceFound, readFour, readMotion, differenceHere, modeDifference};
+ghost use Rattle.macroblock_dec.specs.Finding.{Found, MotionFound, TreeFound, ChoiceFound, skippedAt, readFour, readMotion, differenceHere, modeDifference};
 use super::super::inner::codes::read_mb_mode;
 use super::super::inner::codes::read_vector;
 use book::svq1_vlc::Svq1Half;
@@ -168,7 +166,7 @@ fn decode_mb_block_tree(s: &[u8], at: usize, half: Svq1Half, book: &[u8]) -> Rea
 
 // SKIP, which has nothing behind its mode, or a refusal.
 fn skipped_at(refused: u8, at: usize) -> ReadChoice
-    ensures { λ r. ⌜ r ≡ record { refused = refused; next = at; skip = true; motion = MbMotion.None; vectors = replicate 4 zeroMv; blocks = replicate blockCount offBlock } ⌝ }
+    ensures { λ r. ⌜ r ≡ skippedAt refused at ⌝ }
 {
     let none = zero_vector();
     let blocks = no_blocks();
