@@ -1,8 +1,8 @@
 /*
  * Cabunlis: SVQ1 inter planes, written and read back.
  *
- * Link: rt staticlib host, then
- *     cc program.c -Iinclude target/staticlib/libhost.a
+ * Link: rt staticlib cabunlis, then
+ *     cc program.c -Iinclude target/staticlib/libcabunlis.a
  * The library is for x86-64 (ELF) and calls memcpy, memmove and memset, nothing else. C99 and later, C++98 and later.
  *
  * What every function here has in common

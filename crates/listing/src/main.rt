@@ -1,7 +1,7 @@
 // Prints the listing of the plane that the five files of the current folder give.
 ghost use Rattle.io.specs.Counts.{Counts};
-use jobs::listing::listing;
 use libc::STDOUT_FILENO;
+use listing_text::listing::listing;
 
 // The first bytes of a file, as many as there is room for. One that cannot be opened reads as empty.
 fn read_file(path: &[u8], bytes: &mut [u8]) -> usize

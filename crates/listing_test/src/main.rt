@@ -2,8 +2,8 @@
 // the first bench card.
 ghost use Prim.Native.Nat.{_+_, _≤_, _<_};
 ghost use lib.ListN.{length};
-use jobs::listing::listing;
 use libc::STDOUT_FILENO;
+use listing_text::listing::listing;
 
 // The bytes of s from a to e; none where there are not so many.
 fn part(s: &[u8], a: usize, e: usize) -> &[u8] {

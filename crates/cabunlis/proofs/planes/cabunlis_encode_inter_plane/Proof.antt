@@ -1,0 +1,44 @@
+-- The writer's contract, its answer as the struct. Assumes nothing.
+use Rattle.cabunlis.specs.HostLaws.{host-written}
+use borrow.Author.Needs.{needs}
+use Rattle.cabunlis.proofs.planes.cabunlis_encode_inter_plane.Statement.{statement}
+use Rattle.cabunlis.proofs.planes.cabunlis_encode_inter_plane.Tie as tie
+
+tries-four-requires : tie.Need-tries-four-requires
+tries-four-requires c κs = search needs
+
+encode-inter-plane-requires : tie.Need-encode-inter-plane-requires
+encode-inter-plane-requires c κs = search needs
+
+answer-requires : tie.Need-answer-requires
+answer-requires c κs = search needs
+
+same-length : tie.Need-same-length
+same-length c = search needs
+
+same-length-2 : tie.Need-same-length-2
+same-length-2 c = search needs
+
+same-length-3 : tie.Need-same-length-3
+same-length-3 c = search needs
+
+same-length-4 : tie.Need-same-length-4
+same-length-4 c = search needs
+
+returns : tie.Need-returns
+returns c =
+    let e = c .before .before .before .before .before .before .before .before .before in
+    host-written _ _ _ _ _ _ _ _ _ _ _ (rw (e .before .before .before .before .before .tries-four .ensures) at (e .encode-inter-plane .ensures)) (c .answer .ensures)
+
+pub cabunlis-encode-inter-plane-spec : {M : Type 1} → statement M
+cabunlis-encode-inter-plane-spec =
+    tie.close
+    (tie.spec
+    tries-four-requires
+    encode-inter-plane-requires
+    answer-requires
+    same-length
+    same-length-2
+    same-length-3
+    same-length-4
+    returns)

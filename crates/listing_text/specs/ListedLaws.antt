@@ -1,0 +1,227 @@
+-- Laws of the listing of a plane: its lines are those of its macroblocks. Assumes nothing.
+use Prim.Native.Nat.{ℕ, zero, suc, _+_, _*_, _/_, _≤_, _<_, min}
+use mathlib.Core.Path.{_≡_, refl, ap, _∙_}
+use mathlib.Core.Bool.{Bool, true, false}
+use mathlib.Core.List.{List, _∷_, _++_, append-assoc}
+use native.Mathlib.Nat.{le-refl}
+use native.Mathlib.Omega.{arith}
+use native.Mathlib.Decide.{decLt}
+use lib.Dec.{eqb}
+use lib.ListN.{length, take, drop, replicate, getD, length-replicate, length-append, List·getD-append}
+use lib.Seq.{getD-append-add}
+use borrow.Author.Tests.{eq-eqb, ne-eqb, eqb-true}
+use Rattle.bits.specs.Basics.{pick, orElse}
+use Rattle.bits.specs.BasicsLaws.{or-next, or-none}
+use Rattle.bits.specs.Bits.{bitsOf}
+use Rattle.bits.specs.Calls.{startRefusal}
+use Rattle.book.specs.Book.{dataRefusal}
+use Rattle.canvas.specs.Canvas.{sizeRefusal, canvasRefusal}
+use Rattle.canvas.specs.CanvasLaws.{plane-passes}
+use Rattle.macroblock.specs.declared.svq1_enc_inter.Svq1MbMode.{Svq1MbMode}
+use Rattle.macroblock.specs.declared.svq1_enc_inter.Svq1MbMode.the-variants.{Inter, Inter4Mv, Intra, Skip}
+use Rattle.macroblock.specs.Mode.{modePosition}
+use Rattle.macroblock.specs.Macroblock.{Given, cols, rows}
+use Rattle.macroblock.specs.Choice.{Task}
+use Rattle.macroblock.specs.Slices.{Slices}
+use Rattle.plane_enc.specs.declared.svq1_enc_inter.WriteEnd.{WriteEnd}
+use Rattle.plane.specs.Run.{End, after}
+use Rattle.plane.specs.RunLaws.{Stands, run-stands}
+use Rattle.plane.specs.Plane.{count, Writing, stepStated, fits, written, toWrite, writePlane, writingAt}
+use Rattle.plane.specs.Calls.{PlaneAnswer, PlaneWritten, sourceRefusal, slicesRefusal, writtenAnswer, writeRefusal, writeAnswer}
+use Rattle.plane_enc.specs.Writer.{endOf}
+use Rattle.plane_enc.specs.Stated.{threeOf, statedTo, statedIn, PlaneStated}
+use Rattle.listing_job.specs.Job.{mostWidth, mostHeight}
+use Rattle.listing_text.specs.Listing.{outputBytes, modeName, noSlices, macroblockLine, linesTo, totalLine, refusedText, textInto, planeText}
+use Rattle.listing_text.specs.Lines.{Put, nameAt, lineText, lineAt, linesFrom}
+use Rattle.listing_text.specs.LinesLaws.{put-two}
+use Rattle.listing_text.specs.Listed.{listingRoom, mostBlocks, Listable, Fresh, Ended, endText}
+use Rattle.listing_text.specs.FilesLaws.{count-small, area-small}
+
+-- ---- what is stated of the macroblocks gives their lines
+-- a mode's position stands for its name
+name-is : (m : Svq1MbMode) → nameAt (modePosition m) ≡ modeName m
+name-is Inter = refl
+name-is Inter4Mv = refl
+name-is Intra = refl
+name-is Skip = refl
+
+module _ (g : Given) (t : Task) (out : List ℕ) (start : ℕ) (s : Slices) where
+  abbrev three : ℕ → List ℕ
+  three k = threeOf (stepStated g t k (writingAt g t out start s k))
+
+  stated-long : (n : ℕ) → length (statedTo g t out start s n) ≡ 3 * n
+  unfolding statedTo
+  stated-long zero = refl
+  stated-long (suc n) = rw (length-append, stated-long n) (omega arith)
+
+  -- the numbers of macroblock k among those of the first n
+  stated-at : (n k i : ℕ) (rest : List ℕ) → k < n → i < 3 → getD (statedTo g t out start s n ++ rest) (3 * k + i) 0 ≡ getD (three k) i 0
+  unfolding statedTo
+  stated-at zero k i rest h l = absurd (omega arith)
+  stated-at (suc n) k i rest h l = rw append-assoc (go (decLt k n) (λ q. stated-at n k i (three n ++ rest) q l))
+    where
+      go : Dec (k < n) → (k < n → getD (statedTo g t out start s n ++ (three n ++ rest)) (3 * k + i) 0 ≡ getD (three k) i 0)
+          → getD (statedTo g t out start s n ++ (three n ++ rest)) (3 * k + i) 0 ≡ getD (three k) i 0
+      go (yes q) next = next q
+      go (no q) next =
+          let e : n ≡ k = omega arith in
+          let place : 3 * k + i ≡ length (statedTo g t out start s n) + i = omega (arith, stated-long n) in
+          rw (place, getD-append-add) (List·getD-append (three n) rest 0 i l ∙ ap (λ (m : ℕ). getD (three m) i 0) e)
+
+  -- in a list with room for n macroblocks
+  stated-in : (held : List ℕ) (n : ℕ) → 3 * n ≤ length held → statedIn g t out start s held n ≡ statedTo g t out start s n ++ drop (3 * n) held
+  unfolding statedIn
+  stated-in held n h =
+      let m : min n (length held / 3) ≡ n = omega arith in
+      rw m
+
+-- the lines of a plane from what is stated of it
+module _ (g : Given) (t : Task) (out held : List ℕ) where
+  stated-line : (n k : ℕ) → 3 * n ≤ length held → k < n → lineAt (cols g) (statedIn g t out 0 (noSlices g) held n) k ≡ macroblockLine g t out k
+  unfolding macroblockLine lineText
+  stated-line n k h l =
+      let m = stepStated g t k (writingAt g t out 0 (noSlices g) k) in
+      let z : 3 * k ≡ 3 * k + 0 = omega arith in
+      let rest : List ℕ = drop (3 * n) held in
+      let mode : getD (statedTo g t out 0 (noSlices g) n ++ rest) (3 * k) 0 ≡ modePosition (m .mode) = rw z (stated-at g t out 0 (noSlices g) n k 0 rest l (omega arith)) in
+      let bits : getD (statedTo g t out 0 (noSlices g) n ++ rest) (3 * k + 1) 0 ≡ m .bits = stated-at g t out 0 (noSlices g) n k 1 rest l (omega arith) in
+      let error : getD (statedTo g t out 0 (noSlices g) n ++ rest) (3 * k + 2) 0 ≡ m .error = stated-at g t out 0 (noSlices g) n k 2 rest l (omega arith) in
+      rw (stated-in g t out 0 (noSlices g) held n h, mode, bits, error, name-is (m .mode))
+
+  stated-lines : (n k : ℕ) → 3 * n ≤ length held → k ≤ n → linesFrom (cols g) (statedIn g t out 0 (noSlices g) held n) k ≡ linesTo g t out k
+  unfolding linesFrom linesTo
+  stated-lines n zero h l = refl
+  stated-lines n (suc k) h l = rw (stated-lines n k h (omega arith), stated-line n k h l)
+
+-- ---- a plane's end gives its text
+module _ (g : Given) (t : Task) (out : List ℕ) (passes : writeRefusal g t out 0 (noSlices g) ≡ 0) where
+  abbrev end : End Writing
+  end = writePlane g t (bitsOf out) 0 (noSlices g)
+
+  stands : Stands 22 (fits g t) (written g t) (toWrite (bitsOf out) 0 (noSlices g)) (0 + count g) end
+  unfolding writePlane after
+  stands = run-stands 22 (fits g t) (written g t) (toWrite (bitsOf out) 0 (noSlices g)) (count g) 0
+
+  module _ (r : WriteEnd) (out' recon' vx' vy' : List ℕ) (p : PlaneWritten g t out 0 (noSlices g) (endOf r) out' recon' vx' vy') where
+    answered : endOf r ≡ writtenAnswer end
+    unfolding writeAnswer
+    answered = p .answer ∙ rw (eq-eqb (writeRefusal g t out 0 (noSlices g)) 0 passes)
+
+    ended-refused : r .refused ≡ end .refusal
+    ended-refused = ap (λ (a : PlaneAnswer). a .refusal) answered
+
+    ended-done : r .done ≡ end .done
+    ended-done = ap (λ (a : PlaneAnswer). a .done) answered
+
+    done-most : r .done ≤ count g
+    done-most = omega (arith, ended-done, stands .at-most)
+
+    -- not refused, it is whole
+    done-all : r .refused ≡ 0 → r .done ≡ count g
+    done-all z = go (decLt (end .done) (0 + count g))
+      where
+        go : Dec (end .done < 0 + count g) → r .done ≡ count g
+        go (yes q) = absurd (omega (arith, stands .early q .0, ended-refused))
+        go (no q) = omega (arith, ended-done, stands .at-most)
+
+    module _ (held : List ℕ) (room : 3 * count g ≤ length held) where
+      pub end-text : endText (cols g) (statedIn g t (bitsOf out) 0 (noSlices g) held (r .done)) r ≡ textInto g t (bitsOf out)
+      unfolding endText textInto
+      end-text = rw (← ended-refused) (go (eqb (r .refused) 0) refl)
+        where
+          go : (b : Bool) → eqb (r .refused) 0 ≡ b
+              → pick b (linesFrom (cols g) (statedIn g t (bitsOf out) 0 (noSlices g) held (r .done)) (r .done) ++ totalLine (r .bits) (r .error)) (refusedText (r .refused))
+              ≡ pick b (linesTo g t (bitsOf out) (count g) ++ totalLine (end .state .bits) (end .state .error)) (refusedText (r .refused))
+          go true q =
+              let all = done-all (eqb-true (r .refused) 0 q) in
+              rw (all, stated-lines g t (bitsOf out) held (count g) (count g) room (le-refl (count g)), ← ap (λ (a : PlaneAnswer). a .bits) answered, ← ap (λ (a : PlaneAnswer). a .error) answered)
+          go false q = refl
+
+-- ---- the text put into a slice
+module _ (cols : ℕ) (stated : List ℕ) (e : WriteEnd) (bytes : List ℕ) (room : listingRoom ≤ length bytes) (r : ℕ) (after : List ℕ) where
+  pub put-refused-end : (e .refused ≡ 0 → ⊥) → Put 29 bytes 0 (refusedText (e .refused)) r after → Put listingRoom bytes 0 (endText cols stated e) r after
+  unfolding endText
+  put-refused-end h p = rw (ne-eqb (e .refused) 0 h) (record { next = p .next; short = omega (arith, p .short); bytes-after = p .bytes-after })
+
+  pub put-listed-end : (at : ℕ) (mid : List ℕ) → e .refused ≡ 0 → e .done ≤ mostBlocks → Put (94 * e .done) bytes 0 (linesFrom cols stated (e .done)) at mid
+      → Put 48 mid at (totalLine (e .bits) (e .error)) r after → Put listingRoom bytes 0 (endText cols stated e) r after
+  unfolding endText
+  put-listed-end at mid h few p q =
+      let both = put-two (94 * e .done) bytes 0 _ at mid p (omega arith) 48 _ r after q in
+      rw (eq-eqb (e .refused) 0 h) (record { next = both .next; short = omega (arith, both .short); bytes-after = both .bytes-after })
+
+-- ---- a plane of the program's sizes in its own slices
+pub record Sizes (g : Given) : Type 0 where
+  pub cols-are : g .reference .stride / 16 ≡ cols g
+  pub blocks-are : g .reference .rows / 16 * (g .reference .stride / 16) ≡ count g
+  pub some-cols : 0 < cols g
+  pub few-blocks : count g ≤ mostBlocks
+  pub small-area : g .reference .stride * g .reference .rows ≤ mostWidth * mostHeight
+
+zeros-taken : (n m : ℕ) → n ≤ m → _≡_ {A = List ℕ} (take n (replicate m 0)) (replicate n 0)
+zeros-taken zero m h = refl
+zeros-taken (suc n) zero h = absurd (omega arith)
+zeros-taken (suc n) (suc m) h = ap (λ (l : List ℕ). 0 ∷ l) (zeros-taken n m (omega arith))
+
+module _ (g : Given) (t : Task) (ok : Listable g t) where
+  pub sizes : Sizes g
+  unfolding writeRefusal
+  sizes =
+      let c = canvasRefusal (g .width) (g .height) (g .reference) in
+      let r3 = orElse c (orElse (dataRefusal (g .book) (g .codebook)) (orElse (slicesRefusal g (noSlices g)) (startRefusal (length {A = ℕ} (replicate outputBytes 0)) 0))) in
+      let p1 = or-none (sizeRefusal (g .width) (g .height)) (orElse (sourceRefusal g t) r3) (ok .passes) in
+      let p2 = or-none (sourceRefusal g t) r3 (p1 .1) in
+      let p3 = or-none c _ (p2 .1) in
+      let fit = plane-passes (g .width) (g .height) (g .reference) (or-next (sizeRefusal (g .width) (g .height)) c (p1 .0) ∙ p3 .0) in
+      let wide : g .reference .stride / 16 ≡ cols g = omega (arith, fit .stride) in
+      let high : g .reference .rows / 16 ≡ rows g = omega (arith, fit .rows) in
+      record {
+        cols-are = wide;
+        blocks-are = rw (wide, high);
+        some-cols = omega (arith, fit .width .some);
+        few-blocks = count-small (g .width) (g .height) (ok .wide) (ok .high);
+        small-area = rw (fit .stride, fit .rows) (area-small (g .width) (g .height) (ok .wide) (ok .high));
+      }
+
+  module _ (out recon vx vy held : List ℕ) (f : Fresh out recon vx vy held) where
+    -- the parts that are lent
+    abbrev lent : Slices
+    lent =
+        let n = 4 * (g .reference .rows / 16 * (g .reference .stride / 16)) in
+        record { recon = take (g .reference .stride * g .reference .rows) recon; vx = take n vx; vy = take n vy }
+
+    pub recon-long : g .reference .stride * g .reference .rows ≤ length recon
+    recon-long = omega (arith, sizes .small-area, ap length (f .samples), length-replicate {A = ℕ} (mostWidth * mostHeight) 0)
+
+    pub vx-long : 4 * (g .reference .rows / 16 * (g .reference .stride / 16)) ≤ length vx
+    vx-long = omega (arith, sizes .blocks-are, sizes .few-blocks, ap length (f .vectors-x), length-replicate {A = ℕ} (4 * mostBlocks) 0)
+
+    pub vy-long : 4 * (g .reference .rows / 16 * (g .reference .stride / 16)) ≤ length vy
+    vy-long = omega (arith, sizes .blocks-are, sizes .few-blocks, ap length (f .vectors-y), length-replicate {A = ℕ} (4 * mostBlocks) 0)
+
+    lent-are : lent ≡ noSlices g
+    lent-are =
+        let few : 4 * count g ≤ 4 * mostBlocks = omega (arith, sizes .few-blocks) in
+        let samples : take (g .reference .stride * g .reference .rows) recon ≡ replicate (g .reference .stride * g .reference .rows) 0 =
+        ap (take (g .reference .stride * g .reference .rows)) (f .samples) ∙ zeros-taken _ _ (sizes .small-area) in
+        let x : take (4 * count g) vx ≡ replicate (4 * count g) 0 = ap (take (4 * count g)) (f .vectors-x) ∙ zeros-taken _ _ few in
+        let y : take (4 * count g) vy ≡ replicate (4 * count g) 0 = ap (take (4 * count g)) (f .vectors-y) ∙ zeros-taken _ _ few in
+        rw (sizes .blocks-are, samples, x, y)
+
+    module _ (r : WriteEnd) (out' recon' vx' vy' stated : List ℕ) (p : PlaneStated g t out 0 lent held (endOf r) out' recon' vx' vy' stated) where
+      own : PlaneStated g t (replicate outputBytes 0) 0 (noSlices g) held (endOf r) out' recon' vx' vy' stated
+      own = rw (← f .output, ← lent-are) p
+
+      room : 3 * count g ≤ length held
+      room = omega (arith, f .numbers, sizes .few-blocks)
+
+      pub plane-ended : length stated ≡ length held → Ended (g .reference .stride / 16) stated r
+      plane-ended e = record {
+        wide = omega (arith, sizes .cols-are, sizes .some-cols);
+        few = omega (arith, done-most g t (replicate outputBytes 0) (ok .passes) r out' recon' vx' vy' (own .written), sizes .few-blocks);
+        numbers = e ∙ f .numbers;
+      }
+
+      pub plane-text : endText (g .reference .stride / 16) stated r ≡ planeText g t
+      unfolding planeText
+      plane-text = rw (sizes .cols-are, own .stated) (end-text g t (replicate outputBytes 0) (ok .passes) r out' recon' vx' vy' (own .written) held room)

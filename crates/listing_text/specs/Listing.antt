@@ -1,0 +1,116 @@
+-- What the listing program prints (document 01, "Refused for the state met", the listing program; "Bench cards").
+use Prim.Native.Nat.{ℕ, zero, suc, _*_, _/_, _%_}
+use mathlib.Core.List.{List, [], _∷_, _++_}
+use mathlib.Core.Option.{Option, none, some}
+use lib.Dec.{eqb}
+use lib.ListN.{length, replicate}
+use Rattle.bits.specs.Basics.{pick, orElse, unless}
+use Rattle.bits.specs.Bits.{bitsOf}
+use Rattle.book.specs.Book.{codebookBytes}
+use Rattle.text.specs.Text.{decimal, lineOf}
+use Rattle.book_file.specs.BookFile.{fileRefusal, fileBook}
+use Rattle.canvas.specs.Canvas.{padded16, sizeRefusal, canvasRefusal}
+use Rattle.macroblock.specs.declared.svq1_enc_inter.Svq1MbMode.{Svq1MbMode}
+use Rattle.macroblock.specs.declared.svq1_enc_inter.Svq1MbMode.the-variants.{Inter, Inter4Mv, Intra, Skip}
+use Rattle.macroblock.specs.Macroblock.{Given, cols}
+use Rattle.macroblock.specs.Limit.{unlimited}
+use Rattle.macroblock.specs.Choice.{Task}
+use Rattle.macroblock.specs.Slices.{Slices}
+use Rattle.plane.specs.Plane.{count, Writing, stepStated, writePlane, writingAt}
+use Rattle.plane.specs.Calls.{sourceRefusal}
+use Rattle.listing_job.specs.Job.{Job, jobIn}
+
+-- the five files; one that cannot be opened reads as empty
+pub record Files : Type 0 where
+  pub book : List ℕ
+  pub codebook : List ℕ
+  pub source : List ℕ
+  pub reference : List ℕ
+  pub job : List ℕ
+
+-- the plane that a job and the files mean
+abbrev pub givenOf : Files → Job → Given
+givenOf f j = record {
+  width = j .width;
+  height = j .height;
+  reference = record { samples = f .reference; stride = padded16 (j .width); rows = padded16 (j .height) };
+  book = fileBook (f .book);
+  codebook = f .codebook;
+}
+
+abbrev pub taskOf : Files → Job → Task
+taskOf f j = record { source = f .source; lambda = j .lambda; radius = j .radius; allowFour = j .allowFour; limit = unlimited }
+
+-- lowest number first; 0 for none
+unfoldable pub filesRefusal : Files → Job → ℕ
+filesRefusal f j =
+    let g = givenOf f j in
+    orElse (sizeRefusal (j .width) (j .height))
+    (orElse (sourceRefusal g (taskOf f j))
+    (orElse (canvasRefusal (j .width) (j .height) (g .reference))
+    (orElse (unless (eqb (length (f .codebook)) codebookBytes) 5) (fileRefusal (f .book)))))
+
+-- the output that the program writes into, from bit 0, and its result slices
+abbrev pub outputBytes : ℕ
+outputBytes = 65536
+
+abbrev pub noSlices : Given → Slices
+noSlices g = record {
+  recon = replicate (g .reference .stride * g .reference .rows) 0;
+  vx = replicate (4 * count g) 0;
+  vy = replicate (4 * count g) 0;
+}
+
+-- ---- text
+-- INTER, INTER_4MV, INTRA, SKIP
+abbrev pub modeName : Svq1MbMode → List ℕ
+modeName Inter = 73 ∷ 78 ∷ 84 ∷ 69 ∷ 82 ∷ []
+modeName Inter4Mv = 73 ∷ 78 ∷ 84 ∷ 69 ∷ 82 ∷ 95 ∷ 52 ∷ 77 ∷ 86 ∷ []
+modeName Intra = 73 ∷ 78 ∷ 84 ∷ 82 ∷ 65 ∷ []
+modeName Skip = 83 ∷ 75 ∷ 73 ∷ 80 ∷ []
+
+-- `refused,` and the number
+unfoldable pub refusedText : ℕ → List ℕ
+refusedText n = lineOf ((114 ∷ 101 ∷ 102 ∷ 117 ∷ 115 ∷ 101 ∷ 100 ∷ []) ∷ decimal n ∷ [])
+
+-- `total`, bits, error
+unfoldable pub totalLine : ℕ → ℕ → List ℕ
+totalLine bits error = lineOf ((116 ∷ 111 ∷ 116 ∷ 97 ∷ 108 ∷ []) ∷ decimal bits ∷ decimal error ∷ [])
+
+-- a plane listed as it is written from bit 0 into an output, given as its bits
+module _ (g : Given) (t : Task) (out : List ℕ) where
+  abbrev pub stateAt : ℕ → Writing
+  stateAt k = writingAt g t out 0 (noSlices g) k
+
+  -- row, column, mode, bits, error of macroblock k; rows and columns count macroblocks
+  unfoldable pub macroblockLine : ℕ → List ℕ
+  macroblockLine k =
+      let m = stepStated g t k (stateAt k) in
+      lineOf (
+      decimal (k / cols g) ∷ decimal (k % cols g) ∷ modeName (m .mode) ∷ decimal (m .bits)
+      ∷ decimal (m .error) ∷ [])
+
+  -- the lines of the first n macroblocks
+  unfoldable pub linesTo : ℕ → List ℕ
+  linesTo zero = []
+  linesTo (suc n) = linesTo n ++ macroblockLine n
+
+  -- the macroblocks and the total; an early end would print its refusal
+  unfoldable pub textInto : List ℕ
+  textInto =
+      let e = writePlane g t out 0 (noSlices g) in
+      pick (eqb (e .refusal) 0) (linesTo (count g) ++ totalLine (e .state .bits) (e .state .error)) (refusedText (e .refusal))
+
+-- the program's output has 65,536 bytes; a plane of its sizes always fits (99 macroblocks of at most 3,135 bits)
+unfoldable pub planeText : Given → Task → List ℕ
+planeText g t = textInto g t (bitsOf (replicate outputBytes 0))
+
+unfoldable pub jobText : Files → Option Job → List ℕ
+jobText f none = refusedText 1
+jobText f (some j) =
+    let n = filesRefusal f j in
+    pick (eqb n 0) (planeText (givenOf f j) (taskOf f j)) (refusedText n)
+
+-- what the program prints
+unfoldable pub listing : Files → List ℕ
+listing f = jobText f (jobIn (f .job))

@@ -1,0 +1,2 @@
+-- The theorems of this repository.
+pub mod Main

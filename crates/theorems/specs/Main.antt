@@ -1,0 +1,78 @@
+-- What is proved here of the definitions, each theorem stated by name and proved by one citation. What the functions promise of memory stands in their
+-- contracts; those that hand a theorem on are named beside it. Nothing is assumed: no axiom, no hole.
+use Prim.Native.Nat.{ℕ, _+_, _*_, _<_}
+use mathlib.Core.Path.{_≡_}
+use mathlib.Core.Bool.{true}
+use mathlib.Core.List.{List}
+use lib.ListN.{length, getD}
+use Rattle.bits.specs.Basics.{All, signedByte}
+use Rattle.bits.specs.Calls.{done, Put}
+use Rattle.bits.specs.declared.svq1_enc.Pushed.{Pushed}
+use Rattle.code_tables.specs.Codes.{code, codesOf}
+use Rattle.code_tables.specs.Calls.{codeRefusal, codeAt}
+use Rattle.code_tables.specs.CallsLaws.{pushed-read}
+use Rattle.book.specs.Book.{codebookBytes, bookRefusal}
+use Rattle.house.specs.House.{HouseBook, houseSample, houseCodebook}
+use Rattle.house.specs.HouseLaws.{houseTest, by-test, house-sample-at}
+use Rattle.book_file.specs.BookFile.{Line, fileRefusal, fileBook}
+use Rattle.book_file.specs.FileText.{fileOf, LinesOf}
+use Rattle.book_file.specs.BookFileLaws.{file-accepted}
+use Rattle.leaf.specs.LeafCall.{BlockIn}
+use Rattle.plan.specs.PlanClaim.{PlanClaimed}
+use Rattle.plan.specs.PlanClaimLaws.{plan-claimed}
+use Rattle.canvas.specs.Canvas.{blocksAlong}
+use Rattle.macroblock.specs.Macroblock.{Given}
+use Rattle.macroblock.specs.Limit.{canSkipRest}
+use Rattle.macroblock.specs.Choice.{Task, withoutLimit}
+use Rattle.macroblock.specs.Slices.{Slices}
+use Rattle.plane.specs.Plane.{writePlane, FirstFits}
+use Rattle.plane.specs.AloneLaws.{as-alone}
+use Rattle.claim.specs.Claim.{Claimed}
+use Rattle.claim.specs.ClaimLaws.{claimed}
+use Rattle.plane_room.specs.Room.{anyBits, bookBits, roomBytes, Suffices, OfSize, OfSizeUnder}
+use Rattle.plane_room.specs.RoomLaws.{size-suffices, book-suffices}
+use Rattle.starred_cards.specs.Cards.{Holds, cards}
+use Rattle.starred_cards.specs.Proof.{starred}
+
+-- Demand 3, of every plane that no refusal meets, with lambda at most 2^48, written to its last macroblock: the seven sentences are the fields of `Claim`
+-- (claim/Claim). Of memory: `round_trip_inter_plane`.
+pub a-plane-written-and-read : (g : Given) (t : Task) (out : List ℕ) (start : ℕ) (a : Slices) → Claimed g t out start a
+a-plane-written-and-read = claimed
+
+-- Its sentence on plans, of every plan that is called directly. Of memory: `plan_macroblock`.
+pub a-plan-called-directly : (b : BlockIn) (lambda : ℕ) → PlanClaimed b lambda
+a-plan-called-directly = plan-claimed
+
+-- So many bytes always hold a plane of a size, under any book and under one: 22 cannot come. Of memory: `plane_room`, `plane_room_under`.
+pub room-for-a-size : (width height : ℕ) → Suffices (OfSize width height) (roomBytes anyBits (blocksAlong height * blocksAlong width))
+room-for-a-size = size-suffices
+
+pub room-under-a-book : (width height : ℕ) (book : List ℕ) → Suffices (OfSizeUnder width height book) (roomBytes (bookBits book) (blocksAlong height * blocksAlong width))
+room-under-a-book = book-suffices
+
+-- Document 01's starred cards, one table and one statement.
+pub the-starred-cards : All Holds cards
+the-starred-cards = starred
+
+-- The house book by one computed test over its table, and each byte of the house codebook. Of memory: `house_book` computes the test over the constant.
+pub the-house-book : (t : List ℕ) → houseTest t ≡ true → HouseBook t
+the-house-book = by-test
+
+pub the-house-codebook : (i : ℕ) → i < codebookBytes → getD houseCodebook i 0 ≡ signedByte (houseSample i)
+the-house-codebook = house-sample-at
+
+-- What `push_code` writes with any table that it takes, `read_code` reads.
+pub a-code-written-and-read : (s : List ℕ) (at : ℕ) (t : List ℕ) (k : ℕ) (r : Pushed) (left : List ℕ)
+    → Put (codeRefusal (length s) at t k) s at (code (codesOf t) k) r left → codeRefusal (length s) at t k ≡ 0
+    → codeAt left at t ≡ done (record { value = k; next = at + length (code (codesOf t) k) })
+a-code-written-and-read = pushed-read
+
+-- A file that has a line for each entry of a book that passes, in any order, is read as that book.
+pub a-book-filed-and-read : (book : List ℕ) (ls : List Line) → All (λ x. x < 256) book → bookRefusal book ≡ 0 → LinesOf book ls
+    → (fileRefusal (fileOf ls) ≡ 0) × (fileBook (fileOf ls) ≡ book)
+a-book-filed-and-read = file-accepted
+
+-- Where each mode that is written without a limit on bits fits an allowance, a plane within it is the plane without one (document 02, §5; nothing calls it yet).
+pub within-an-allowance : (g : Given) (t : Task) → canSkipRest (t .limit) g 0 0 ≡ true → (out : List ℕ) (start : ℕ) (a : Slices) → FirstFits g t out start a
+    → writePlane g t out start a ≡ writePlane g (withoutLimit t) out start a
+within-an-allowance = as-alone

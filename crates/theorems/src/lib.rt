@@ -1,0 +1,1 @@
+// The theorems of this repository (specs/Main.antt).
