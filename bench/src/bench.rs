@@ -7,6 +7,7 @@
 include!("modules.rs");
 
 mod clock;
+mod entries;
 mod growth;
 mod library;
 mod pictures;

@@ -1,77 +1,9 @@
 //! The proved library, as a C program meets it (`include/cabunlis.h`).
 
 use crate::book::{Book, house_codebook};
+pub use crate::entries::Answer;
+use crate::entries::{cabunlis_decode_inter_plane, cabunlis_encode_inter_plane, cabunlis_plane_room};
 use crate::job::Job;
-
-#[repr(C)]
-#[derive(Clone, Copy, Debug)]
-pub struct Answer {
-    pub refusal: u32,
-    pub macroblock: usize,
-    pub done: usize,
-    pub next: usize,
-    pub bits: u64,
-    pub error: u64,
-}
-
-#[repr(C)]
-struct Room {
-    refusal: u32,
-    bytes: usize,
-}
-
-unsafe extern "C" {
-    fn cabunlis_encode_inter_plane(
-        width: usize,
-        height: usize,
-        stride: usize,
-        rows: usize,
-        source: *const u8,
-        source_length: usize,
-        reference: *const u8,
-        reference_length: usize,
-        book: *const u8,
-        book_length: usize,
-        codebook: *const u8,
-        codebook_length: usize,
-        lambda: u64,
-        radius: u8,
-        four: u8,
-        out: *mut u8,
-        out_length: usize,
-        start: usize,
-        recon: *mut u8,
-        recon_length: usize,
-        vx: *mut u8,
-        vx_length: usize,
-        vy: *mut u8,
-        vy_length: usize,
-    ) -> Answer;
-
-    fn cabunlis_decode_inter_plane(
-        width: usize,
-        height: usize,
-        stride: usize,
-        rows: usize,
-        reference: *const u8,
-        reference_length: usize,
-        book: *const u8,
-        book_length: usize,
-        codebook: *const u8,
-        codebook_length: usize,
-        bytes: *const u8,
-        bytes_length: usize,
-        start: usize,
-        recon: *mut u8,
-        recon_length: usize,
-        vx: *mut u8,
-        vx_length: usize,
-        vy: *mut u8,
-        vy_length: usize,
-    ) -> Answer;
-
-    fn cabunlis_plane_room(width: usize, height: usize) -> Room;
-}
 
 /// The built-in tables and all that a call of one size is lent to write.
 pub struct Lent {

@@ -10,6 +10,7 @@ mod compare_leaf;
 mod compare_plan;
 mod compare_plane;
 mod compare_search;
+mod entries;
 mod none;
 mod ours;
 mod ours_plane;

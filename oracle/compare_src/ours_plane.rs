@@ -1,5 +1,7 @@
 //! The proved plane writer and plane reader, linked from the static library
-//! of the crate `host`, as a C program meets them.
+//! of the crate `cabunlis`, as a C program meets them.
+
+use crate::entries::{Answer, cabunlis_decode_inter_plane, cabunlis_encode_inter_plane_stated};
 
 #[derive(Clone, Copy, Debug, PartialEq, Eq)]
 pub struct Written {
@@ -17,19 +19,7 @@ pub struct Read {
     pub next: usize,
 }
 
-/// The boundary's answer, as `include/cabunlis.h` has it.
-#[repr(C)]
-#[derive(Clone, Copy)]
-struct HostAnswer {
-    refusal: u32,
-    macroblock: usize,
-    done: usize,
-    next: usize,
-    bits: u64,
-    error: u64,
-}
-
-impl HostAnswer {
+impl Answer {
     /// The index says nothing of its own: the macroblocks done where a
     /// refusal came in the middle of a plane, else 0.
     fn refused(&self) -> u8 {
@@ -40,59 +30,6 @@ impl HostAnswer {
         assert_eq!(self.macroblock, index, "the macroblock's index");
         u8::try_from(self.refusal).expect("a refusal's number")
     }
-}
-
-unsafe extern "C" {
-    fn cabunlis_encode_inter_plane_stated(
-        width: usize,
-        height: usize,
-        stride: usize,
-        rows: usize,
-        source: *const u8,
-        source_length: usize,
-        reference: *const u8,
-        reference_length: usize,
-        book: *const u8,
-        book_length: usize,
-        codebook: *const u8,
-        codebook_length: usize,
-        lambda: u64,
-        radius: u8,
-        four: u8,
-        out: *mut u8,
-        out_length: usize,
-        start: usize,
-        recon: *mut u8,
-        recon_length: usize,
-        vx: *mut u8,
-        vx_length: usize,
-        vy: *mut u8,
-        vy_length: usize,
-        stated: *mut u32,
-        stated_length: usize,
-    ) -> HostAnswer;
-
-    fn cabunlis_decode_inter_plane(
-        width: usize,
-        height: usize,
-        stride: usize,
-        rows: usize,
-        reference: *const u8,
-        reference_length: usize,
-        book: *const u8,
-        book_length: usize,
-        codebook: *const u8,
-        codebook_length: usize,
-        bytes: *const u8,
-        bytes_length: usize,
-        start: usize,
-        recon: *mut u8,
-        recon_length: usize,
-        vx: *mut u8,
-        vx_length: usize,
-        vy: *mut u8,
-        vy_length: usize,
-    ) -> HostAnswer;
 }
 
 /// What a plane call is asked, right or wrong.
