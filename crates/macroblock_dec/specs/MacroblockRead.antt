@@ -7,7 +7,6 @@ use lib.ListN.{length, drop}
 use Rattle.bits.specs.Basics.{pick}
 use Rattle.bits.specs.Bits.{bitsOf}
 use Rattle.bits.specs.Inner.{Fits}
-use Rattle.mv_cache.specs.Cache as cache
 use Rattle.macroblock_dec.specs.declared.inner.reading.ReadMb.{ReadMb}
 use Rattle.macroblock.specs.Macroblock.{Given, cols, rows, Choice}
 use Rattle.macroblock.specs.Reading.{readMacroblock}
