@@ -1,4 +1,4 @@
-/* Every refusal that a plane call can answer, and that nothing lent has changed. */
+/* Every refusal that a plane call can answer, and that the result slices have not changed. */
 #include <stdio.h>
 #include <stdlib.h>
 #include <string.h>
@@ -231,6 +231,8 @@ static void full(void)
         CHECK(all_are(stated + 3 * k, (MACROBLOCKS - k) * 12, 0x33));
         CHECK(memcmp(stated, said, 12 * k) == 0);
         CHECK(all_are(out + c.out, OUT - c.out, 0xc3));
+        struct cabunlis_answer b = wrote_plain(&c);
+        CHECK(b.refusal == CABUNLIS_FULL && b.macroblock == k && b.done == k && b.bits == bits && b.next == a.next && b.error == a.error);
         bits += said[3 * k + 1];
     }
     fill();

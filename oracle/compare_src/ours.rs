@@ -1,4 +1,4 @@
-//! The proved functions, linked from the static library of the crate `parts`.
+//! The proved functions, linked from the static library of the crate `call_entries`.
 
 #[repr(C)]
 #[derive(Clone, Copy, Debug, PartialEq, Eq)]

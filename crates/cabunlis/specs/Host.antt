@@ -18,7 +18,7 @@ use Rattle.cabunlis.specs.declared.rooms.HostRoom.{HostRoom}
 unfoldable pub midPlane : ℕ → Bool
 midPlane n = (eqb n 10 || eqb n 11) || (eqb n 22 || eqb n 24)
 
--- a plane call's answer as a C struct; the index is that of the first macroblock not done
+-- a plane call's answer as a C struct; the index is that of the macroblock met with 10, 11, 22 and 24, else 0
 abbrev pub hostAnswer : PlaneAnswer → HostAnswer
 hostAnswer a =
     record { refusal = a .refusal; macroblock = pick (midPlane (a .refusal)) (a .done) 0; done = a .done; next = a .next; bits = a .bits; error = a .error }

@@ -78,8 +78,8 @@ module _ (g : Given) (t : Task) (out : List ℕ) (start : ℕ) (a : Slices) wher
     pub no-mode-cheaper : (k : ℕ) → k < count g → All (λ c. costOf k (wrote g t k (stateAt k)) ≤ costOf k c) (fitting g t k (near g (stateAt k .slices) k) (stateAt k .bits))
     -- 7. squared error plus lambda times bits is never above that of skipping every macroblock
     pub never-above-skipping : final .error + t .lambda * final .bits ≤ sse (paddedSource g t) (g .reference .samples) + t .lambda * (length (modeBits g Skip) * count g)
-    -- under an allowance: it still holds a SKIP code for each macroblock of the planes behind
-    pub within-allowance : canSkipRest (t .limit) g (count g) (final .bits) ≡ true
+    -- under an allowance: before each macroblock, and at the end, it still holds a SKIP code for each to come, in this plane and behind it
+    pub within-allowance : (k : ℕ) → k ≤ count g → canSkipRest (t .limit) g k (stateAt k .bits) ≡ true
 
   -- source and reference are byte slices
   pub record InMemory : Type 0 where

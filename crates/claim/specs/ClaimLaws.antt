@@ -252,5 +252,5 @@ claimed g t out start a enough mem e low whole =
       no-pruning-cheaper = λ k h. all-any _ (motionsTried g t k _) (λ m. unpruned g t (ok .fine) low k m);
       no-mode-cheaper = λ k h. cheapest g t ok out start a sized whole low k;
       never-above-skipping = never-above g t ok out start a sized whole low enough;
-      within-allowance = skip-rest-at g t enough (bitsOf out) start a (count g) (le-refl (count g));
+      within-allowance = skip-rest-at g t enough (bitsOf out) start a;
     }

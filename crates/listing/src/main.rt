@@ -16,7 +16,7 @@ fn read_file(path: &[u8], bytes: &mut [u8]) -> usize
     n
 }
 
-// Of each file one byte more is read than the longest that its length does not refuse (`cut` of `jobs`): what lies behind changes nothing that is printed, by its law
+// Of each file one byte more is read than the longest that its length does not refuse (`cut` of `listing_text`): what lies behind changes nothing that is printed, by its law
 // `cut-same`.
 fn main() {
     let mut book = [0u8; 23699];

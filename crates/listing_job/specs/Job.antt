@@ -4,6 +4,7 @@ use mathlib.Core.Bool.{Bool}
 use mathlib.Core.List.{List, [], _∷_}
 use mathlib.Core.Option.{Option, none, some}
 use lib.Dec.{eqb}
+use Rattle.bits.specs.Calls.{Answer, done, refused}
 use Rattle.text.specs.Text.{numberUpTo, linesOf, fieldsOf}
 
 -- width, height, lambda, radius, four
@@ -49,3 +50,8 @@ oneLine (some (l ∷ (m ∷ ms))) = none
 
 unfoldable pub jobIn : List ℕ → Option Job
 jobIn file = oneLine (linesOf file)
+
+-- a line that asks for no job is refused with 1
+abbrev pub jobAnswer : Option Job → Answer Job
+jobAnswer none = refused 1
+jobAnswer (some j) = done j

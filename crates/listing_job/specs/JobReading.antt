@@ -6,11 +6,11 @@ use mathlib.Core.Option.{Option, none, some}
 use lib.Dec.{eqb, ltb}
 use lib.ListN.{length, take, drop}
 use Rattle.bits.specs.Basics.{pick}
-use Rattle.bits.specs.Calls.{Answer, done, refused}
+use Rattle.bits.specs.Calls.{Answer}
 use Rattle.text.specs.Text.{comma, numberUpTo}
 use Rattle.text.specs.Reading.{countBefore}
 use Rattle.bits.specs.BasicsLaws.{partFrom}
-use Rattle.listing_job.specs.Job.{Job, mostWidth, mostHeight}
+use Rattle.listing_job.specs.Job.{Job, mostWidth, mostHeight, jobAnswer}
 use Rattle.listing_job.specs.declared.ListingJob.{ListingJob}
 use Rattle.listing_job.specs.declared.JobRead.{JobRead}
 use Rattle.listing_job.specs.declared.JobRead.the-variants as Told
@@ -26,11 +26,7 @@ abbrev pub jobGiven : JobRead → Option Job
 jobGiven (Told.Job j) = some (jobBy j)
 jobGiven Told.NoJob = none
 
--- and by document 01's number: a line that asks for no job is 1
-abbrev pub jobAnswer : Option Job → Answer Job
-jobAnswer none = refused 1
-jobAnswer (some j) = done j
-
+-- and by document 01's number
 abbrev pub jobTold : JobRead → Answer Job
 jobTold r = jobAnswer (jobGiven r)
 

@@ -1,8 +1,8 @@
 // The job line of the listing program: `width,height,lambda,radius,four`.
 ghost use mathlib.Core.Path.{_≡_};
 ghost use Rattle.text.specs.Text.{fieldsOf};
-ghost use Rattle.listing_job.specs.Job.{jobIn, jobRead};
-ghost use Rattle.listing_job.specs.JobReading.{FieldFound, jobGiven, jobAnswer, jobTold};
+ghost use Rattle.listing_job.specs.Job.{jobIn, jobRead, jobAnswer};
+ghost use Rattle.listing_job.specs.JobReading.{FieldFound, jobGiven, jobTold};
 use text::NumberRead;
 
 // What a job line asks for.

@@ -140,10 +140,11 @@ unfoldable pub bestOf : Given → Task → ℕ → Near → Choice → List Choi
 bestOf g t k n c [] = c
 bestOf g t k n c (d ∷ ds) = bestOf g t k n (pick (beats g t k n d c) d c) ds
 
--- what is written for macroblock k, with so many bits spent before it: the best of those that fit, SKIP first
+-- the best of a list; SKIP of an empty one, which an allowance that passes 31 never leaves
 abbrev pub bestFrom : Given → Task → ℕ → Near → List Choice → Choice
 bestFrom g t k n [] = skipped
 bestFrom g t k n (c ∷ cs) = bestOf g t k n c cs
 
+-- what is written for macroblock k, with so many bits spent before it: the best of those that fit
 unfoldable pub chosen : Given → Task → ℕ → Near → ℕ → Choice
 chosen g t k n spent = bestFrom g t k n (fitting g t k n spent)

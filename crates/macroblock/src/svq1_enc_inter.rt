@@ -25,7 +25,7 @@ impl Svq1MbMode {
     }
 }
 
-// A macroblock's motion: none, one vector with its difference from the predictor, or four, which lie in an array beside it.
+// A macroblock's motion: none, one vector with its difference, as it is written or was read, or four, which lie in an array beside it.
 pub enum MbMotion {
     None,
     One { mv: Svq1Mv, diff: Svq1Mv },

@@ -1,4 +1,4 @@
--- The candidates of the code as the definitions' choices, what they state, and which of two is passing (document 01, `svq1_enc_inter.rs`).
+-- The candidates of the code as the definitions' choices, what they state, and which of two is kept (document 01, `svq1_enc_inter.rs`).
 use mathlib.Core.Path.{_≡_}
 use mathlib.Core.Bool.{Bool, true, false, _&&_, _||_}
 use mathlib.Core.List.{List, map}
@@ -61,7 +61,7 @@ pub record CandidateOf (book : List ℕ) (n : Near) (motion : MbMotion) (vectors
   pub bits-are : r .bits ≡ length (modeBits (byBook book) (motionMode (motionOf motion vectors))) + (length (motionBits (byBook book) n (motionOf motion vectors)) + bits)
   pub error-is : r .error ≡ error
 
--- d is passing and not c, by what they state: less cost, or the same with fewer bits
+-- d is kept and not c, by what they state: less cost, or the same with fewer bits
 unfoldable pub preferred : ℕ → MbCandidate → MbCandidate → Bool
 preferred lambda d c =
     ltb (costOf lambda (d .bits) (d .error)) (costOf lambda (c .bits) (c .error))

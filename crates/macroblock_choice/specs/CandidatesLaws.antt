@@ -1,4 +1,4 @@
--- Laws of the candidates: what they state is what the definitions weigh, and the one passing is the definitions' best.
+-- Laws of the candidates: what they state is what the definitions weigh, and the one kept is the definitions' best.
 -- Assumes nothing.
 use mathlib.Core.Path.{_≡_, refl, sym, ap, _∙_}
 use mathlib.Core.Bool.{Bool, true, false, _&&_}
@@ -89,7 +89,7 @@ module _ (g : Given) (block : List ℕ) (k : ℕ) (n : Near) (motion : MbMotion)
     error = c .error-is ∙ ee ∙ sym (ap (λ (d : Choice). sse block (shown g k d)) coded-is);
   }
 
--- ---- which of two is passing
+-- ---- which of two is kept
 module _ (lambda : ℕ) (best d : MbCandidate) (p q : ℕ) (hp : p ≡ costOf lambda (d .bits) (d .error)) (hq : q ≡ costOf lambda (best .bits) (best .error)) where
   pub kept-less : p < q → d ≡ pick (preferred lambda d best) d best
   unfolding preferred

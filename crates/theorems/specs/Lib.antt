@@ -1,2 +1,2 @@
--- The theorems of this repository.
+-- The main theorems of this repository.
 pub mod Main

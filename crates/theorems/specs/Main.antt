@@ -1,4 +1,4 @@
--- What is proved here of the definitions, each theorem stated by name and proved by one citation. What the functions promise of memory stands in their
+-- The main theorems of this repository, of the definitions, each stated by name and proved by one citation. What the functions promise of memory stands in their
 -- contracts; those that hand a theorem on are named beside it. Nothing is assumed: no axiom, no hole.
 use Prim.Native.Nat.{ℕ, _+_, _*_, _<_}
 use mathlib.Core.Path.{_≡_}
@@ -34,8 +34,8 @@ use Rattle.plane_room.specs.RoomLaws.{size-suffices, book-suffices}
 use Rattle.starred_cards.specs.Cards.{Holds, cards}
 use Rattle.starred_cards.specs.Proof.{starred}
 
--- Demand 3, of every plane that no refusal meets, with lambda at most 2^48, written to its last macroblock: the seven sentences are the fields of `Claim`
--- (claim/Claim). Of memory: `round_trip_inter_plane`.
+-- Demand 3, of every plane of bytes that no refusal meets, with lambda at most 2^48 and an allowance, if any, that holds a SKIP code for each macroblock,
+-- written to its last macroblock: the seven sentences are the fields of `Claim` (claim/Claim). Of memory: `round_trip_inter_plane`.
 pub a-plane-written-and-read : (g : Given) (t : Task) (out : List ℕ) (start : ℕ) (a : Slices) → Claimed g t out start a
 a-plane-written-and-read = claimed
 
@@ -72,7 +72,8 @@ pub a-book-filed-and-read : (book : List ℕ) (ls : List Line) → All (λ x. x 
     → (fileRefusal (fileOf ls) ≡ 0) × (fileBook (fileOf ls) ≡ book)
 a-book-filed-and-read = file-accepted
 
--- Where each mode that is written without a limit on bits fits an allowance, a plane within it is the plane without one (document 02, §5; nothing calls it yet).
+-- Where an allowance holds a SKIP code for each macroblock, and each mode that is written without a limit on bits fits it, the plane within it is the plane
+-- without one (document 02, §5; nothing calls it yet).
 pub within-an-allowance : (g : Given) (t : Task) → canSkipRest (t .limit) g 0 0 ≡ true → (out : List ℕ) (start : ℕ) (a : Slices) → FirstFits g t out start a
     → writePlane g t out start a ≡ writePlane g (withoutLimit t) out start a
 within-an-allowance = as-alone

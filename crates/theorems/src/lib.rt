@@ -1,1 +1,1 @@
-// The theorems of this repository (specs/Main.antt).
+// The main theorems of this repository (specs/Main.antt).

@@ -2,7 +2,7 @@
 use native.Mathlib.Omega.{arith}
 use mathlib.Core.Path.{sym, ap, _∙_}
 use lib.Seq.{length-take-le}
-use Rattle.listing_job.specs.JobReading.{jobAnswer}
+use Rattle.listing_job.specs.Job.{jobAnswer}
 use Rattle.listing_job.specs.JobLaws.{job-open, job-more, job-one}
 use borrow.Author.Needs.{needs}
 use Rattle.listing_job.proofs.read_job.Statement.{statement}
