@@ -135,8 +135,8 @@ struct cabunlis_answer {
  *
  * lambda weighs bits against squared error: a macroblock is coded in the way of least error + lambda x bits, at equal cost the one
  * of fewest bits, then the first of SKIP, INTER, INTRA and INTER_4MV. Any 64-bit number is taken; 0 buys every gain, 32 is a fair
- * start. Costs are counted to 2^64 - 1 and no further, so that they can only be told apart up to a lambda of 2^48: far above it all
- * of them are equal and every macroblock is coded in the fewest bits. radius is the search's, any number from 0 to 255: the zero vector is tried, then
+ * start. Costs are counted to 2^64 - 1 and no further: up to a lambda of 2^48 none comes to that, above it several may, and are then
+ * equal. radius is the search's, any number from 0 to 255: the zero vector is tried, then
  * those that lie up to so many whole samples to each side of the vector predicted from the neighbours, then the half samples around
  * the best; so a vector may be longer than the radius, and one above 31 finds nothing more. Four vectors a macroblock are tried
  * unless `four` is 0. Time grows with the number of macroblocks, and a little with the radius.
