@@ -9,7 +9,7 @@ use Rattle.vectors.specs.declared.svq1_motion_predictor.Svq1Mv.{Svq1Mv}
 use Rattle.motion.specs.Search.{Search}
 use Rattle.macroblock.specs.Macroblock.{Given}
 use Rattle.macroblock.specs.Choice.{Task}
-use Rattle.macroblock.specs.Slices.{Slices}
+use Rattle.macroblock.specs.Slices.{Slices, slicesBy}
 use Rattle.macroblock.specs.Inner.{givenBy}
 use Rattle.macroblock_choice.specs.Chosen.{taskBy}
 use Rattle.plane.specs.Calls.{PlaneAnswer, writeAnswer, writeOut, readPlaneAnswer, readSlices}
@@ -19,17 +19,17 @@ unfoldable pub smallGiven : List ℕ → List ℕ → Given
 smallGiven book codebook = givenBy (record { width = 16; height = 16; stride = 16; rows = 16 }) (replicate 256 0) book codebook
 
 unfoldable pub smallTask : ℕ → Task
-smallTask lambda = taskBy (replicate 256 100) lambda 8 true
+smallTask lambda = taskBy (replicate 256 100) (record { lambda = lambda; radius = 8; four = true })
 
 abbrev pub smallSlices : List ℕ → Slices
-smallSlices recon = record { recon = recon; vx = replicate 4 0; vy = replicate 4 0 }
+smallSlices recon = slicesBy recon (replicate 4 0) (replicate 4 0)
 
 unfoldable pub freshSlices : Slices
 freshSlices = smallSlices (replicate 256 0)
 
 -- the result slices of a plane of at most 65 macroblocks, 0 before but for the reconstruction
 unfoldable pub wideSlices : List ℕ → Slices
-wideSlices recon = record { recon = recon; vx = replicate 260 0; vy = replicate 260 0 }
+wideSlices recon = slicesBy recon (replicate 260 0) (replicate 260 0)
 
 -- a search of radius 8 for a block of 16×16 in a flat plane of 32×32
 unfoldable pub flatSearch : ℕ → ℕ → Svq1Mv → Search

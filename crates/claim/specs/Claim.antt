@@ -50,7 +50,7 @@ module _ (g : Given) (t : Task) (out : List ℕ) (start : ℕ) (a : Slices) wher
 
   -- what any mode costs for macroblock k, with the vectors that those before it left
   abbrev pub costOf : ℕ → Choice → ℕ
-  costOf k c = total (t .lambda) (weightOf g t k (near g (stateAt k .slices) k) c)
+  costOf k c = total (t .settings .lambda) (weightOf g t k (near g (stateAt k .slices) k) c)
 
   -- the seven sentences of demand 3, numbered as there
   pub record Claim : Type 0 where
@@ -77,7 +77,7 @@ module _ (g : Given) (t : Task) (out : List ℕ) (start : ℕ) (a : Slices) wher
     -- 6. no mode tried, and under an allowance no fitting mode, costs less than the one written
     pub no-mode-cheaper : (k : ℕ) → k < count g → All (λ c. costOf k (wrote g t k (stateAt k)) ≤ costOf k c) (fitting g t k (near g (stateAt k .slices) k) (stateAt k .bits))
     -- 7. squared error plus lambda times bits is never above that of skipping every macroblock
-    pub never-above-skipping : final .error + t .lambda * final .bits ≤ sse (paddedSource g t) (g .reference .samples) + t .lambda * (length (modeBits g Skip) * count g)
+    pub never-above-skipping : final .error + t .settings .lambda * final .bits ≤ sse (paddedSource g t) (g .reference .samples) + t .settings .lambda * (length (modeBits g Skip) * count g)
     -- under an allowance: before each macroblock, and at the end, it still holds a SKIP code for each to come, in this plane and behind it
     pub within-allowance : (k : ℕ) → k ≤ count g → canSkipRest (t .limit) g k (stateAt k .bits) ≡ true
 
@@ -88,4 +88,4 @@ module _ (g : Given) (t : Task) (out : List ℕ) (start : ℕ) (a : Slices) wher
 
   -- what has to be shown of every plane: one that no refusal meets, with lambda at most 2^48 and an allowance, if any, that holds a SKIP code for each macroblock, written to its last macroblock
   abbrev pub Claimed : Type 0
-  Claimed = canSkipRest (t .limit) g 0 0 ≡ true → InMemory → writeRefusal g t out start a ≡ 0 → t .lambda ≤ largestLambda → writePlane g t (bitsOf out) start a .refusal ≡ 0 → Claim
+  Claimed = canSkipRest (t .limit) g 0 0 ≡ true → InMemory → writeRefusal g t out start a ≡ 0 → t .settings .lambda ≤ largestLambda → writePlane g t (bitsOf out) start a .refusal ≡ 0 → Claim

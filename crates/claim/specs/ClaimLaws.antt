@@ -211,21 +211,21 @@ module _ (g : Given) (t : Task) (ok : Accepted g t) (out : List ℕ) (start : �
   abbrev skipLength : ℕ
   skipLength = length (modeBits g Skip)
 
-  module _ (low : t .lambda ≤ largestLambda) where
+  module _ (low : t .settings .lambda ≤ largestLambda) where
     pub cheapest : (k : ℕ) → All (λ c. costOf g t out start a k (W k) ≤ costOf g t out start a k c) (fitting g t k (near g (S k .slices) k) (S k .bits))
     cheapest k = chosen-least g t (ok .fine) low k (near g (S k .slices) k) (S k .bits)
 
     module _ (enough : canSkipRest (t .limit) g 0 0 ≡ true) where
-      below-skip : (k : ℕ) → k < count g → weigh k .err + t .lambda * weigh k .bits ≤ skipError k + t .lambda * skipLength
+      below-skip : (k : ℕ) → k < count g → weigh k .err + t .settings .lambda * weigh k .bits ≤ skipError k + t .settings .lambda * skipLength
       unfolding weightOf choiceBits shown
       below-skip k h = under-skip g t (ok .fine) low k (near g (S k .slices) k) (S k .bits) (skip-fits g t k (near g (S k .slices) k) (S k .bits) h (skip-rest-at g t enough (bitsOf out) start a k (omega arith)))
 
-      below-skipping : (m : ℕ) → m ≤ count g → S m .error + t .lambda * S m .bits ≤ sum skipError m + t .lambda * (skipLength * m)
+      below-skipping : (m : ℕ) → m ≤ count g → S m .error + t .settings .lambda * S m .bits ≤ sum skipError m + t .settings .lambda * (skipLength * m)
       unfolding after written sum
       below-skipping zero h = omega arith
       below-skipping (suc m) h = rw (mul-add, mul-suc, mul-add) (omega (arith, below-skipping m (omega arith), below-skip m h))
 
-      pub never-above : E .error + t .lambda * E .bits ≤ sse (paddedSource g t) (g .reference .samples) + t .lambda * (skipLength * count g)
+      pub never-above : E .error + t .settings .lambda * E .bits ≤ sse (paddedSource g t) (g .reference .samples) + t .settings .lambda * (skipLength * count g)
       unfolding target referenceBlock
       never-above =
           rw (sse-blocks 16 (cols g) (rows g) (omega arith) (ok .wide) (paddedSource g t) (g .reference .samples) (padded-size g t ok) (ok .reference-size))

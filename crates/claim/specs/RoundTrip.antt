@@ -40,5 +40,5 @@ pub record Returned (g : Given) (w r : PlaneAnswer) (a' d d' : Slices) : Type 0 
 pub record RoundTrip (g : Given) (t : Task) (out : List ℕ) (start : ℕ) (a : Slices) (held : List ℕ) (d : Slices) (w r : PlaneAnswer) (out' : List ℕ) (a' : Slices) (stated' : List ℕ) (d' : Slices) : Type 0 where
   pub wrote : PlaneStated g t out start a held w out' (a' .recon) (a' .vx) (a' .vy) stated'
   pub read : PlaneRead g out' start d r (d' .recon) (d' .vx) (d' .vy)
-  pub claim : writeRefusal g t out start a ≡ 0 → t .lambda ≤ largestLambda → w .refusal ≡ 0 → Claim g t out start a × Ended g t out start a held w out' a' stated'
-  pub returned : writeRefusal g t out start a ≡ 0 → t .lambda ≤ largestLambda → w .refusal ≡ 0 → slicesRefusal g d ≡ 0 → Returned g w r a' d d'
+  pub claim : writeRefusal g t out start a ≡ 0 → t .settings .lambda ≤ largestLambda → w .refusal ≡ 0 → Claim g t out start a × Ended g t out start a held w out' a' stated'
+  pub returned : writeRefusal g t out start a ≡ 0 → t .settings .lambda ≤ largestLambda → w .refusal ≡ 0 → slicesRefusal g d ≡ 0 → Returned g w r a' d d'

@@ -30,7 +30,7 @@ module _ (g : Given) (t : Task) (out : List ℕ) (start : ℕ) (a : Slices) (hel
   abbrev wrote : PlaneWritten g t out start a w out' (a' .recon) (a' .vx) (a' .vy)
   wrote = told .written
 
-  module _ (passes : writeRefusal g t out start a ≡ 0) (most : t .lambda ≤ largestLambda) (whole : w .refusal ≡ 0) where
+  module _ (passes : writeRefusal g t out start a ≡ 0) (most : t .settings .lambda ≤ largestLambda) (whole : w .refusal ≡ 0) where
     abbrev e : End Writing
     e = writePlane g t (bitsOf out) start a
 

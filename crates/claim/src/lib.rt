@@ -4,7 +4,9 @@ ghost use Rattle.macroblock.specs.Inner.{givenBy};
 ghost use Rattle.plane.specs.Reader as reader;
 ghost use Rattle.plane_enc.specs.Writer as writer;
 ghost use Rattle.claim.specs.RoundTrip.{RoundTrip};
+ghost use Rattle.macroblock.specs.Slices.{slicesBy};
 use canvas::svq1_plane::Svq1PlaneCanvas;
+use macroblock::svq1_enc_inter::Settings;
 use plane::svq1_plane::ReadEnd;
 use plane::svq1_plane::decode_inter_plane;
 use plane_enc::svq1_enc_inter::WriteEnd;
@@ -24,9 +26,7 @@ pub fn round_trip_inter_plane(
     reference: &[u8],
     book: &[u8],
     codebook: &[u8],
-    lambda: u64,
-    radius: u8,
-    four: bool,
+    settings: Settings,
     out: &mut [u8],
     start: usize,
     recon: &mut [u8],
@@ -37,7 +37,7 @@ pub fn round_trip_inter_plane(
     backx: &mut [u8],
     backy: &mut [u8],
 ) -> TripEnd
-    ensures { λ r. ⌜ RoundTrip (givenBy canvas (now (reference .entry)) (now (book .entry)) (now (codebook .entry))) (taskBy (now (source .entry)) lambda radius four) (now (out .entry)) start (record { recon = now (recon .entry); vx = now (vx .entry); vy = now (vy .entry) }) (now (stated .entry)) (record { recon = now (back .entry); vx = now (backx .entry); vy = now (backy .entry) }) (writer.endOf (r .written)) (reader.endOf (r .read)) (now (out .exit)) (record { recon = now (recon .exit); vx = now (vx .exit); vy = now (vy .exit) }) (now (stated .exit)) (record { recon = now (back .exit); vx = now (backx .exit); vy = now (backy .exit) }) ⌝ }
+    ensures { λ r. ⌜ RoundTrip (givenBy canvas (now (reference .entry)) (now (book .entry)) (now (codebook .entry))) (taskBy (now (source .entry)) settings) (now (out .entry)) start (slicesBy (now (recon .entry)) (now (vx .entry)) (now (vy .entry))) (now (stated .entry)) (slicesBy (now (back .entry)) (now (backx .entry)) (now (backy .entry))) (writer.endOf (r .written)) (reader.endOf (r .read)) (now (out .exit)) (slicesBy (now (recon .exit)) (now (vx .exit)) (now (vy .exit))) (now (stated .exit)) (slicesBy (now (back .exit)) (now (backx .exit)) (now (backy .exit))) ⌝ }
 {
     let written = encode_inter_plane_stated(
         canvas,
@@ -45,9 +45,7 @@ pub fn round_trip_inter_plane(
         reference,
         book,
         codebook,
-        lambda,
-        radius,
-        four,
+        settings,
         out,
         start,
         recon,

@@ -22,7 +22,7 @@ use Rattle.macroblock.specs.declared.svq1_enc_inter.Svq1MbMode.the-variants.{In
 use Rattle.macroblock.specs.Mode.{modePosition}
 use Rattle.macroblock.specs.Macroblock.{Given, cols, rows}
 use Rattle.macroblock.specs.Choice.{Task}
-use Rattle.macroblock.specs.Slices.{Slices}
+use Rattle.macroblock.specs.Slices.{Slices, slicesBy}
 use Rattle.plane_enc.specs.declared.svq1_enc_inter.WriteEnd.{WriteEnd}
 use Rattle.plane.specs.Run.{End, after}
 use Rattle.plane.specs.RunLaws.{Stands, run-stands}
@@ -188,7 +188,7 @@ module _ (g : Given) (t : Task) (ok : Listable g t) where
     abbrev lent : Slices
     lent =
         let n = 4 * (g .reference .rows / 16 * (g .reference .stride / 16)) in
-        record { recon = take (g .reference .stride * g .reference .rows) recon; vx = take n vx; vy = take n vy }
+        slicesBy (take (g .reference .stride * g .reference .rows) recon) (take n vx) (take n vy)
 
     pub recon-long : g .reference .stride * g .reference .rows ≤ length recon
     recon-long = omega (arith, sizes .small-area, ap length (f .samples), length-replicate {A = ℕ} (mostWidth * mostHeight) 0)

@@ -39,7 +39,7 @@ givenOf f j = record {
 }
 
 abbrev pub taskOf : Files → Job → Task
-taskOf f j = record { source = f .source; lambda = j .lambda; radius = j .radius; allowFour = j .allowFour; limit = unlimited }
+taskOf f j = record { source = f .source; settings = record { lambda = j .lambda; radius = j .radius; four = j .allowFour }; limit = unlimited }
 
 -- lowest number first; 0 for none
 unfoldable pub filesRefusal : Files → Job → ℕ

@@ -20,6 +20,7 @@ use canvas::svq1_plane::plane_refusal;
 use listing_job::JobRead;
 use listing_job::ListingJob;
 use listing_job::read_job;
+use macroblock::svq1_enc_inter::Settings;
 use plane_enc::svq1_enc_inter::WriteEnd;
 use plane_enc::svq1_enc_inter::encode_inter_plane_stated;
 
@@ -85,9 +86,7 @@ fn list_into(
     reference: &[u8],
     book: &[u8],
     codebook: &[u8],
-    lambda: u64,
-    radius: u8,
-    four: bool,
+    settings: Settings,
     out: &mut [u8],
     recon: &mut [u8],
     vx: &mut [u8],
@@ -95,8 +94,8 @@ fn list_into(
     stated: &mut [u32],
     text: &mut [u8],
 ) -> usize
-    requires { ⌜ Listable (givenBy canvas (now reference) (now book) (now codebook)) (taskBy (now source) lambda radius four) × Fresh (now out) (now recon) (now vx) (now vy) (now stated) × (listingRoom ≤ length (now text)) ⌝ }
-    ensures { λ r. ⌜ Put listingRoom (now (text .entry)) 0 (planeText (givenBy canvas (now (reference .entry)) (now (book .entry)) (now (codebook .entry))) (taskBy (now (source .entry)) lambda radius four)) r (now (text .exit)) ⌝ }
+    requires { ⌜ Listable (givenBy canvas (now reference) (now book) (now codebook)) (taskBy (now source) settings) × Fresh (now out) (now recon) (now vx) (now vy) (now stated) × (listingRoom ≤ length (now text)) ⌝ }
+    ensures { λ r. ⌜ Put listingRoom (now (text .entry)) 0 (planeText (givenBy canvas (now (reference .entry)) (now (book .entry)) (now (codebook .entry))) (taskBy (now (source .entry)) settings)) r (now (text .exit)) ⌝ }
 {
     let cols = canvas.stride / 16;
     let samples = canvas.stride * canvas.rows;
@@ -107,9 +106,7 @@ fn list_into(
         reference,
         book,
         codebook,
-        lambda,
-        radius,
-        four,
+        settings,
         out,
         0,
         &mut recon[..samples],
@@ -127,13 +124,11 @@ fn list_plane(
     reference: &[u8],
     book: &[u8],
     codebook: &[u8],
-    lambda: u64,
-    radius: u8,
-    four: bool,
+    settings: Settings,
     text: &mut [u8],
 ) -> usize
-    requires { ⌜ Listable (givenBy canvas (now reference) (now book) (now codebook)) (taskBy (now source) lambda radius four) × (listingRoom ≤ length (now text)) ⌝ }
-    ensures { λ r. ⌜ Put listingRoom (now (text .entry)) 0 (planeText (givenBy canvas (now (reference .entry)) (now (book .entry)) (now (codebook .entry))) (taskBy (now (source .entry)) lambda radius four)) r (now (text .exit)) ⌝ }
+    requires { ⌜ Listable (givenBy canvas (now reference) (now book) (now codebook)) (taskBy (now source) settings) × (listingRoom ≤ length (now text)) ⌝ }
+    ensures { λ r. ⌜ Put listingRoom (now (text .entry)) 0 (planeText (givenBy canvas (now (reference .entry)) (now (book .entry)) (now (codebook .entry))) (taskBy (now (source .entry)) settings)) r (now (text .exit)) ⌝ }
 {
     let mut out = [0u8; 65536];
     let mut recon = [0u8; 25344];
@@ -146,9 +141,7 @@ fn list_plane(
         reference,
         book,
         codebook,
-        lambda,
-        radius,
-        four,
+        settings,
         &mut out,
         &mut recon,
         &mut vx,
@@ -183,17 +176,12 @@ fn list_job(
     if refused != 0 {
         return put_refused(text, refused);
     }
-    list_plane(
-        canvas,
-        source,
-        reference,
-        &held,
-        codebook,
-        job.lambda,
-        job.radius,
-        job.four,
-        text,
-    )
+    let settings = Settings {
+        lambda: job.lambda,
+        radius: job.radius,
+        four: job.four,
+    };
+    list_plane(canvas, source, reference, &held, codebook, settings, text)
 }
 
 // The listing of a plane, from the bytes of the program's files, put into a text. The answer is its length. A text of fewer than 16,384 bytes, in which not

@@ -19,19 +19,18 @@ use Rattle.tree.specs.Blocks.{gather}
 use Rattle.tree.specs.Plan.{Weight, Planning, cost}
 use Rattle.tree.specs.TreeBits.{planTree}
 use Rattle.macroblock.specs.Macroblock.{Given, cols, Motion, still, single, four, Choice, skipped, coded, halfOf, leftOf, topOf, baseline, shown, choiceBits}
+use Rattle.macroblock.specs.declared.svq1_enc_inter.Settings.{Settings}
 use Rattle.macroblock.specs.Limit.{Limit, unlimited, within, canSkipRest}
 
 -- what the writer is given besides
 pub record Task : Type 0 where
   pub source : List ℕ
-  pub lambda : ℕ
-  pub radius : ℕ
-  pub allowFour : Bool
+  pub settings : Settings
   pub limit : Limit
 
 -- the same with no limit
 abbrev pub withoutLimit : Task → Task
-withoutLimit t = record { source = t .source; lambda = t .lambda; radius = t .radius; allowFour = t .allowFour; limit = unlimited }
+withoutLimit t = record { source = t .source; settings = t .settings; limit = unlimited }
 
 -- the source, its last column and row repeated to whole macroblocks (`block`)
 unfoldable pub paddedSource : Given → Task → List ℕ
@@ -55,7 +54,7 @@ searchFor g t k p = record {
   x = leftOf g k;
   y = topOf g k;
   predictor = p;
-  radius = t .radius;
+  radius = t .settings .radius;
 }
 
 abbrev pub blockSearchFor : Given → Task → ℕ → ℕ → Svq1Mv → Search
@@ -68,7 +67,7 @@ blockSearchFor g t k j p = record {
   x = leftOf g k + 8 * (j % 2);
   y = topOf g k + 8 * (j / 2);
   predictor = p;
-  radius = t .radius;
+  radius = t .settings .radius;
 }
 
 abbrev pub ifFound : Option Svq1Mv → (Svq1Mv → List Motion) → List Motion
@@ -90,7 +89,7 @@ fourTried g t k n =
 
 -- INTER where its search finds, INTRA, and with the flag set INTER_4MV where its searches find
 unfoldable pub motionsTried : Given → Task → ℕ → Near → List Motion
-motionsTried g t k n = singleTried g t k n ++ (still ∷ pick (t .allowFour) (fourTried g t k n) [])
+motionsTried g t k n = singleTried g t k n ++ (still ∷ pick (t .settings .four) (fourTried g t k n) [])
 
 -- ---- plans
 abbrev pub skipsLeaves : Svq1Half → Bool
@@ -104,7 +103,7 @@ planningFor g t k m = record {
   vectors = vectorAt (g .codebook) (halfOf m);
   cap = stagesPerPage;
   allowSkip = skipsLeaves (halfOf m);
-  lambda = t .lambda;
+  lambda = t .settings .lambda;
   level = 5;
   target = target g t k;
   predictor = baseline g k m;
@@ -133,7 +132,7 @@ unfoldable pub beats : Given → Task → ℕ → Near → Choice → Choice →
 beats g t k n d c =
     let a = weightOf g t k n d in
     let b = weightOf g t k n c in
-    ltb (cost (t .lambda) a) (cost (t .lambda) b) || (eqb (cost (t .lambda) a) (cost (t .lambda) b) && ltb (a .bits) (b .bits))
+    ltb (cost (t .settings .lambda) a) (cost (t .settings .lambda) b) || (eqb (cost (t .settings .lambda) a) (cost (t .settings .lambda) b) && ltb (a .bits) (b .bits))
 
 -- the first that no later one beats
 unfoldable pub bestOf : Given → Task → ℕ → Near → Choice → List Choice → Choice

@@ -62,7 +62,7 @@ module _ (g : Given) (t : Task) where
 
   -- ---- what costs least
   abbrev pub costOf : ℕ → Near → Choice → ℕ
-  costOf k n c = cost (t .lambda) (weightOf g t k n c)
+  costOf k n c = cost (t .settings .lambda) (weightOf g t k n c)
 
   beats-is : (a b : ℕ) (p : Bool) (q : Bool) → ltb a b || (eqb a b && p) ≡ q → (q ≡ true → a ≤ b) × (q ≡ false → b ≤ a)
   beats-is a b p q e = go (ltb a b) (eqb a b) refl refl e

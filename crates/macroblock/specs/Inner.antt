@@ -7,7 +7,7 @@ use Rattle.book.specs.Book.{dataRefusal}
 use Rattle.codebook.specs.Raised.{raisedCodebook}
 use Rattle.canvas.specs.Canvas.{sizeRefusal, canvasRefusal}
 use Rattle.macroblock.specs.Macroblock.{Given, cols, rows}
-use Rattle.macroblock.specs.Slices.{Slices}
+use Rattle.macroblock.specs.Slices.{Slices, BlockSlice, blocksIn}
 use Rattle.canvas.specs.declared.svq1_plane.Svq1PlaneCanvas.{Svq1PlaneCanvas}
 
 -- what a call is given, by its parameters
@@ -30,8 +30,7 @@ pub record Accepted (g : Given) (raised : List ℕ) : Type 0 where
 -- the result slices pass 20
 pub record Held (g : Given) (s : Slices) : Type 0 where
   pub recon-whole : length (s .recon) ≡ g .reference .stride * g .reference .rows
-  pub vx-long : 4 * (rows g * cols g) ≤ length (s .vx)
-  pub vy-long : 4 * (rows g * cols g) ≤ length (s .vy)
+  pub blocks-long : (b : BlockSlice) → 4 * (rows g * cols g) ≤ length (blocksIn b s)
 
 -- a macroblock's bits look at nothing but the book
 abbrev pub byBook : List ℕ → Given

@@ -15,7 +15,7 @@ use Rattle.mv_cache.specs.GridLaws.{in-owner}
 use Rattle.canvas.specs.Canvas.{sizeRefusal}
 use Rattle.canvas.specs.CanvasLaws.{Fitting, plane-passes}
 use Rattle.macroblock.specs.Macroblock.{Given, cols, rows}
-use Rattle.macroblock.specs.Slices.{Slices}
+use Rattle.macroblock.specs.Slices.{Slices, xSlice, ySlice}
 use Rattle.macroblock.specs.Inner.{Accepted, Held}
 use Rattle.macroblock.specs.Samples.{Stands, Room}
 
@@ -60,8 +60,8 @@ module _ (g : Given) (raised : List ℕ) (ok : Accepted g raised) where
       wide = wide;
       cols-most = omega (arith, fits .width .most);
       rows-most = omega (arith, fits .height .most);
-      x-holds = omega (arith, held .vx-long, four-each (rows g) (cols g));
-      y-holds = omega (arith, held .vy-long, four-each (rows g) (cols g));
+      x-holds = omega (arith, held .blocks-long xSlice, four-each (rows g) (cols g));
+      y-holds = omega (arith, held .blocks-long ySlice, four-each (rows g) (cols g));
     }
 
     -- macroblock k in the reconstruction

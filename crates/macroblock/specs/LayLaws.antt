@@ -1,20 +1,23 @@
 -- Laws of a macroblock shown and laid into the result slices.
 -- Assumes nothing.
-use mathlib.Core.Path.{_≡_}
+use mathlib.Core.Path.{_≡_, refl}
 use mathlib.Core.Bool.{Bool, true, false}
 use mathlib.Core.List.{List}
 use Prim.Native.Nat.{ℕ, _*_, _/_, _<_}
 use native.Mathlib.Omega.{arith}
-use Rattle.bits.specs.Basics.{All}
+use lib.ListN.{length, getD}
+use Rattle.bits.specs.Basics.{All, signedOf}
 use Rattle.vectors.specs.declared.svq1_motion_predictor.Svq1Mv.{Svq1Mv}
 use Rattle.mv_cache.specs.Cache as cache
 use Rattle.canvas.specs.Canvas.{Canvas, blocksAlong}
-use Rattle.mv_cache.specs.Grid.{part}
-use Rattle.vectors.specs.VectorsLaws.{Inside}
+use Rattle.mv_cache.specs.Grid.{part, putPart}
+use Rattle.mv_cache.specs.GridLaws.{length-put}
+use Rattle.mv_cache.specs.NeighboursLaws.{stored-component}
+use Rattle.vectors.specs.VectorsLaws.{InRange, Inside}
 use Rattle.tree.specs.TreeBits.{Node}
 use Rattle.canvas.specs.declared.svq1_plane.Svq1PlaneCanvas.{Svq1PlaneCanvas}
 use Rattle.macroblock.specs.Macroblock.{Given, cols, rows, Motion, Choice, coded, vectorsOf, shown}
-use Rattle.macroblock.specs.Slices.{Slices, laid}
+use Rattle.macroblock.specs.Slices.{Slices, slicesBy, BlockSlice, xSlice, ySlice, blocksIn, storedIn, laid}
 use Rattle.macroblock.specs.Laying.{choiceBy, Laying, LaysChoice}
 use Rattle.macroblock.specs.Samples.{Stands, Room, Laid, Shows}
 use Rattle.macroblock.specs.SamplesLaws.{cols-is, skip-shown}
@@ -48,9 +51,31 @@ module _ (c : Svq1PlaneCanvas) (k : ℕ) (vs : List Svq1Mv) (recon vx vy : List 
       → LaysChoice c reference raised k d vs recon vx vy recon' vx' vy'
   lays reference raised d out recon' vx' vy' s l book codebook bytes r = rw (s book codebook bytes r, cols-by) at l
 
+-- what a choice leaves in the slices, slice by slice
+pub laid-recon : (g : Given) (k : ℕ) (c : Choice) (s : Slices) → laid g k c s .recon ≡ putPart 16 (cols g) k (shown g k c) (s .recon)
+unfolding laid
+laid-recon g k c s = refl
+
+pub laid-blocks : (b : BlockSlice) (g : Given) (k : ℕ) (c : Choice) (s : Slices) → blocksIn b (laid g k c s) ≡ putPart 2 (cols g) k (storedIn b c) (blocksIn b s)
+unfolding laid
+laid-blocks xSlice g k c s = refl
+laid-blocks ySlice g k c s = refl
+
+-- and their lengths stay
+pub recon-kept : (g : Given) (k : ℕ) (c : Choice) (s : Slices) → length (laid g k c s .recon) ≡ length (s .recon)
+recon-kept g k c s = rw (laid-recon g k c s) (length-put 16 (cols g) k (shown g k c) (s .recon))
+
+pub blocks-kept : (b : BlockSlice) (g : Given) (k : ℕ) (c : Choice) (s : Slices) → length (blocksIn b (laid g k c s)) ≡ length (blocksIn b s)
+blocks-kept b g k c s = rw (laid-blocks b g k c s) (length-put 2 (cols g) k (storedIn b c) (blocksIn b s))
+
+-- vectors in -32..31 are stored so
+pub stored-ranged : (b : BlockSlice) (c : Choice) → All Inside (vectorsOf c) → (j : ℕ) → InRange (signedOf (getD (storedIn b c) j 0))
+stored-ranged xSlice c h = stored-component (λ v. v .x) (λ v i. i .x-in) (vectorsOf c) h
+stored-ranged ySlice c h = stored-component (λ v. v .y) (λ v i. i .y-in) (vectorsOf c) h
+
 -- slices with a choice's samples and vectors put there are the slices that it leaves
 pub laid-is : (g : Given) (k : ℕ) (d : Choice) (u : Slices) (vs : List Svq1Mv) (recon' vx' vy' : List ℕ) → vs ≡ vectorsOf d
-    → Laid (cols g) k (shown g k d) vs (u .recon) (u .vx) (u .vy) recon' vx' vy' → record { recon = recon'; vx = vx'; vy = vy' } ≡ laid g k d u
+    → Laid (cols g) k (shown g k d) vs (u .recon) (u .vx) (u .vy) recon' vx' vy' → slicesBy recon' vx' vy' ≡ laid g k d u
 unfolding laid
 laid-is g k d u vs recon' vx' vy' e l =
     let x = rw e at (l .vx-put) in

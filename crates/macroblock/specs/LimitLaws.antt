@@ -83,7 +83,7 @@ less-through x p y q z r e f =
 
 module _ (g : Given) (t : Task) (k : ℕ) (n : Near) where
   abbrev costs : Choice → ℕ
-  costs c = cost (t .lambda) (weightOf g t k n c)
+  costs c = cost (t .settings .lambda) (weightOf g t k n c)
 
   abbrev weighs : Choice → ℕ
   weighs c = weightOf g t k n c .bits

@@ -254,7 +254,7 @@ module _ (g : Given) (t : Task) (ok : Fine g t) where
 
   pub motions-codable : (k : ℕ) (n : Near) → All (Codables n) (motionsTried g t k n)
   unfolding motionsTried
-  motions-codable k n = all-append (Codables n) (singleTried g t k n) _ (single-codable k n) (tt, flag-codable k n (t .allowFour))
+  motions-codable k n = all-append (Codables n) (singleTried g t k n) _ (single-codable k n) (tt, flag-codable k n (t .settings .four))
 
   pub tried-good : (k : ℕ) (n : Near) → All (Good k n) (tried g t k n)
   unfolding tried
@@ -266,16 +266,16 @@ module _ (g : Given) (t : Task) (ok : Fine g t) where
   chosen-good k n spent = chosen-one g t (Good k n) k n spent (tried-good k n)
 
   -- ---- at this lambda nothing saturates
-  module _ (low : t .lambda ≤ largestLambda) where
-    plain : (k : ℕ) (n : Near) (c : Choice) → Good k n c → costOf g t k n c ≡ total (t .lambda) (weightOf g t k n c)
+  module _ (low : t .settings .lambda ≤ largestLambda) where
+    plain : (k : ℕ) (n : Near) (c : Choice) → Good k n c → costOf g t k n c ≡ total (t .settings .lambda) (weightOf g t k n c)
     unfolding weightOf
     plain k n c h =
         let e = near-24 (target g t k) (shown g k c) (target-block k) (h .block) in
-        let l : t .lambda * length (choiceBits g n c) ≤ 2 ^ 48 * 3135 = mul-le-mul low (h .short) in
+        let l : t .settings .lambda * length (choiceBits g n c) ≤ 2 ^ 48 * 3135 = mul-le-mul low (h .short) in
         omega arith
 
     abbrev NotBelow : ℕ → Near → ℕ → Choice → Type 0
-    NotBelow k n spent c = total (t .lambda) (weightOf g t k n (chosen g t k n spent)) ≤ total (t .lambda) (weightOf g t k n c)
+    NotBelow k n spent c = total (t .settings .lambda) (weightOf g t k n (chosen g t k n spent)) ≤ total (t .settings .lambda) (weightOf g t k n c)
 
     -- no mode that fits costs less than the one written
     pub chosen-least : (k : ℕ) (n : Near) (spent : ℕ) → All (NotBelow k n spent) (fitting g t k n spent)

@@ -12,6 +12,24 @@ pub record Slices : Type 0 where
   pub vx : List ℕ
   pub vy : List ℕ
 
+-- the same, each slice by its samples or bytes
+abbrev pub slicesBy : List ℕ → List ℕ → List ℕ → Slices
+slicesBy recon vx vy = record { recon = recon; vx = vx; vy = vy }
+
+-- those of them that hold one byte for each 8×8 block, four a macroblock
+pub data BlockSlice : Type 0 where
+  xSlice : BlockSlice
+  ySlice : BlockSlice
+
+abbrev pub blocksIn : BlockSlice → Slices → List ℕ
+blocksIn xSlice s = s .vx
+blocksIn ySlice s = s .vy
+
+-- the four bytes that a choice leaves in it: a component of each block's vector
+abbrev pub storedIn : BlockSlice → Choice → List ℕ
+storedIn xSlice c = map (λ v. signedByte (v .x)) (vectorsOf c)
+storedIn ySlice c = map (λ v. signedByte (v .y)) (vectorsOf c)
+
 -- the neighbours of macroblock k, as the vectors of the macroblocks before it were left
 abbrev pub near : Given → Slices → ℕ → Near
 near g s k = nearOf (cols g) (rows g) (s .vx) (s .vy) k
@@ -20,6 +38,6 @@ near g s k = nearOf (cols g) (rows g) (s .vx) (s .vy) k
 unfoldable pub laid : Given → ℕ → Choice → Slices → Slices
 laid g k c s = record {
   recon = putPart 16 (cols g) k (shown g k c) (s .recon);
-  vx = putPart 2 (cols g) k (map (λ v. signedByte (v .x)) (vectorsOf c)) (s .vx);
-  vy = putPart 2 (cols g) k (map (λ v. signedByte (v .y)) (vectorsOf c)) (s .vy);
+  vx = putPart 2 (cols g) k (storedIn xSlice c) (s .vx);
+  vy = putPart 2 (cols g) k (storedIn ySlice c) (s .vy);
 }

@@ -25,6 +25,13 @@ impl Svq1MbMode {
     }
 }
 
+// How a plane is written: what a bit costs against the squared error, how far a motion search goes, and whether four vectors are tried.
+pub struct Settings {
+    pub lambda: u64,
+    pub radius: u8,
+    pub four: bool,
+}
+
 // A macroblock's motion: none, one vector with its difference, as it is written or was read, or four, which lie in an array beside it.
 pub enum MbMotion {
     None,

@@ -14,6 +14,7 @@ use Rattle.tree.specs.Nodes.{treeOf}
 use Rattle.costs.specs.Cost.{costOf}
 use Rattle.tree.specs.TreeBits.{planTree}
 use Rattle.macroblock_choice.specs.declared.inner.candidates.MbCandidate.{MbCandidate}
+use Rattle.macroblock.specs.declared.svq1_enc_inter.Settings.{Settings}
 use Rattle.macroblock.specs.declared.svq1_enc_inter.MbMotion.{MbMotion}
 use Rattle.macroblock.specs.declared.svq1_enc_inter.MbMotion.the-variants.{None}
 use Rattle.macroblock.specs.declared.svq1_enc_inter.Svq1MbMode.{Svq1MbMode}
@@ -76,10 +77,10 @@ codedFor g t k m = coded m (planTree (planningFor g t k m))
 abbrev pub inRoom : Given → Task → ℕ → Near → ℕ → Choice → Bool
 inRoom g t k n room c = leb (weightOf g t k n c .bits) room
 
--- r is the best of the candidate c and of the motions ms that have room, for every task that asks for this block with this lambda
-pub record Tried (g : Given) (block : List ℕ) (lambda room k : ℕ) (n : Near) (ms : List Motion) (c r : MbCandidate) : Type 0 where
+-- r is the best of the candidate c and of the motions ms that have room, for every task that asks for this block under these settings
+pub record Tried (g : Given) (block : List ℕ) (settings : Settings) (room k : ℕ) (n : Near) (ms : List Motion) (c r : MbCandidate) : Type 0 where
   pub stated : Stated g block k n r
-  pub is : (t : Task) → block ≡ target g t k → lambda ≡ t .lambda → choiceOf r ≡ bestOf g t k n (choiceOf c) (passing (inRoom g t k n room) (map (codedFor g t k) ms))
+  pub is : (t : Task) → block ≡ target g t k → settings ≡ t .settings → choiceOf r ≡ bestOf g t k n (choiceOf c) (passing (inRoom g t k n room) (map (codedFor g t k) ms))
 
 -- the best of SKIP and of all others that have room
 unfoldable pub chosenIn : Given → Task → ℕ → Near → ℕ → Choice

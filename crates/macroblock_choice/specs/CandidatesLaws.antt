@@ -20,6 +20,7 @@ use Rattle.tree.specs.Nodes.{treeOf}
 use Rattle.costs.specs.Cost.{costOf}
 use Rattle.tree.specs.TreeBits.{Node, treeBits}
 use Rattle.macroblock_choice.specs.declared.inner.candidates.MbCandidate.{MbCandidate}
+use Rattle.macroblock.specs.declared.svq1_enc_inter.Settings.{Settings}
 use Rattle.macroblock.specs.declared.svq1_enc_inter.MbMotion.{MbMotion}
 use Rattle.macroblock.specs.declared.svq1_enc_inter.Svq1MbMode.the-variants as Mode
 use Rattle.macroblock.specs.Macroblock.{Given, Motion, still, single, four, Choice, skipped, coded, modeOf, motionMode, halfOf, vectorsOf, referenceBlock, shown, vectorBits, motionBits, modeBits, choiceBits}
@@ -122,13 +123,13 @@ pick-choice : (f : Bool) (d c : MbCandidate) → choiceOf (pick f d c) ≡ pick 
 pick-choice true d c = refl
 pick-choice false d c = refl
 
-module _ (g : Given) (block : List ℕ) (lambda room k : ℕ) (n : Near) where
+module _ (g : Given) (block : List ℕ) (settings : Settings) (room k : ℕ) (n : Near) where
   pick-stated : (f : Bool) (d c : MbCandidate) → Stated g block k n d → Stated g block k n c → Stated g block k n (pick f d c)
   pick-stated true d c h j = h
   pick-stated false d c h j = j
 
-  preferred-beats : (t : Task) (d c : MbCandidate) → Stated g block k n d → Stated g block k n c → block ≡ target g t k → lambda ≡ t .lambda
-      → preferred lambda d c ≡ beats g t k n (choiceOf d) (choiceOf c)
+  preferred-beats : (t : Task) (d c : MbCandidate) → Stated g block k n d → Stated g block k n c → block ≡ target g t k → settings ≡ t .settings
+      → preferred (settings .lambda) d c ≡ beats g t k n (choiceOf d) (choiceOf c)
   unfolding preferred beats weightOf
   preferred-beats t d c h j eb el = rw (h .bits, h .error, j .bits, j .error, eb, el)
 
@@ -142,18 +143,18 @@ module _ (g : Given) (block : List ℕ) (lambda room k : ℕ) (n : Near) where
   one-kept t c d false = refl
 
   -- no motion to try, and one
-  pub tried-none : (c : MbCandidate) (ms : List Motion) → ms ≡ [] → Stated g block k n c → Tried g block lambda room k n ms c c
+  pub tried-none : (c : MbCandidate) (ms : List Motion) → ms ≡ [] → Stated g block k n c → Tried g block settings room k n ms c c
   unfolding bestOf passing
   tried-none c ms e h = record { stated = h; is = λ t eb el. rw e }
 
   pub tried-one : (m : Motion) (ms : List Motion) (c d r : MbCandidate) → ms ≡ m ∷ [] → Stated g block k n c → Stated g block k n d
-      → ((t : Task) → block ≡ target g t k → lambda ≡ t .lambda → choiceOf d ≡ codedFor g t k m)
-      → r ≡ pick (keeps lambda room c d) d c → Tried g block lambda room k n ms c r
+      → ((t : Task) → block ≡ target g t k → settings ≡ t .settings → choiceOf d ≡ codedFor g t k m)
+      → r ≡ pick (keeps (settings .lambda) room c d) d c → Tried g block settings room k n ms c r
   unfolding passing
   tried-one m ms c d r e hc hd ed er = record {
-    stated = rw er (pick-stated (keeps lambda room c d) d c hd hc);
+    stated = rw er (pick-stated (keeps (settings .lambda) room c d) d c hd hc);
     is = λ t eb el.
-        ap choiceOf er ∙ pick-choice (keeps lambda room c d) d c
+        ap choiceOf er ∙ pick-choice (keeps (settings .lambda) room c d) d c
         ∙ rw (e, preferred-beats t d c hd hc eb el, room-is t d hd, ed t eb el) (sym (one-kept t (choiceOf c) (codedFor g t k m) (inRoom g t k n room (codedFor g t k m))));
   }
 
@@ -177,15 +178,15 @@ module _ (g : Given) (block : List ℕ) (lambda room k : ℕ) (n : Near) where
       ∙ best-append t c (among t xs) (among t ys)
 
   -- SKIP first, then one vector, none, and four
-  pub chosen-is : (t : Task) (s a b r : MbCandidate) (one none more : List Motion) → block ≡ target g t k → lambda ≡ t .lambda → choiceOf s ≡ skipped
-      → Tried g block lambda room k n one s a → Tried g block lambda room k n none a b → Tried g block lambda room k n more b r
-      → one ≡ singleTried g t k n → none ≡ still ∷ [] → more ≡ pick (t .allowFour) (fourTried g t k n) [] → choiceOf r ≡ chosenIn g t k n room
+  pub chosen-is : (t : Task) (s a b r : MbCandidate) (one none more : List Motion) → block ≡ target g t k → settings ≡ t .settings → choiceOf s ≡ skipped
+      → Tried g block settings room k n one s a → Tried g block settings room k n none a b → Tried g block settings room k n more b r
+      → one ≡ singleTried g t k n → none ≡ still ∷ [] → more ≡ pick (t .settings .four) (fourTried g t k n) [] → choiceOf r ≡ chosenIn g t k n room
   unfolding chosenIn motionsTried
   chosen-is t s a b r one none more eb el es ha hb hr e1 e2 e3 =
       hr .is t eb el
       ∙ rw (hb .is t eb el, ha .is t eb el, es, e1, e2, e3)
-      (sym (best-both t skipped (singleTried g t k n) (still ∷ pick (t .allowFour) (fourTried g t k n) [])
-      ∙ best-both t (bestOf g t k n skipped (among t (singleTried g t k n))) (still ∷ []) (pick (t .allowFour) (fourTried g t k n) [])))
+      (sym (best-both t skipped (singleTried g t k n) (still ∷ pick (t .settings .four) (fourTried g t k n) [])
+      ∙ best-both t (bestOf g t k n skipped (among t (singleTried g t k n))) (still ∷ []) (pick (t .settings .four) (fourTried g t k n) [])))
 
 -- the error of SKIP, by the reference's block as it was taken
 pub skip-error : (g : Given) (k cols e : ℕ) (block here : List ℕ) → cols ≡ blocksAlong (g .width) → e ≡ sse block here → here ≡ part 16 cols k (g .reference .samples) → e ≡ sse block (referenceBlock g k)

@@ -12,6 +12,7 @@ use Rattle.tree.specs.Plan.{Planning}
 use Rattle.tree.specs.TreeBits.{planTree}
 use Rattle.macroblock_choice.specs.declared.inner.candidates.MbCandidate.{MbCandidate}
 use Rattle.macroblock.specs.declared.svq1_enc_inter.MbMotion.{MbMotion}
+use Rattle.macroblock.specs.declared.svq1_enc_inter.Settings.{Settings}
 use Rattle.macroblock.specs.Macroblock.{Given, cols, rows, Motion, coded, halfOf, vectorsOf, baseline}
 use Rattle.macroblock.specs.Limit.{Limit, unlimited, canSkipRest}
 use Rattle.macroblock.specs.Choice.{Task, target, skipsLeaves}
@@ -21,12 +22,12 @@ use Rattle.macroblock_choice.specs.Candidates.{choiceOf, Stated, chosenI
 use Rattle.plan.specs.Planning.{planningIn}
 
 -- what a writer is asked, by its parameters
-abbrev pub taskIn : List ℕ → ℕ → ℕ → Bool → Limit → Task
-taskIn source lambda radius four limit = record { source = source; lambda = lambda; radius = radius; allowFour = four; limit = limit }
+abbrev pub taskIn : List ℕ → Settings → Limit → Task
+taskIn source settings limit = record { source = source; settings = settings; limit = limit }
 
 -- with no limit
-abbrev pub taskBy : List ℕ → ℕ → ℕ → Bool → Task
-taskBy source lambda radius four = taskIn source lambda radius four unlimited
+abbrev pub taskBy : List ℕ → Settings → Task
+taskBy source settings = taskIn source settings unlimited
 
 -- more bits than any macroblock takes
 abbrev pub ampleRoom : ℕ
@@ -50,8 +51,8 @@ pub record Sourced (g : Given) (raised source : List ℕ) (k : ℕ) : Type 0 whe
 
 -- ---- one motion
 -- its plan, by the block and not by the source
-abbrev pub planningBy : Given → List ℕ → ℕ → ℕ → Motion → Planning
-planningBy g block lambda k m = planningIn (halfOf m) (g .book) (g .codebook) stagesPerPage (skipsLeaves (halfOf m)) lambda 5 block (baseline g k m)
+abbrev pub planningBy : Given → List ℕ → Settings → ℕ → Motion → Planning
+planningBy g block settings k m = planningIn (halfOf m) (g .book) (g .codebook) stagesPerPage (skipsLeaves (halfOf m)) (settings .lambda) 5 block (baseline g k m)
 
 -- the vectors beside a motion are those that it stores, and one vector goes with its difference
 pub record Carries (n : Near) (m : MbMotion) (vs : List Svq1Mv) : Type 0 where
@@ -59,14 +60,14 @@ pub record Carries (n : Near) (m : MbMotion) (vs : List Svq1Mv) : Type 0 where
   pub differs : Differs n m
 
 -- the candidate of a motion
-pub record Made (g : Given) (block : List ℕ) (lambda k : ℕ) (n : Near) (m : Motion) (r : MbCandidate) : Type 0 where
-  pub is : choiceOf r ≡ coded m (planTree (planningBy g block lambda k m))
+pub record Made (g : Given) (block : List ℕ) (settings : Settings) (k : ℕ) (n : Near) (m : Motion) (r : MbCandidate) : Type 0 where
+  pub is : choiceOf r ≡ coded m (planTree (planningBy g block settings k m))
   pub stated : Stated g block k n r
 
 -- ---- the best of all
-pub record ChosenFor (g : Given) (block : List ℕ) (lambda radius : ℕ) (four : Bool) (room k : ℕ) (n : Near) (r : MbCandidate) : Type 0 where
+pub record ChosenFor (g : Given) (block : List ℕ) (settings : Settings) (room k : ℕ) (n : Near) (r : MbCandidate) : Type 0 where
   pub stated : Stated g block k n r
-  pub is : (t : Task) → block ≡ target g t k → lambda ≡ t .lambda → radius ≡ t .radius → four ≡ t .allowFour → choiceOf r ≡ chosenIn g t k n room
+  pub is : (t : Task) → block ≡ target g t k → settings ≡ t .settings → choiceOf r ≡ chosenIn g t k n room
 
 pub record ChosenBy (g : Given) (t : Task) (room k : ℕ) (n : Near) (r : MbCandidate) : Type 0 where
   pub stated : Stated g (target g t k) k n r

@@ -19,6 +19,7 @@ use Rattle.tree.specs.Plan.{Planning, Weight}
 use Rattle.plan.specs.PlanClaimLaws.{Planned, plan-bits, plan-error, plan-short}
 use Rattle.tree.specs.TreeBits.{planTree, treeBits}
 use Rattle.macroblock_choice.specs.declared.inner.candidates.MbCandidate.{MbCandidate}
+use Rattle.macroblock.specs.declared.svq1_enc_inter.Settings.{Settings}
 use Rattle.macroblock.specs.declared.svq1_enc_inter.MbMotion.{MbMotion}
 use Rattle.canvas.specs.declared.svq1_plane.Svq1PlaneCanvas.{Svq1PlaneCanvas}
 use Rattle.macroblock.specs.Macroblock.{Given, rows, Motion, skipped, coded, halfOf, baseline, shown}
@@ -40,9 +41,9 @@ use Rattle.macroblock_choice.specs.Chosen.{taskIn, planningBy, Placing, 
 
 -- ---- a motion's plan
 bare : Task
-bare = record { source = []; lambda = 0; radius = 0; allowFour = false; limit = unlimited }
+bare = record { source = []; settings = record { lambda = 0; radius = 0; four = false }; limit = unlimited }
 
-module _ (g : Given) (raised : List ℕ) (k : ℕ) (block : List ℕ) (ready : Placing g raised k block) (bytes : Bytes block) (reference : Bytes (g .reference .samples)) (lambda : ℕ) (m : Motion) where
+module _ (g : Given) (raised : List ℕ) (k : ℕ) (block : List ℕ) (ready : Placing g raised k block) (bytes : Bytes block) (reference : Bytes (g .reference .samples)) (settings : Settings) (m : Motion) where
   fine : Fine g bare
   unfolding bare
   fine = record { book = book-passes g raised (ready .ok); source-bytes = λ j. omega arith; reference-bytes = reference }
@@ -51,7 +52,7 @@ module _ (g : Given) (raised : List ℕ) (k : ℕ) (block : List ℕ) (ready : P
   inter-skips Intra e = absurd (true≢false (sym e))
   inter-skips Inter e = refl
 
-  pub planned-by : Planned (planningBy g block lambda k m)
+  pub planned-by : Planned (planningBy g block settings k m)
   planned-by = record {
     tables = good-tables (g .book) (book-passes g raised (ready .ok)) (halfOf m);
     sized = vectors-sized (g .codebook) (halfOf m);
@@ -78,40 +79,40 @@ module _ (g : Given) (raised : List ℕ) (k : ℕ) (block : List ℕ) (ready : P
     predictor-long = eu;
   }
 
-  module _ (p : MbPlan) (found : PlanFound (planningBy g block lambda k m) p) where
+  module _ (p : MbPlan) (found : PlanFound (planningBy g block settings k m) p) where
     pub plan-few : p .bits ≤ 65536
     plan-few =
-        let e : p .bits ≡ length (treeBits (tablesOf (g .book) (halfOf m)) (planTree (planningBy g block lambda k m))) =
-        ap (λ (w : Weight). w .bits) (found .weighs) ∙ plan-bits (planningBy g block lambda k m) planned-by in
-        omega (arith, plan-short (planningBy g block lambda k m) planned-by)
+        let e : p .bits ≡ length (treeBits (tablesOf (g .book) (halfOf m)) (planTree (planningBy g block settings k m))) =
+        ap (λ (w : Weight). w .bits) (found .weighs) ∙ plan-bits (planningBy g block settings k m) planned-by in
+        omega (arith, plan-short (planningBy g block settings k m) planned-by)
 
     pub made-by : (n : Near) (motion : MbMotion) (vectors : List Svq1Mv) (r : MbCandidate) → m ≡ motionOf motion vectors → Carries n motion vectors
-        → CandidateOf (g .book) n motion vectors (p .blocks) (p .bits) (p .error) r → Made g block lambda k n m r
+        → CandidateOf (g .book) n motion vectors (p .blocks) (p .bits) (p .error) r → Made g block settings k n m r
     unfolding shown
     made-by n motion vectors r em ev c =
         let is : choiceOf r ≡ coded m (treeOf (p .blocks)) = rw em (coded-is g block k n motion vectors (p .blocks) (p .bits) (p .error) r c) in
         record {
           is = rw (found .tree) at is;
           stated = coded-stated g block k n motion vectors (p .blocks) (p .bits) (p .error) r c (ev .stored) (ev .differs)
-              (rw (← em, found .tree) (ap (λ (w : Weight). w .bits) (found .weighs) ∙ plan-bits (planningBy g block lambda k m) planned-by))
-              (rw (← em, found .tree) (ap (λ (w : Weight). w .err) (found .weighs) ∙ plan-error (planningBy g block lambda k m) planned-by));
+              (rw (← em, found .tree) (ap (λ (w : Weight). w .bits) (found .weighs) ∙ plan-bits (planningBy g block settings k m) planned-by))
+              (rw (← em, found .tree) (ap (λ (w : Weight). w .err) (found .weighs) ∙ plan-error (planningBy g block settings k m) planned-by));
         }
 
   -- by the block and by the source it is the same
-  pub planned-same : (t : Task) → block ≡ target g t k → lambda ≡ t .lambda → planningBy g block lambda k m ≡ planningFor g t k m
+  pub planned-same : (t : Task) → block ≡ target g t k → settings ≡ t .settings → planningBy g block settings k m ≡ planningFor g t k m
   unfolding planningFor
   planned-same t eb el = rw (eb, el)
 
   -- a plan by the half, the flag and the baseline as they were computed
   pub found-by : (p : MbPlan) (h : Svq1Half) (s : Bool) (under : List ℕ) → h ≡ halfOf m → s ≡ skipsLeaves h → under ≡ baseline g k m
-      → PlanFound (planningIn h (g .book) (g .codebook) 6 s lambda 5 block under) p → PlanFound (planningBy g block lambda k m) p
+      → PlanFound (planningIn h (g .book) (g .codebook) 6 s (settings .lambda) 5 block under) p → PlanFound (planningBy g block settings k m) p
   found-by p h s under eh es eu f = rw (es, eh, eu) at f
 
   -- a motion that was found, if it is better
-  pub try-one : (room : ℕ) (n : Near) (ms : List Motion) (c d r : MbCandidate) → ms ≡ m ∷ [] → Stated g block k n c → Made g block lambda k n m d
-      → r ≡ pick (keeps lambda room c d) d c → Tried g block lambda room k n ms c r
+  pub try-one : (room : ℕ) (n : Near) (ms : List Motion) (c d r : MbCandidate) → ms ≡ m ∷ [] → Stated g block k n c → Made g block settings k n m d
+      → r ≡ pick (keeps (settings .lambda) room c d) d c → Tried g block settings room k n ms c r
   try-one room n ms c d r e hc hd er =
-      tried-one g block lambda room k n m ms c d r e hc (hd .stated)
+      tried-one g block settings room k n m ms c d r e hc (hd .stated)
       (λ t eb el. hd .is ∙ ap (λ (x : Planning). coded m (planTree x)) (planned-same t eb el)) er
 
 -- ---- all motions
@@ -120,21 +121,22 @@ pub searching : (v : Svq1PlaneCanvas) (reference book codebook raised : List ℕ
 searching v reference book codebook raised k block p =
     record { fits = fits (givenBy v reference book codebook) raised (p .ok); number = p .number; whole = p .whole }
 
-module _ (v : Svq1PlaneCanvas) (reference book codebook block : List ℕ) (lambda radius : ℕ) (allow : Bool) (room k : ℕ) (n : Near) where
+module _ (v : Svq1PlaneCanvas) (reference book codebook block : List ℕ) (settings : Settings) (room k : ℕ) (n : Near) where
   abbrev plane : Given
   plane = givenBy v reference book codebook
 
   pub chosen-for : (s a b r : MbCandidate) (one none more : FoundMotion) → choiceOf s ≡ skipped
-      → MotionsFound v reference block radius k n (λ g t. singleTried g t k n) one
+      → MotionsFound v reference block (settings .radius) k n (λ g t. singleTried g t k n) one
       → none ≡ stillFound
-      → MotionsFound v reference block radius k n (λ g t. pick allow (fourTried g t k n) []) more
-      → Tried plane block lambda room k n (motionsOf one) s a → Tried plane block lambda room k n (motionsOf none) a b → Tried plane block lambda room k n (motionsOf more) b r
-      → ChosenFor plane block lambda radius allow room k n r
-  chosen-for s a b r one none more es f1 f2 f3 ha hb hr = record {
+      → MotionsFound v reference block (settings .radius) k n (λ g t. pick (settings .four) (fourTried g t k n) []) more
+      → Tried plane block settings room k n (motionsOf one) s a → Tried plane block settings room k n (motionsOf none) a b → Tried plane block settings room k n (motionsOf more) b r
+      → ChosenFor plane block settings room k n r
+  chosen-for s a b r one none more es0 f1 f2 f3 ha hb hr = record {
     stated = hr .stated;
-    is = λ t eb el er ef.
-        chosen-is plane block lambda room k n t s a b r (motionsOf one) (motionsOf none) (motionsOf more) eb el es ha hb hr
-        (f1 .are book codebook t eb er) (ap motionsOf f2) (rw ef at (f3 .are book codebook t eb er));
+    is = λ t eb es.
+        chosen-is plane block settings room k n t s a b r (motionsOf one) (motionsOf none) (motionsOf more) eb es es0 ha hb hr
+        (f1 .are book codebook t eb (ap (λ (x : Settings). x .radius) es)) (ap motionsOf f2)
+        (rw (ap (λ (x : Settings). x .four) es) at (f3 .are book codebook t eb (ap (λ (x : Settings). x .radius) es)));
   }
 
 -- ---- the block of a source
@@ -151,16 +153,16 @@ module _ (g : Given) (raised source : List ℕ) (k : ℕ) (p : Sourced g raised 
         number = p .number;
       }
 
-  block-is : (lambda radius : ℕ) (allow : Bool) (limit : Limit) (block : List ℕ) → block ≡ targetOf (g .width) (g .height) source k → block ≡ target g (taskIn source lambda radius allow limit) k
-  block-is lambda radius allow limit block e =
+  block-is : (settings : Settings) (limit : Limit) (block : List ℕ) → block ≡ targetOf (g .width) (g .height) source k → block ≡ target g (taskIn source settings limit) k
+  block-is settings limit block e =
       let f = fits g raised (p .ok) in
-      e ∙ target-is g (taskIn source lambda radius allow limit) k (f .stride) (f .rows) (p .number) (wide g raised (p .ok))
+      e ∙ target-is g (taskIn source settings limit) k (f .stride) (f .rows) (p .number) (wide g raised (p .ok))
 
   pub block-placed : (block : List ℕ) → block ≡ targetOf (g .width) (g .height) source k → Placing g raised k block
   block-placed block e = record { ok = p .ok; number = p .number; whole = ap length e ∙ target-long (g .width) (g .height) source k }
 
-  pub chosen-by : (lambda radius : ℕ) (allow : Bool) (room : ℕ) (block : List ℕ) (n : Near) (r : MbCandidate) → block ≡ targetOf (g .width) (g .height) source k
-      → ChosenFor g block lambda radius allow room k n r → (limit : Limit) → ChosenBy g (taskIn source lambda radius allow limit) room k n r
-  chosen-by lambda radius allow room block n r e h limit =
-      let q = block-is lambda radius allow limit block e in
-      record { stated = rw q at (h .stated); is = h .is (taskIn source lambda radius allow limit) q refl refl refl }
+  pub chosen-by : (settings : Settings) (room : ℕ) (block : List ℕ) (n : Near) (r : MbCandidate) → block ≡ targetOf (g .width) (g .height) source k
+      → ChosenFor g block settings room k n r → (limit : Limit) → ChosenBy g (taskIn source settings limit) room k n r
+  chosen-by settings room block n r e h limit =
+      let q = block-is settings limit block e in
+      record { stated = rw q at (h .stated); is = h .is (taskIn source settings limit) q refl }

@@ -18,7 +18,7 @@ use Rattle.canvas.specs.declared.svq1_plane.Svq1PlaneCanvas.{Svq1PlaneCanvas}
 use Rattle.macroblock_dec.specs.declared.inner.reading.ReadChoice.{ReadChoice}
 use Rattle.macroblock.specs.Macroblock.{Given, cols, rows, Choice, halfOf}
 use Rattle.macroblock.specs.Reading.{readMacroblock}
-use Rattle.macroblock.specs.Slices.{Slices, near}
+use Rattle.macroblock.specs.Slices.{Slices, slicesBy, near}
 use Rattle.macroblock.specs.Inner.{givenBy, byBook}
 use Rattle.macroblock.specs.InnerLaws.{fits, book-passes, stands, vectors-held, recon-held}
 use Rattle.macroblock_dec.specs.Finding.{readMotionOf, choiceOf, modeDifference, ChoiceFound}
@@ -81,7 +81,7 @@ module _ (c : Svq1PlaneCanvas) (reference book codebook raised s : List ℕ) (at
       )
 
       pub call-laid : (recon' vx' vy' : List ℕ) → Bytes codebook → LaysChoice c reference raised k (choiceOf r) (r .vectors) (u .recon) (u .vx) (u .vy) recon' vx' vy'
-          → MbRead g s at k u (record { refused = 0; next = r .next }) (record { recon = recon'; vx = vx'; vy = vy' })
+          → MbRead g s at k u (record { refused = 0; next = r .next }) (slicesBy recon' vx' vy')
       call-laid recon' vx' vy' bytes l =
           let is : got (choiceOf r) (drop (r .next) (bitsOf s)) ≡ here = rw (eq-eqb (r .refused) 0 z) at (f .found .is) in
           record {

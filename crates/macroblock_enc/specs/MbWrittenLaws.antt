@@ -17,6 +17,7 @@ use Rattle.tree.specs.Walk.{SoundTree}
 use Rattle.macroblock_choice.specs.declared.inner.candidates.MbCandidate.{MbCandidate}
 use Rattle.canvas.specs.Canvas.{largestSide, blocksAlong}
 use Rattle.canvas.specs.declared.svq1_plane.Svq1PlaneCanvas.{Svq1PlaneCanvas}
+use Rattle.macroblock.specs.declared.svq1_enc_inter.Settings.{Settings}
 use Rattle.macroblock.specs.declared.svq1_enc_inter.Svq1MbMode.the-variants.{Skip}
 use Rattle.macroblock.specs.Macroblock.{Given, cols, rows, Motion, coded, modeOf, halfOf, modeBits}
 use Rattle.bits.specs.ListLaws.{all-map}
@@ -24,7 +25,7 @@ use Rattle.macroblock.specs.MacroblockLaws.{Fine, Good, tried-good, Codables, p
 use Rattle.macroblock.specs.LimitLaws.{skip-fits}
 use Rattle.macroblock.specs.Choice.{Task, planningFor, motionsTried, tried, weightOf}
 use Rattle.macroblock.specs.Motions.{motionOf}
-use Rattle.macroblock.specs.Slices.{Slices, near}
+use Rattle.macroblock.specs.Slices.{Slices, slicesBy, near}
 use Rattle.macroblock.specs.Inner.{givenBy}
 use Rattle.macroblock.specs.InnerLaws.{fits, book-passes, stands, vectors-held, recon-held}
 use Rattle.macroblock_choice.specs.Candidates.{skips, choiceOf, codedFor}
@@ -71,13 +72,13 @@ module _ (g : Given) (raised source : List ℕ) (k bytes at : ℕ) (s : Slices) 
     stays = reserved g k spent (ready .number) limit few-blocks x;
   }
 
-module _ (v : Svq1PlaneCanvas) (reference book codebook raised source : List ℕ) (lambda radius : ℕ) (allow : Bool) (limit : BitLimit) (spent k at : ℕ) (out : List ℕ) (s : Slices)
+module _ (v : Svq1PlaneCanvas) (reference book codebook raised source : List ℕ) (settings : Settings) (limit : BitLimit) (spent k at : ℕ) (out : List ℕ) (s : Slices)
     (ready : MbReady (givenBy v reference book codebook) raised source k (length out) at s) (source-bytes : Bytes source) (reference-bytes : Bytes reference) (spends : Spends (givenBy v reference book codebook) limit k spent) where
   abbrev g : Given
   g = givenBy v reference book codebook
 
   abbrev t : Task
-  t = taskIn source lambda radius allow (limitOf limit)
+  t = taskIn source settings (limitOf limit)
 
   all-fine : Fine g t
   all-fine = record { book = book-passes g raised (ready .ok); source-bytes = source-bytes; reference-bytes = reference-bytes }
@@ -125,7 +126,7 @@ module _ (v : Svq1PlaneCanvas) (reference book codebook raised source : List ℕ
 
     pub mb-written : (r : WrittenMb) (left recon' vx' vy' : List ℕ) → Bytes codebook → CandidateWritten book n c out at r left
         → CandidateLaid v reference raised k c (length out) at (s .recon) (s .vx) (s .vy) recon' vx' vy'
-        → MbWritten g t k spent out at s r left (record { recon = recon'; vx = vx'; vy = vy' })
+        → MbWritten g t k spent out at s r left (slicesBy recon' vx' vy')
     unfolding weightOf
     mb-written r left recon' vx' vy' bytes w l =
         let ec = chosen-it in

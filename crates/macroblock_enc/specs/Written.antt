@@ -23,7 +23,7 @@ use Rattle.canvas.specs.declared.svq1_plane.Svq1PlaneCanvas.{Svq1PlaneCanvas}
 use Rattle.macroblock.specs.Macroblock.{Given, cols, rows, Motion, Choice, skipped, coded, modeOf, halfOf, vectorsOf, motionBits, choiceBits}
 use Rattle.macroblock.specs.MacroblockLaws.{Codables}
 use Rattle.macroblock.specs.Choice.{Task, weightOf, chosen}
-use Rattle.macroblock.specs.Slices.{Slices, near, laid}
+use Rattle.macroblock.specs.Slices.{Slices, slicesBy, near, laid}
 use Rattle.macroblock.specs.Inner.{givenBy, Accepted, Held, byBook}
 use Rattle.macroblock.specs.Laying.{ShowingIf, Laying}
 use Rattle.macroblock.specs.Motions.{motionOf, Differs}
@@ -61,7 +61,7 @@ pub record LayReady (c : Svq1PlaneCanvas) (reference : List ℕ) (raised k : ℕ
 abbrev pub LaysCandidate : Svq1PlaneCanvas → List ℕ → List ℕ → ℕ → MbCandidate → List ℕ → List ℕ → List ℕ → List ℕ → List ℕ → List ℕ → Type 0
 LaysCandidate c reference raised k d recon vx vy recon' vx' vy' =
     (book codebook : List ℕ) → Bytes codebook → raised ≡ raisedCodebook codebook
-    → _≡_ {A = Slices} (record { recon = recon'; vx = vx'; vy = vy' }) (laid (givenBy c reference book codebook) k (choiceOf d) (record { recon = recon; vx = vx; vy = vy }))
+    → _≡_ {A = Slices} (slicesBy recon' vx' vy') (laid (givenBy c reference book codebook) k (choiceOf d) (slicesBy recon vx vy))
 
 -- ---- a candidate written, where it fits
 -- its bits, counted and few, from a bit of a string that is not too long
@@ -91,8 +91,8 @@ pub record CandidateWritten (book : List ℕ) (n : Near) (c : MbCandidate) (out 
 abbrev pub CandidateLaid : Svq1PlaneCanvas → List ℕ → List ℕ → ℕ → MbCandidate → ℕ → ℕ → List ℕ → List ℕ → List ℕ → List ℕ → List ℕ → List ℕ → Type 0
 CandidateLaid c reference raised k d bytes at recon vx vy recon' vx' vy' =
     (book codebook : List ℕ) → Bytes codebook → raised ≡ raisedCodebook codebook
-    → _≡_ {A = Slices} (record { recon = recon'; vx = vx'; vy = vy' })
-    (pick (fitsIn bytes at (d .bits)) (laid (givenBy c reference book codebook) k (choiceOf d) (record { recon = recon; vx = vx; vy = vy })) (record { recon = recon; vx = vx; vy = vy }))
+    → _≡_ {A = Slices} (slicesBy recon' vx' vy')
+    (pick (fitsIn bytes at (d .bits)) (laid (givenBy c reference book codebook) k (choiceOf d) (slicesBy recon vx vy)) (slicesBy recon vx vy))
 
 -- ---- a macroblock written
 -- what is lent passes and holds macroblock k, the output is not too long, the bit lies in it, and the vectors of the macroblocks before k are in -32..31

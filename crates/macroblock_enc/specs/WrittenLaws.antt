@@ -26,6 +26,7 @@ use Rattle.macroblock.specs.LayLaws.{laid-is}
 use Rattle.macroblock_bits.specs.CodingLaws.{first-fits, second-fits}
 use Rattle.macroblock_choice.specs.Candidates.{skips, choiceOf}
 use Rattle.macroblock_enc.specs.Written.{Codes, CodedRoom, PutReady, LaysCandidate, WriteReady, CandidateWritten, CandidateLaid}
+use Rattle.macroblock.specs.Slices.{slicesBy}
 
 -- ---- vectors and tree
 module _ (book : List ℕ) (n : Near) (m : Motion) (t : List Node) (bytes at : ℕ) (r : CodedRoom book n m t bytes at) where
@@ -97,7 +98,7 @@ pub lays-candidate : (v : Svq1PlaneCanvas) (reference raised : List ℕ) (k : �
     → LaysCandidate v reference raised k c recon vx vy recon' vx' vy'
 lays-candidate v reference raised k c f recon vx vy recon' vx' vy' e ev l book codebook b h =
     let w = rw e at (l book codebook b h) in
-    laid-is (givenBy v reference book codebook) k (choiceOf c) (record { recon = recon; vx = vx; vy = vy }) (c .vectors) recon' vx' vy' ev w
+    laid-is (givenBy v reference book codebook) k (choiceOf c) (slicesBy recon vx vy) (c .vectors) recon' vx' vy' ev w
 
 -- ---- a candidate, where it fits
 module _ (book : List ℕ) (n : Near) (c : MbCandidate) (out : List ℕ) (at : ℕ) (w : WriteReady book n c (length out) at) where

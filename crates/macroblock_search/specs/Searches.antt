@@ -88,7 +88,7 @@ fourFound a b c d = record { found = true; motion = Four; vectors = a ∷ b ∷ 
 
 -- r has the motions ms, whatever the book and the task, as long as the task has these samples and this radius; they are codable, the vectors are those to store, and one vector goes with its difference
 pub record MotionsFound (c : Svq1PlaneCanvas) (reference block : List ℕ) (radius k : ℕ) (n : Near) (ms : Given → Task → List Motion) (r : FoundMotion) : Type 0 where
-  pub are : (book codebook : List ℕ) (t : Task) → block ≡ target (givenBy c reference book codebook) t k → radius ≡ t .radius
+  pub are : (book codebook : List ℕ) (t : Task) → block ≡ target (givenBy c reference book codebook) t k → radius ≡ t .settings .radius
       → motionsOf r ≡ ms (givenBy c reference book codebook) t
   pub codes : All (Codables n) (motionsOf r)
   pub stored : r .vectors ≡ vectorsOf (coded (motionOf (r .motion) (r .vectors)) [])

@@ -184,15 +184,12 @@ pub byte-back : (z : ℤ) → InRange z → signedOf (signedByte z) ≡ z
 byte-back (pos n) h = let l = range-pos n h in simp (lt-ltb n 128 (omega arith))
 byte-back (negsuc n) h = let l = range-neg n h in simp (le-ltb (255 - n) 128 (omega arith)) (ap negsuc (omega arith))
 
-pub stored-x : (vs : List Svq1Mv) → All Inside vs → (j : ℕ) → InRange (signedOf (getD (map (λ (v : Svq1Mv). signedByte (v .x)) vs) j 0))
-stored-x [] h j = refl
-stored-x (v ∷ vs) h zero = rw (byte-back (v .x) (h .0 .x-in)) (h .0 .x-in)
-stored-x (v ∷ vs) h (suc j) = stored-x vs (h .1) j
-
-pub stored-y : (vs : List Svq1Mv) → All Inside vs → (j : ℕ) → InRange (signedOf (getD (map (λ (v : Svq1Mv). signedByte (v .y)) vs) j 0))
-stored-y [] h j = refl
-stored-y (v ∷ vs) h zero = rw (byte-back (v .y) (h .0 .y-in)) (h .0 .y-in)
-stored-y (v ∷ vs) h (suc j) = stored-y vs (h .1) j
+-- so does a component of vectors in -32..31, each stored as a byte
+pub stored-component : (f : Svq1Mv → ℤ) → ((v : Svq1Mv) → Inside v → InRange (f v)) → (vs : List Svq1Mv) → All Inside vs → (j : ℕ)
+    → InRange (signedOf (getD (map (λ (v : Svq1Mv). signedByte (f v)) vs) j 0))
+stored-component f in-range [] h j = refl
+stored-component f in-range (v ∷ vs) h zero = rw (byte-back (f v) (in-range v (h .0))) (in-range v (h .0))
+stored-component f in-range (v ∷ vs) h (suc j) = stored-component f in-range vs (h .1) j
 
 -- macroblock k stored with bytes of vectors in -32..31
 pub ranged-put : (cols k : ℕ) (v a : List ℕ) → Holds 2 cols (suc k) a → Ranged cols k a → ((j : ℕ) → InRange (signedOf (getD v j 0)))

@@ -6,6 +6,7 @@ ghost use Rattle.book.specs.Book.{codebookBytes};
 ghost use Rattle.canvas.specs.Canvas.{largestSide, blocksAlong};
 ghost use Rattle.macroblock.specs.Inner.{givenBy};
 ghost use Rattle.plane.specs.Reader.{lengthsRefusal, readRefusalBy, PlaneReady, PlaneAccepted, ReadThrough};
+ghost use Rattle.macroblock.specs.Slices.{slicesBy};
 use super::svq1_plane::ReadEnd;
 use canvas::svq1_plane::Svq1PlaneCanvas;
 use canvas::svq1_plane::plane_refusal;
@@ -81,8 +82,8 @@ fn read_blocks(
     vx: &mut [u8],
     vy: &mut [u8],
 ) -> ReadEnd
-    requires { ⌜ PlaneReady (givenBy canvas (now reference) (now book) (now codebook)) (now raised) (record { recon = now recon; vx = now vx; vy = now vy }) (length (now bytes)) start ⌝ }
-    ensures { λ r. ⌜ ReadThrough (givenBy canvas (now (reference .entry)) (now (book .entry)) (now (codebook .entry))) (now (bytes .entry)) start (record { recon = now (recon .entry); vx = now (vx .entry); vy = now (vy .entry) }) r (record { recon = now (recon .exit); vx = now (vx .exit); vy = now (vy .exit) }) ⌝ }
+    requires { ⌜ PlaneReady (givenBy canvas (now reference) (now book) (now codebook)) (now raised) (slicesBy (now recon) (now vx) (now vy)) (length (now bytes)) start ⌝ }
+    ensures { λ r. ⌜ ReadThrough (givenBy canvas (now (reference .entry)) (now (book .entry)) (now (codebook .entry))) (now (bytes .entry)) start (slicesBy (now (recon .entry)) (now (vx .entry)) (now (vy .entry))) r (slicesBy (now (recon .exit)) (now (vx .exit)) (now (vy .exit))) ⌝ }
 {
     let count = canvas.rows / 16 * (canvas.stride / 16);
     let mut k = 0;
@@ -131,8 +132,8 @@ fn read_raised(
     vy: &mut [u8],
     raised: &mut [u8],
 ) -> ReadEnd
-    requires { ⌜ PlaneAccepted (givenBy canvas (now reference) (now book) (now codebook)) (record { recon = now recon; vx = now vx; vy = now vy }) (length (now bytes)) start × (length (now raised) ≡ codebookBytes) ⌝ }
-    ensures { λ r. ⌜ ReadThrough (givenBy canvas (now (reference .entry)) (now (book .entry)) (now (codebook .entry))) (now (bytes .entry)) start (record { recon = now (recon .entry); vx = now (vx .entry); vy = now (vy .entry) }) r (record { recon = now (recon .exit); vx = now (vx .exit); vy = now (vy .exit) }) ⌝ }
+    requires { ⌜ PlaneAccepted (givenBy canvas (now reference) (now book) (now codebook)) (slicesBy (now recon) (now vx) (now vy)) (length (now bytes)) start × (length (now raised) ≡ codebookBytes) ⌝ }
+    ensures { λ r. ⌜ ReadThrough (givenBy canvas (now (reference .entry)) (now (book .entry)) (now (codebook .entry))) (now (bytes .entry)) start (slicesBy (now (recon .entry)) (now (vx .entry)) (now (vy .entry))) r (slicesBy (now (recon .exit)) (now (vx .exit)) (now (vy .exit))) ⌝ }
 {
     raise_codebook(codebook, raised);
     read_blocks(
@@ -161,8 +162,8 @@ pub fn read_accepted(
     vx: &mut [u8],
     vy: &mut [u8],
 ) -> ReadEnd
-    requires { ⌜ PlaneAccepted (givenBy canvas (now reference) (now book) (now codebook)) (record { recon = now recon; vx = now vx; vy = now vy }) (length (now bytes)) start ⌝ }
-    ensures { λ r. ⌜ ReadThrough (givenBy canvas (now (reference .entry)) (now (book .entry)) (now (codebook .entry))) (now (bytes .entry)) start (record { recon = now (recon .entry); vx = now (vx .entry); vy = now (vy .entry) }) r (record { recon = now (recon .exit); vx = now (vx .exit); vy = now (vy .exit) }) ⌝ }
+    requires { ⌜ PlaneAccepted (givenBy canvas (now reference) (now book) (now codebook)) (slicesBy (now recon) (now vx) (now vy)) (length (now bytes)) start ⌝ }
+    ensures { λ r. ⌜ ReadThrough (givenBy canvas (now (reference .entry)) (now (book .entry)) (now (codebook .entry))) (now (bytes .entry)) start (slicesBy (now (recon .entry)) (now (vx .entry)) (now (vy .entry))) r (slicesBy (now (recon .exit)) (now (vx .exit)) (now (vy .exit))) ⌝ }
 {
     let mut raised = [0u8; 23040];
     read_raised(

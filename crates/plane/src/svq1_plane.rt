@@ -2,6 +2,7 @@
 ghost use Rattle.macroblock.specs.Inner.{givenBy};
 ghost use Rattle.plane.specs.Calls.{PlaneRead};
 ghost use Rattle.plane.specs.Reader.{endOf};
+ghost use Rattle.macroblock.specs.Slices.{slicesBy};
 use super::inner::read_accepted;
 use super::inner::read_refusal;
 use canvas::svq1_plane::Svq1PlaneCanvas;
@@ -27,7 +28,7 @@ pub fn decode_inter_plane(
     vx: &mut [u8],
     vy: &mut [u8],
 ) -> ReadEnd
-    ensures { λ r. ⌜ PlaneRead (givenBy canvas (now (reference .entry)) (now (book .entry)) (now (codebook .entry))) (now (bytes .entry)) start (record { recon = now (recon .entry); vx = now (vx .entry); vy = now (vy .entry) }) (endOf r) (now (recon .exit)) (now (vx .exit)) (now (vy .exit)) ⌝ }
+    ensures { λ r. ⌜ PlaneRead (givenBy canvas (now (reference .entry)) (now (book .entry)) (now (codebook .entry))) (now (bytes .entry)) start (slicesBy (now (recon .entry)) (now (vx .entry)) (now (vy .entry))) (endOf r) (now (recon .exit)) (now (vx .exit)) (now (vy .exit)) ⌝ }
 {
     let refused = read_refusal(
         canvas,

@@ -11,10 +11,12 @@ ghost use Rattle.plane.specs.Reader.{PlaneReady, PlaneAccepted};
 ghost use Rattle.macroblock_enc.specs.Limits.{limitOf, Spends};
 ghost use Rattle.plane_enc.specs.Stated.{told, ToldThrough};
 ghost use Rattle.plane_enc.specs.Writer.{writeRefusalBy};
+ghost use Rattle.macroblock.specs.Slices.{slicesBy};
 use super::svq1_enc_inter::WriteEnd;
 use canvas::svq1_plane::Svq1PlaneCanvas;
 use canvas::svq1_plane::plane_refusal;
 use codebook::inner::raise_codebook;
+use macroblock::svq1_enc_inter::Settings;
 use macroblock::svq1_enc_inter::Svq1MbMode;
 use macroblock_enc::inner::limit::BitLimit;
 use macroblock_enc::inner::writing::write_macroblock;
@@ -80,9 +82,7 @@ fn write_blocks(
     book: &[u8],
     codebook: &[u8],
     raised: &[u8],
-    lambda: u64,
-    radius: u8,
-    four: bool,
+    settings: Settings,
     limit: BitLimit,
     out: &mut [u8],
     start: usize,
@@ -91,8 +91,8 @@ fn write_blocks(
     vy: &mut [u8],
     stated: &mut [u32],
 ) -> WriteEnd
-    requires { ⌜ PlaneReady (givenBy canvas (now reference) (now book) (now codebook)) (now raised) (record { recon = now recon; vx = now vx; vy = now vy }) (length (now out)) start × (length (now source) ≡ canvas .width * canvas .height) × Spends (givenBy canvas (now reference) (now book) (now codebook)) limit 0 0 ⌝ }
-    ensures { λ r. ⌜ ToldThrough (givenBy canvas (now (reference .entry)) (now (book .entry)) (now (codebook .entry))) (taskIn (now (source .entry)) lambda radius four (limitOf limit)) (now (out .entry)) start (record { recon = now (recon .entry); vx = now (vx .entry); vy = now (vy .entry) }) (now (stated .entry)) r (now (out .exit)) (record { recon = now (recon .exit); vx = now (vx .exit); vy = now (vy .exit) }) (now (stated .exit)) ⌝ }
+    requires { ⌜ PlaneReady (givenBy canvas (now reference) (now book) (now codebook)) (now raised) (slicesBy (now recon) (now vx) (now vy)) (length (now out)) start × (length (now source) ≡ canvas .width * canvas .height) × Spends (givenBy canvas (now reference) (now book) (now codebook)) limit 0 0 ⌝ }
+    ensures { λ r. ⌜ ToldThrough (givenBy canvas (now (reference .entry)) (now (book .entry)) (now (codebook .entry))) (taskIn (now (source .entry)) settings (limitOf limit)) (now (out .entry)) start (slicesBy (now (recon .entry)) (now (vx .entry)) (now (vy .entry))) (now (stated .entry)) r (now (out .exit)) (slicesBy (now (recon .exit)) (now (vx .exit)) (now (vy .exit))) (now (stated .exit)) ⌝ }
 {
     let count = canvas.rows / 16 * (canvas.stride / 16);
     let mut k = 0;
@@ -107,9 +107,7 @@ fn write_blocks(
             book,
             codebook,
             raised,
-            lambda,
-            radius,
-            four,
+            settings,
             limit,
             bits,
             out,
@@ -151,9 +149,7 @@ fn write_raised(
     reference: &[u8],
     book: &[u8],
     codebook: &[u8],
-    lambda: u64,
-    radius: u8,
-    four: bool,
+    settings: Settings,
     limit: BitLimit,
     out: &mut [u8],
     start: usize,
@@ -163,8 +159,8 @@ fn write_raised(
     stated: &mut [u32],
     raised: &mut [u8],
 ) -> WriteEnd
-    requires { ⌜ PlaneAccepted (givenBy canvas (now reference) (now book) (now codebook)) (record { recon = now recon; vx = now vx; vy = now vy }) (length (now out)) start × (length (now source) ≡ canvas .width * canvas .height) × (length (now raised) ≡ codebookBytes) × Spends (givenBy canvas (now reference) (now book) (now codebook)) limit 0 0 ⌝ }
-    ensures { λ r. ⌜ ToldThrough (givenBy canvas (now (reference .entry)) (now (book .entry)) (now (codebook .entry))) (taskIn (now (source .entry)) lambda radius four (limitOf limit)) (now (out .entry)) start (record { recon = now (recon .entry); vx = now (vx .entry); vy = now (vy .entry) }) (now (stated .entry)) r (now (out .exit)) (record { recon = now (recon .exit); vx = now (vx .exit); vy = now (vy .exit) }) (now (stated .exit)) ⌝ }
+    requires { ⌜ PlaneAccepted (givenBy canvas (now reference) (now book) (now codebook)) (slicesBy (now recon) (now vx) (now vy)) (length (now out)) start × (length (now source) ≡ canvas .width * canvas .height) × (length (now raised) ≡ codebookBytes) × Spends (givenBy canvas (now reference) (now book) (now codebook)) limit 0 0 ⌝ }
+    ensures { λ r. ⌜ ToldThrough (givenBy canvas (now (reference .entry)) (now (book .entry)) (now (codebook .entry))) (taskIn (now (source .entry)) settings (limitOf limit)) (now (out .entry)) start (slicesBy (now (recon .entry)) (now (vx .entry)) (now (vy .entry))) (now (stated .entry)) r (now (out .exit)) (slicesBy (now (recon .exit)) (now (vx .exit)) (now (vy .exit))) (now (stated .exit)) ⌝ }
 {
     raise_codebook(codebook, raised);
     write_blocks(
@@ -174,9 +170,7 @@ fn write_raised(
         book,
         codebook,
         raised,
-        lambda,
-        radius,
-        four,
+        settings,
         limit,
         out,
         start,
@@ -194,9 +188,7 @@ pub fn write_accepted(
     reference: &[u8],
     book: &[u8],
     codebook: &[u8],
-    lambda: u64,
-    radius: u8,
-    four: bool,
+    settings: Settings,
     limit: BitLimit,
     out: &mut [u8],
     start: usize,
@@ -205,8 +197,8 @@ pub fn write_accepted(
     vy: &mut [u8],
     stated: &mut [u32],
 ) -> WriteEnd
-    requires { ⌜ PlaneAccepted (givenBy canvas (now reference) (now book) (now codebook)) (record { recon = now recon; vx = now vx; vy = now vy }) (length (now out)) start × (length (now source) ≡ canvas .width * canvas .height) × Spends (givenBy canvas (now reference) (now book) (now codebook)) limit 0 0 ⌝ }
-    ensures { λ r. ⌜ ToldThrough (givenBy canvas (now (reference .entry)) (now (book .entry)) (now (codebook .entry))) (taskIn (now (source .entry)) lambda radius four (limitOf limit)) (now (out .entry)) start (record { recon = now (recon .entry); vx = now (vx .entry); vy = now (vy .entry) }) (now (stated .entry)) r (now (out .exit)) (record { recon = now (recon .exit); vx = now (vx .exit); vy = now (vy .exit) }) (now (stated .exit)) ⌝ }
+    requires { ⌜ PlaneAccepted (givenBy canvas (now reference) (now book) (now codebook)) (slicesBy (now recon) (now vx) (now vy)) (length (now out)) start × (length (now source) ≡ canvas .width * canvas .height) × Spends (givenBy canvas (now reference) (now book) (now codebook)) limit 0 0 ⌝ }
+    ensures { λ r. ⌜ ToldThrough (givenBy canvas (now (reference .entry)) (now (book .entry)) (now (codebook .entry))) (taskIn (now (source .entry)) settings (limitOf limit)) (now (out .entry)) start (slicesBy (now (recon .entry)) (now (vx .entry)) (now (vy .entry))) (now (stated .entry)) r (now (out .exit)) (slicesBy (now (recon .exit)) (now (vx .exit)) (now (vy .exit))) (now (stated .exit)) ⌝ }
 {
     let mut raised = [0u8; 23040];
     write_raised(
@@ -215,9 +207,7 @@ pub fn write_accepted(
         reference,
         book,
         codebook,
-        lambda,
-        radius,
-        four,
+        settings,
         limit,
         out,
         start,

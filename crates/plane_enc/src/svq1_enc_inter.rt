@@ -4,9 +4,11 @@ ghost use Rattle.macroblock.specs.Inner.{givenBy};
 ghost use Rattle.plane.specs.Calls.{PlaneWritten};
 ghost use Rattle.plane_enc.specs.Stated.{PlaneStated};
 ghost use Rattle.plane_enc.specs.Writer.{endOf};
+ghost use Rattle.macroblock.specs.Slices.{slicesBy};
 use super::inner::write_accepted;
 use super::inner::write_refusal;
 use canvas::svq1_plane::Svq1PlaneCanvas;
+use macroblock::svq1_enc_inter::Settings;
 use macroblock_enc::inner::limit::BitLimit;
 
 // What writing a plane answers: the number of a refusal, or 0; the macroblocks done, which with 22 is the index of the one that does not fit;
@@ -28,16 +30,14 @@ pub fn encode_inter_plane(
     reference: &[u8],
     book: &[u8],
     codebook: &[u8],
-    lambda: u64,
-    radius: u8,
-    four: bool,
+    settings: Settings,
     out: &mut [u8],
     start: usize,
     recon: &mut [u8],
     vx: &mut [u8],
     vy: &mut [u8],
 ) -> WriteEnd
-    ensures { λ r. ⌜ PlaneWritten (givenBy canvas (now (reference .entry)) (now (book .entry)) (now (codebook .entry))) (taskBy (now (source .entry)) lambda radius four) (now (out .entry)) start (record { recon = now (recon .entry); vx = now (vx .entry); vy = now (vy .entry) }) (endOf r) (now (out .exit)) (now (recon .exit)) (now (vx .exit)) (now (vy .exit)) ⌝ }
+    ensures { λ r. ⌜ PlaneWritten (givenBy canvas (now (reference .entry)) (now (book .entry)) (now (codebook .entry))) (taskBy (now (source .entry)) settings) (now (out .entry)) start (slicesBy (now (recon .entry)) (now (vx .entry)) (now (vy .entry))) (endOf r) (now (out .exit)) (now (recon .exit)) (now (vx .exit)) (now (vy .exit)) ⌝ }
 {
     let mut none = [0u32; 1];
     encode_inter_plane_stated(
@@ -46,9 +46,7 @@ pub fn encode_inter_plane(
         reference,
         book,
         codebook,
-        lambda,
-        radius,
-        four,
+        settings,
         out,
         start,
         recon,
@@ -66,9 +64,7 @@ pub fn encode_inter_plane_stated(
     reference: &[u8],
     book: &[u8],
     codebook: &[u8],
-    lambda: u64,
-    radius: u8,
-    four: bool,
+    settings: Settings,
     out: &mut [u8],
     start: usize,
     recon: &mut [u8],
@@ -76,7 +72,7 @@ pub fn encode_inter_plane_stated(
     vy: &mut [u8],
     stated: &mut [u32],
 ) -> WriteEnd
-    ensures { λ r. ⌜ PlaneStated (givenBy canvas (now (reference .entry)) (now (book .entry)) (now (codebook .entry))) (taskBy (now (source .entry)) lambda radius four) (now (out .entry)) start (record { recon = now (recon .entry); vx = now (vx .entry); vy = now (vy .entry) }) (now (stated .entry)) (endOf r) (now (out .exit)) (now (recon .exit)) (now (vx .exit)) (now (vy .exit)) (now (stated .exit)) ⌝ }
+    ensures { λ r. ⌜ PlaneStated (givenBy canvas (now (reference .entry)) (now (book .entry)) (now (codebook .entry))) (taskBy (now (source .entry)) settings) (now (out .entry)) start (slicesBy (now (recon .entry)) (now (vx .entry)) (now (vy .entry))) (now (stated .entry)) (endOf r) (now (out .exit)) (now (recon .exit)) (now (vx .exit)) (now (vy .exit)) (now (stated .exit)) ⌝ }
 {
     let refused = write_refusal(
         canvas,
@@ -105,9 +101,7 @@ pub fn encode_inter_plane_stated(
         reference,
         book,
         codebook,
-        lambda,
-        radius,
-        four,
+        settings,
         BitLimit::Unlimited,
         out,
         start,

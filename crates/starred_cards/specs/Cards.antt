@@ -40,7 +40,7 @@ flatGiven j reference = record {
 }
 
 abbrev pub flatTask : Job → ℕ → Task
-flatTask j source = record { source = replicate (j .width * j .height) source; lambda = j .lambda; radius = j .radius; allowFour = j .allowFour; limit = unlimited }
+flatTask j source = record { source = replicate (j .width * j .height) source; settings = record { lambda = j .lambda; radius = j .radius; four = j .allowFour }; limit = unlimited }
 
 -- a search of a block in a flat square plane whose samples, and the target's, are all 100
 abbrev pub flatSearch : ℕ → ℕ → ℕ → ℕ → ℕ → Svq1Mv → Search

@@ -14,6 +14,7 @@ use super::plane_text::put_flat;
 use super::plane_text::put_written;
 use super::sums::count_of;
 use canvas::svq1_plane::Svq1PlaneCanvas;
+use macroblock::svq1_enc_inter::Settings;
 use plane::svq1_plane::ReadEnd;
 use plane::svq1_plane::decode_inter_plane;
 use plane_enc::svq1_enc_inter::WriteEnd;
@@ -40,15 +41,18 @@ fn write_plane(book: &[u8], codebook: &[u8], lambda: u64, out: &mut [u8], start:
     let mut recon = [0u8; 256];
     let mut vx = [0u8; 4];
     let mut vy = [0u8; 4];
+    let settings = Settings {
+        lambda,
+        radius: RADIUS,
+        four: true,
+    };
     encode_inter_plane(
         CANVAS,
         &source,
         &reference,
         book,
         codebook,
-        lambda,
-        RADIUS,
-        true,
+        settings,
         out,
         start,
         &mut recon,

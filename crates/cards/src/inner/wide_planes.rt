@@ -12,6 +12,7 @@ use super::plane_text::put_asked;
 use super::plane_text::put_flat;
 use super::plane_text::put_written;
 use canvas::svq1_plane::Svq1PlaneCanvas;
+use macroblock::svq1_enc_inter::Settings;
 use plane_enc::svq1_enc_inter::WriteEnd;
 use plane_enc::svq1_enc_inter::encode_inter_plane;
 
@@ -27,19 +28,22 @@ fn write_plane(
     out: &mut [u8],
     recon: &mut [u8],
 ) -> WriteEnd
-    ensures { λ r. ⌜ Wrote (givenBy canvas (now (reference .entry)) (now (book .entry)) (now (codebook .entry))) (taskBy (now (source .entry)) 32 8 true) (now (out .entry)) 0 (wideSlices (now (recon .entry))) (endOf r) (now (out .exit)) ⌝ }
+    ensures { λ r. ⌜ Wrote (givenBy canvas (now (reference .entry)) (now (book .entry)) (now (codebook .entry))) (taskBy (now (source .entry)) (record { lambda = 32; radius = 8; four = true })) (now (out .entry)) 0 (wideSlices (now (recon .entry))) (endOf r) (now (out .exit)) ⌝ }
 {
     let mut vx = [0u8; 260];
     let mut vy = [0u8; 260];
+    let settings = Settings {
+        lambda: LAMBDA,
+        radius: RADIUS,
+        four: true,
+    };
     encode_inter_plane(
         canvas,
         source,
         reference,
         book,
         codebook,
-        LAMBDA,
-        RADIUS,
-        true,
+        settings,
         out,
         0,
         recon,

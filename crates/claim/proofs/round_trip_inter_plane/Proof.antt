@@ -10,6 +10,7 @@ use Rattle.claim.specs.RoundTripLaws.{tripped}
 use borrow.Author.Needs.{needs}
 use Rattle.claim.proofs.round_trip_inter_plane.Statement.{statement}
 use Rattle.claim.proofs.round_trip_inter_plane.Tie as tie
+use Rattle.macroblock.specs.Slices.{slicesBy}
 
 encode-inter-plane-stated-requires : tie.Need-encode-inter-plane-stated-requires
 encode-inter-plane-stated-requires c κs = search needs
@@ -47,14 +48,14 @@ returns c =
     let wrote = read .before .before .before .before .before .before .before .before .before .before .before .before .before .before .before in
     let a = wrote .before .before .before .before .before .before .before .before .before .before .before .before .before .before .before .before .before .before .args in
     let g : Given = givenBy (a .canvas) (a .reference .now) (a .book .now) (a .codebook .now) in
-    let t : Task = taskBy (a .source .now) (a .lambda) (a .radius) (a .four) in
+    let t : Task = taskBy (a .source .now) (a .settings) in
     let source : Bytes (a .source .now) = λ k. omega (arith, wrote .before .before .before .before .before .before .before .before .before .before .before .before .before .before .before .before .before .shared-slice-known .given k) in
     let reference : Bytes (a .reference .now) = λ k. omega (arith, wrote .before .before .before .before .before .before .before .before .before .before .before .before .before .before .before .before .shared-slice-known2 .given k) in
     let w = wrote .encode-inter-plane-stated in
     let r = read .decode-inter-plane in
-    tripped g t (a .out .now) (a .start) (record { recon = a .recon .now; vx = a .vx .now; vy = a .vy .now }) (a .stated .now) (record { recon = a .back .now; vx = a .backx .now; vy = a .backy .now }) _ _ _
-    (record { recon = w .last .1 .1 .1 .1 .1 .1 .1 .1 .1 .1 .0; vx = w .last .1 .1 .1 .1 .1 .1 .1 .1 .1 .1 .1 .0; vy = w .last .1 .1 .1 .1 .1 .1 .1 .1 .1 .1 .1 .1 .0 }) _
-    (record { recon = r .last .1 .1 .1 .1 .1 .1 .0; vx = r .last .1 .1 .1 .1 .1 .1 .1 .0; vy = r .last .1 .1 .1 .1 .1 .1 .1 .1 .0 })
+    tripped g t (a .out .now) (a .start) (slicesBy (a .recon .now) (a .vx .now) (a .vy .now)) (a .stated .now) (slicesBy (a .back .now) (a .backx .now) (a .backy .now)) _ _ _
+    (slicesBy (w .last .1 .1 .1 .1 .1 .1 .1 .1 .1 .1 .0) (w .last .1 .1 .1 .1 .1 .1 .1 .1 .1 .1 .1 .0) (w .last .1 .1 .1 .1 .1 .1 .1 .1 .1 .1 .1 .1 .0)) _
+    (slicesBy (r .last .1 .1 .1 .1 .1 .1 .0) (r .last .1 .1 .1 .1 .1 .1 .1 .0) (r .last .1 .1 .1 .1 .1 .1 .1 .1 .0))
     refl (record { source = source; reference = reference }) (w .ensures) (r .ensures)
 
 pub round-trip-inter-plane-spec : {M : Type 1} → statement M

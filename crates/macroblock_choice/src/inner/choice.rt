@@ -15,6 +15,7 @@ use super::super::inner::candidates::better;
 use super::super::inner::candidates::skip_candidate;
 use super::super::inner::plans::coded_candidate;
 use canvas::svq1_plane::Svq1PlaneCanvas;
+use macroblock::svq1_enc_inter::Settings;
 use macroblock_search::inner::motions::FoundMotion;
 use macroblock_search::inner::motions::four_motion;
 use macroblock_search::inner::motions::single_motion;
@@ -29,7 +30,7 @@ fn try_motion(
     book: &[u8],
     codebook: &[u8],
     raised: &[u8],
-    lambda: u64,
+    settings: Settings,
     k: usize,
     target: &[u8],
     near: NearBlocks,
@@ -38,7 +39,7 @@ fn try_motion(
     room: u64,
 ) -> MbCandidate
     requires { ⌜ Placing (givenBy canvas (now reference) (now book) (now codebook)) (now raised) k (now target) × All (Codables (nearFrom near)) (motionsOf found) × Carries (nearFrom near) (found .motion) (found .vectors) × Stated (givenBy canvas (now reference) (now book) (now codebook)) (now target) k (nearFrom near) best ⌝ }
-    ensures { λ r. ⌜ Tried (givenBy canvas (now (reference .entry)) (now (book .entry)) (now (codebook .entry))) (now (target .entry)) lambda room k (nearFrom near) (motionsOf found) best r ⌝ }
+    ensures { λ r. ⌜ Tried (givenBy canvas (now (reference .entry)) (now (book .entry)) (now (codebook .entry))) (now (target .entry)) settings room k (nearFrom near) (motionsOf found) best r ⌝ }
 {
     if found.found {
         let motion = found.motion;
@@ -49,7 +50,7 @@ fn try_motion(
             book,
             codebook,
             raised,
-            lambda,
+            settings,
             k,
             target,
             near,
@@ -59,7 +60,7 @@ fn try_motion(
         if room < c.bits as u64 {
             return best;
         }
-        return better(lambda, best, c);
+        return better(settings.lambda, best, c);
     }
     best
 }
@@ -71,26 +72,24 @@ fn choose_for(
     book: &[u8],
     codebook: &[u8],
     raised: &[u8],
-    lambda: u64,
-    radius: u8,
-    four: bool,
+    settings: Settings,
     k: usize,
     near: NearBlocks,
     target: &[u8],
     room: u64,
 ) -> MbCandidate
     requires { ⌜ Placing (givenBy canvas (now reference) (now book) (now codebook)) (now raised) k (now target) × Around (nearFrom near) ⌝ }
-    ensures { λ r. ⌜ ChosenFor (givenBy canvas (now (reference .entry)) (now (book .entry)) (now (codebook .entry))) (now (target .entry)) lambda radius four room k (nearFrom near) r ⌝ }
+    ensures { λ r. ⌜ ChosenFor (givenBy canvas (now (reference .entry)) (now (book .entry)) (now (codebook .entry))) (now (target .entry)) settings room k (nearFrom near) r ⌝ }
 {
     let skip = skip_candidate(canvas, reference, book, k, target);
-    let one = single_motion(canvas, reference, target, near, k, radius);
+    let one = single_motion(canvas, reference, target, near, k, settings.radius);
     let a = try_motion(
         canvas,
         reference,
         book,
         codebook,
         raised,
-        lambda,
+        settings,
         k,
         target,
         near,
@@ -105,7 +104,7 @@ fn choose_for(
         book,
         codebook,
         raised,
-        lambda,
+        settings,
         k,
         target,
         near,
@@ -113,14 +112,14 @@ fn choose_for(
         a,
         room,
     );
-    let more = four_motion(canvas, reference, target, near, k, radius, four);
+    let more = four_motion(canvas, reference, target, near, k, settings.radius, settings.four);
     try_motion(
         canvas,
         reference,
         book,
         codebook,
         raised,
-        lambda,
+        settings,
         k,
         target,
         near,
@@ -138,16 +137,14 @@ fn choose_over(
     book: &[u8],
     codebook: &[u8],
     raised: &[u8],
-    lambda: u64,
-    radius: u8,
-    four: bool,
+    settings: Settings,
     k: usize,
     near: NearBlocks,
     target: &mut [u8],
     room: u64,
 ) -> MbCandidate
     requires { ⌜ Sourced (givenBy canvas (now reference) (now book) (now codebook)) (now raised) (now source) k × Around (nearFrom near) × (length (now target) ≡ 256) ⌝ }
-    ensures { λ r. ⌜ ((l : Limit) → ChosenBy (givenBy canvas (now (reference .entry)) (now (book .entry)) (now (codebook .entry))) (taskIn (now (source .entry)) lambda radius four l) room k (nearFrom near) r) ⌝ }
+    ensures { λ r. ⌜ ((l : Limit) → ChosenBy (givenBy canvas (now (reference .entry)) (now (book .entry)) (now (codebook .entry))) (taskIn (now (source .entry)) settings l) room k (nearFrom near) r) ⌝ }
 {
     block(canvas, source, k, target);
     choose_for(
@@ -156,9 +153,7 @@ fn choose_over(
         book,
         codebook,
         raised,
-        lambda,
-        radius,
-        four,
+        settings,
         k,
         near,
         target,
@@ -173,15 +168,13 @@ pub fn choose_macroblock(
     book: &[u8],
     codebook: &[u8],
     raised: &[u8],
-    lambda: u64,
-    radius: u8,
-    four: bool,
+    settings: Settings,
     k: usize,
     near: NearBlocks,
     room: u64,
 ) -> MbCandidate
     requires { ⌜ Sourced (givenBy canvas (now reference) (now book) (now codebook)) (now raised) (now source) k × Around (nearFrom near) ⌝ }
-    ensures { λ r. ⌜ ((l : Limit) → ChosenBy (givenBy canvas (now (reference .entry)) (now (book .entry)) (now (codebook .entry))) (taskIn (now (source .entry)) lambda radius four l) room k (nearFrom near) r) ⌝ }
+    ensures { λ r. ⌜ ((l : Limit) → ChosenBy (givenBy canvas (now (reference .entry)) (now (book .entry)) (now (codebook .entry))) (taskIn (now (source .entry)) settings l) room k (nearFrom near) r) ⌝ }
 {
     let mut target = [0u8; 256];
     choose_over(
@@ -191,9 +184,7 @@ pub fn choose_macroblock(
         book,
         codebook,
         raised,
-        lambda,
-        radius,
-        four,
+        settings,
         k,
         near,
         &mut target,

@@ -15,6 +15,7 @@ use canvas::svq1_plane::Svq1PlaneCanvas;
 use macroblock::inner::samples::baseline_of;
 use macroblock::inner::samples::half_of;
 use macroblock::svq1_enc_inter::MbMotion;
+use macroblock::svq1_enc_inter::Settings;
 use mv_cache::svq1_mv_cache::NearBlocks;
 use plan::inner::plan;
 use plan::svq1_enc_tree::MbPlan;
@@ -37,7 +38,7 @@ fn plan_over(
     book: &[u8],
     codebook: &[u8],
     raised: &[u8],
-    lambda: u64,
+    settings: Settings,
     k: usize,
     target: &[u8],
     motion: MbMotion,
@@ -45,7 +46,7 @@ fn plan_over(
     under: &mut [u8; 256],
 ) -> MbPlan
     requires { ⌜ Placing (givenBy canvas (now reference) (now book) (now codebook)) (now raised) k (now target) × (length (now under) ≡ 256) ⌝ }
-    ensures { λ r. ⌜ PlanFound (planningBy (givenBy canvas (now (reference .entry)) (now (book .entry)) (now (codebook .entry))) (now (target .entry)) lambda k (motionOf motion vectors)) r ⌝ }
+    ensures { λ r. ⌜ PlanFound (planningBy (givenBy canvas (now (reference .entry)) (now (book .entry)) (now (codebook .entry))) (now (target .entry)) settings k (motionOf motion vectors)) r ⌝ }
 {
     let half = half_of(motion);
     let skip = skips_leaves(half);
@@ -57,7 +58,7 @@ fn plan_over(
         raised,
         6,
         skip,
-        lambda,
+        settings.lambda,
         5,
         target,
         under,
@@ -70,14 +71,14 @@ fn plan_motion(
     book: &[u8],
     codebook: &[u8],
     raised: &[u8],
-    lambda: u64,
+    settings: Settings,
     k: usize,
     target: &[u8],
     motion: MbMotion,
     vectors: [Svq1Mv; 4],
 ) -> MbPlan
     requires { ⌜ Placing (givenBy canvas (now reference) (now book) (now codebook)) (now raised) k (now target) ⌝ }
-    ensures { λ r. ⌜ PlanFound (planningBy (givenBy canvas (now (reference .entry)) (now (book .entry)) (now (codebook .entry))) (now (target .entry)) lambda k (motionOf motion vectors)) r ⌝ }
+    ensures { λ r. ⌜ PlanFound (planningBy (givenBy canvas (now (reference .entry)) (now (book .entry)) (now (codebook .entry))) (now (target .entry)) settings k (motionOf motion vectors)) r ⌝ }
 {
     let mut under = [0u8; 256];
     plan_over(
@@ -86,7 +87,7 @@ fn plan_motion(
         book,
         codebook,
         raised,
-        lambda,
+        settings,
         k,
         target,
         motion,
@@ -102,7 +103,7 @@ pub fn coded_candidate(
     book: &[u8],
     codebook: &[u8],
     raised: &[u8],
-    lambda: u64,
+    settings: Settings,
     k: usize,
     target: &[u8],
     near: NearBlocks,
@@ -110,7 +111,7 @@ pub fn coded_candidate(
     vectors: [Svq1Mv; 4],
 ) -> MbCandidate
     requires { ⌜ Placing (givenBy canvas (now reference) (now book) (now codebook)) (now raised) k (now target) × Codables (nearFrom near) (motionOf motion vectors) × Carries (nearFrom near) motion vectors ⌝ }
-    ensures { λ r. ⌜ Made (givenBy canvas (now (reference .entry)) (now (book .entry)) (now (codebook .entry))) (now (target .entry)) lambda k (nearFrom near) (motionOf motion vectors) r ⌝ }
+    ensures { λ r. ⌜ Made (givenBy canvas (now (reference .entry)) (now (book .entry)) (now (codebook .entry))) (now (target .entry)) settings k (nearFrom near) (motionOf motion vectors) r ⌝ }
 {
     let p = plan_motion(
         canvas,
@@ -118,7 +119,7 @@ pub fn coded_candidate(
         book,
         codebook,
         raised,
-        lambda,
+        settings,
         k,
         target,
         motion,

@@ -17,6 +17,7 @@ ghost use Rattle.macroblock_dec.specs.MacroblockRead.{Ready, MbRead};
 ghost use Rattle.macroblock.specs.Inner.{givenBy, byBook};
 ghost use Rattle.macroblock.specs.Reading.{readBehind, readMacroblock};
 ghost use Rattle.macroblock_dec.specs.Finding.{Found, MotionFound, TreeFound, ChoiceFound, skippedAt, readFour, readMotion, differenceHere, modeDifference};
+ghost use Rattle.macroblock.specs.Slices.{slicesBy};
 use super::super::inner::codes::read_mb_mode;
 use super::super::inner::codes::read_vector;
 use book::svq1_vlc::Svq1Half;
@@ -267,8 +268,8 @@ pub fn read_macroblock(
     vx: &mut [u8],
     vy: &mut [u8],
 ) -> ReadMb
-    requires { ⌜ Ready (givenBy canvas (now reference) (now book) (now codebook)) (now raised) (record { recon = now recon; vx = now vx; vy = now vy }) k (length (now s)) at ⌝ }
-    ensures { λ r. ⌜ MbRead (givenBy canvas (now (reference .entry)) (now (book .entry)) (now (codebook .entry))) (now (s .entry)) at k (record { recon = now (recon .entry); vx = now (vx .entry); vy = now (vy .entry) }) r (record { recon = now (recon .exit); vx = now (vx .exit); vy = now (vy .exit) }) ⌝ }
+    requires { ⌜ Ready (givenBy canvas (now reference) (now book) (now codebook)) (now raised) (slicesBy (now recon) (now vx) (now vy)) k (length (now s)) at ⌝ }
+    ensures { λ r. ⌜ MbRead (givenBy canvas (now (reference .entry)) (now (book .entry)) (now (codebook .entry))) (now (s .entry)) at k (slicesBy (now (recon .entry)) (now (vx .entry)) (now (vy .entry))) r (slicesBy (now (recon .exit)) (now (vx .exit)) (now (vy .exit))) ⌝ }
 {
     let c = read_among(s, at, book, vx, vy, canvas.stride / 16, canvas.rows / 16, k);
     let motion = c.motion;

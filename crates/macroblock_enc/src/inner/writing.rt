@@ -14,12 +14,14 @@ ghost use Rattle.macroblock_choice.specs.Candidates.{skips, choiceOf};
 ghost use Rattle.macroblock_enc.specs.Written.{CodedRoom, PutReady, LayReady, LaysCandidate, WriteReady, CandidateWritten, CandidateLaid, MbReady, MbWritten};
 ghost use Rattle.macroblock_enc.specs.Limits.{limitOf, Spends};
 ghost use Rattle.macroblock_choice.specs.Chosen.{taskIn};
+ghost use Rattle.macroblock.specs.Slices.{slicesBy};
 use super::super::inner::limit::BitLimit;
 use super::super::inner::limit::room_at;
 use canvas::svq1_plane::Svq1PlaneCanvas;
 use macroblock::inner::laying::lay_choice;
 use macroblock::inner::samples::half_of;
 use macroblock::svq1_enc_inter::MbMotion;
+use macroblock::svq1_enc_inter::Settings;
 use macroblock::svq1_enc_inter::Svq1MbMode;
 use macroblock_bits::inner::put_mode;
 use macroblock_bits::inner::put_motion;
@@ -172,9 +174,7 @@ pub fn write_macroblock(
     book: &[u8],
     codebook: &[u8],
     raised: &[u8],
-    lambda: u64,
-    radius: u8,
-    four: bool,
+    settings: Settings,
     limit: BitLimit,
     spent: u64,
     out: &mut [u8],
@@ -184,8 +184,8 @@ pub fn write_macroblock(
     vx: &mut [u8],
     vy: &mut [u8],
 ) -> WrittenMb
-    requires { ⌜ MbReady (givenBy canvas (now reference) (now book) (now codebook)) (now raised) (now source) k (length (now out)) at (record { recon = now recon; vx = now vx; vy = now vy }) × Spends (givenBy canvas (now reference) (now book) (now codebook)) limit k spent ⌝ }
-    ensures { λ r. ⌜ MbWritten (givenBy canvas (now (reference .entry)) (now (book .entry)) (now (codebook .entry))) (taskIn (now (source .entry)) lambda radius four (limitOf limit)) k spent (now (out .entry)) at (record { recon = now (recon .entry); vx = now (vx .entry); vy = now (vy .entry) }) r (now (out .exit)) (record { recon = now (recon .exit); vx = now (vx .exit); vy = now (vy .exit) }) ⌝ }
+    requires { ⌜ MbReady (givenBy canvas (now reference) (now book) (now codebook)) (now raised) (now source) k (length (now out)) at (slicesBy (now recon) (now vx) (now vy)) × Spends (givenBy canvas (now reference) (now book) (now codebook)) limit k spent ⌝ }
+    ensures { λ r. ⌜ MbWritten (givenBy canvas (now (reference .entry)) (now (book .entry)) (now (codebook .entry))) (taskIn (now (source .entry)) settings (limitOf limit)) k spent (now (out .entry)) at (slicesBy (now (recon .entry)) (now (vx .entry)) (now (vy .entry))) r (now (out .exit)) (slicesBy (now (recon .exit)) (now (vx .exit)) (now (vy .exit))) ⌝ }
 {
     let cols = blocks_along(canvas.width);
     let rows = blocks_along(canvas.height);
@@ -198,9 +198,7 @@ pub fn write_macroblock(
         book,
         codebook,
         raised,
-        lambda,
-        radius,
-        four,
+        settings,
         k,
         near,
         room,

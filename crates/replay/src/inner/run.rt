@@ -12,6 +12,7 @@ use super::file::Scene;
 use super::file::part;
 use super::tally::Tally;
 use super::tally::job_tally;
+use macroblock::svq1_enc_inter::Settings;
 use plane::svq1_plane::ReadEnd;
 use plane::svq1_plane::decode_inter_plane;
 use plane_enc::svq1_enc_inter::WriteEnd;
@@ -32,15 +33,18 @@ fn write_job(
     let reference = part(file, s.reference, s.size);
     let book = part(file, j.book, 2796);
     let codebook = part(file, j.codebook, 23040);
+    let settings = Settings {
+        lambda: j.lambda,
+        radius: j.radius,
+        four: j.four,
+    };
     encode_inter_plane_stated(
         canvas,
         source,
         reference,
         book,
         codebook,
-        j.lambda,
-        j.radius,
-        j.four,
+        settings,
         out,
         0,
         recon,

@@ -16,7 +16,7 @@ mul-samples c =
     let s = c .before .before .before .before .before .before .before .before .before .before .before .before in
     let a = s .args in
     let g : Given = givenBy (a .canvas) (a .reference .now) (a .book .now) (a .codebook .now) in
-    let t : Task = taskBy (a .source .now) (a .lambda) (a .radius) (a .four) in
+    let t : Task = taskBy (a .source .now) (a .settings) in
     let z = sizes g t (s .pre .0) in
     omega (arith, z .small-area)
 
@@ -25,7 +25,7 @@ mul-vectors c =
     let s = c .before .before .before .before .before .before .before .before .before .before .before .before .before in
     let a = s .args in
     let g : Given = givenBy (a .canvas) (a .reference .now) (a .book .now) (a .codebook .now) in
-    let t : Task = taskBy (a .source .now) (a .lambda) (a .radius) (a .four) in
+    let t : Task = taskBy (a .source .now) (a .settings) in
     let z = sizes g t (s .pre .0) in
     omega (arith, z .blocks-are, z .few-blocks)
 
@@ -34,7 +34,7 @@ mul-vectors-2 c =
     let s = c .before .before .before .before .before .before .before .before .before .before .before .before .before in
     let a = s .args in
     let g : Given = givenBy (a .canvas) (a .reference .now) (a .book .now) (a .codebook .now) in
-    let t : Task = taskBy (a .source .now) (a .lambda) (a .radius) (a .four) in
+    let t : Task = taskBy (a .source .now) (a .settings) in
     let z = sizes g t (s .pre .0) in
     omega (arith, z .blocks-are, z .few-blocks)
 
@@ -44,7 +44,7 @@ slice-relend-prefix-encode-inter-plane-stated c =
     let s = c .before .before .before .before .before .before .before .before .before .before .before .before .before .before in
     let a = s .args in
     let g : Given = givenBy (a .canvas) (a .reference .now) (a .book .now) (a .codebook .now) in
-    let t : Task = taskBy (a .source .now) (a .lambda) (a .radius) (a .four) in
+    let t : Task = taskBy (a .source .now) (a .settings) in
     omega (arith, recon-long g t (s .pre .0) (a .out .now) (a .recon .now) (a .vx .now) (a .vy .now) (a .stated .now) (s .pre .1))
 
 slice-aggregate-encode-inter-plane-stated : tie.Need-slice-aggregate-encode-inter-plane-stated
@@ -52,7 +52,7 @@ slice-aggregate-encode-inter-plane-stated c =
     let s = c .before .before .before .before .before .before .before .before .before .before .before .before .before .before .before in
     let a = s .args in
     let g : Given = givenBy (a .canvas) (a .reference .now) (a .book .now) (a .codebook .now) in
-    let t : Task = taskBy (a .source .now) (a .lambda) (a .radius) (a .four) in
+    let t : Task = taskBy (a .source .now) (a .settings) in
     sym (length-take-le _ (a .recon .now) (recon-long g t (s .pre .0) (a .out .now) (a .recon .now) (a .vx .now) (a .vy .now) (a .stated .now) (s .pre .1)))
 
 slice-relend-prefix-encode-inter-plane-stated-2 :
@@ -61,7 +61,7 @@ slice-relend-prefix-encode-inter-plane-stated-2 c =
     let s = c .before .before .before .before .before .before .before .before .before .before .before .before .before .before .before in
     let a = s .args in
     let g : Given = givenBy (a .canvas) (a .reference .now) (a .book .now) (a .codebook .now) in
-    let t : Task = taskBy (a .source .now) (a .lambda) (a .radius) (a .four) in
+    let t : Task = taskBy (a .source .now) (a .settings) in
     omega (arith, vx-long g t (s .pre .0) (a .out .now) (a .recon .now) (a .vx .now) (a .vy .now) (a .stated .now) (s .pre .1))
 
 slice-aggregate-encode-inter-plane-stated-2 : tie.Need-slice-aggregate-encode-inter-plane-stated-2
@@ -69,7 +69,7 @@ slice-aggregate-encode-inter-plane-stated-2 c =
     let s = c .before .before .before .before .before .before .before .before .before .before .before .before .before .before .before .before in
     let a = s .args in
     let g : Given = givenBy (a .canvas) (a .reference .now) (a .book .now) (a .codebook .now) in
-    let t : Task = taskBy (a .source .now) (a .lambda) (a .radius) (a .four) in
+    let t : Task = taskBy (a .source .now) (a .settings) in
     sym (length-take-le _ (a .vx .now) (vx-long g t (s .pre .0) (a .out .now) (a .recon .now) (a .vx .now) (a .vy .now) (a .stated .now) (s .pre .1)))
 
 slice-relend-prefix-encode-inter-plane-stated-3 :
@@ -78,7 +78,7 @@ slice-relend-prefix-encode-inter-plane-stated-3 c =
     let s = c .before .before .before .before .before .before .before .before .before .before .before .before .before .before .before .before in
     let a = s .args in
     let g : Given = givenBy (a .canvas) (a .reference .now) (a .book .now) (a .codebook .now) in
-    let t : Task = taskBy (a .source .now) (a .lambda) (a .radius) (a .four) in
+    let t : Task = taskBy (a .source .now) (a .settings) in
     omega (arith, vy-long g t (s .pre .0) (a .out .now) (a .recon .now) (a .vx .now) (a .vy .now) (a .stated .now) (s .pre .1))
 
 slice-aggregate-encode-inter-plane-stated-3 : tie.Need-slice-aggregate-encode-inter-plane-stated-3
@@ -86,7 +86,7 @@ slice-aggregate-encode-inter-plane-stated-3 c =
     let s = c .before .before .before .before .before .before .before .before .before .before .before .before .before .before .before .before .before in
     let a = s .args in
     let g : Given = givenBy (a .canvas) (a .reference .now) (a .book .now) (a .codebook .now) in
-    let t : Task = taskBy (a .source .now) (a .lambda) (a .radius) (a .four) in
+    let t : Task = taskBy (a .source .now) (a .settings) in
     sym (length-take-le _ (a .vy .now) (vy-long g t (s .pre .0) (a .out .now) (a .recon .now) (a .vx .now) (a .vy .now) (a .stated .now) (s .pre .1)))
 
 encode-inter-plane-stated-requires : tie.Need-encode-inter-plane-stated-requires
@@ -97,7 +97,7 @@ put-plane-requires c κs =
     let s = c .before .before .before .before .before .before .before .before .before .before .before .before .before .before .before .before .before .before .before .before .before .before .before .before .before .before .before .before .before .before .before in
     let a = s .args in
     let g : Given = givenBy (a .canvas) (a .reference .now) (a .book .now) (a .codebook .now) in
-    let t : Task = taskBy (a .source .now) (a .lambda) (a .radius) (a .four) in
+    let t : Task = taskBy (a .source .now) (a .settings) in
     let w = c .before .before .before .before .before .before .before .before .before .before .before .before .encode-inter-plane-stated in
     (plane-ended g t (s .pre .0) (a .out .now) (a .recon .now) (a .vx .now) (a .vy .now) (a .stated .now) (s .pre .1) (w .result) _ _ _ _ _ (w .ensures) (w .kept .1 .1 .1 .1 .1 .1 .1 .1 .1 .1 .1 .1 .1 .0), s .pre .2)
 
@@ -124,7 +124,7 @@ returns c =
     let s = c .before .before .before .before .before .before .before .before .before .before .before .before .before .before .before .before .before .before .before .before .before .before .before .before .before .before .before .before .before .before .before .before .before .before in
     let a = s .args in
     let g : Given = givenBy (a .canvas) (a .reference .now) (a .book .now) (a .codebook .now) in
-    let t : Task = taskBy (a .source .now) (a .lambda) (a .radius) (a .four) in
+    let t : Task = taskBy (a .source .now) (a .settings) in
     let w = c .before .before .before .before .before .before .before .before .before .before .before .before .before .before .before .encode-inter-plane-stated in
     rw (← plane-text g t (s .pre .0) (a .out .now) (a .recon .now) (a .vx .now) (a .vy .now) (a .stated .now) (s .pre .1) (w .result) _ _ _ _ _ (w .ensures)) (c .before .before .put-plane .ensures)
 

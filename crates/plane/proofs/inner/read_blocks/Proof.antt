@@ -2,7 +2,7 @@
 use mathlib.Core.Path.{_∙_}
 use Prim.Native.Nat.{_-_, _<_}
 use Rattle.macroblock.specs.Macroblock.{Given}
-use Rattle.macroblock.specs.Slices.{Slices}
+use Rattle.macroblock.specs.Slices.{Slices, slicesBy}
 use Rattle.macroblock.specs.Inner.{givenBy}
 use Rattle.plane.specs.Plane.{count}
 use Rattle.plane.specs.Reader.{Going}
@@ -12,7 +12,7 @@ use Rattle.plane.proofs.inner.read_blocks.Statement.{statement}
 use Rattle.plane.proofs.inner.read_blocks.Tie as tie
 
 abbrev Inv-loop : tie.InvT-loop
-Inv-loop canvas reference book codebook raised bytes start recon₀ vx₀ vy₀ count k₀ at₀ recon vx vy k at = Going (givenBy canvas reference book codebook) bytes start (record { recon = recon₀; vx = vx₀; vy = vy₀ }) (record { recon = recon; vx = vx; vy = vy }) k at
+Inv-loop canvas reference book codebook raised bytes start recon₀ vx₀ vy₀ count k₀ at₀ recon vx vy k at = Going (givenBy canvas reference book codebook) bytes start (slicesBy recon₀ vx₀ vy₀) (slicesBy recon vx vy) k at
 
 abbrev μ-loop : tie.MeasureT-loop
 μ-loop canvas reference book codebook raised bytes start recon₀ vx₀ vy₀ count k₀ at₀ recon vx vy k at = count - k
@@ -29,7 +29,7 @@ loop-holds c =
     let s = c .before .before .before .before .before .before .before .before .before .before in
     let a = s .args in
     let g : Given = givenBy (a .canvas) (a .reference .now) (a .book .now) (a .codebook .now) in
-    let u : Slices = record { recon = a .recon .now; vx = a .vx .now; vy = a .vy .now } in
+    let u : Slices = slicesBy (a .recon .now) (a .vx .now) (a .vy .now) in
     begun g (a .raised .now) (a .bytes .now) (a .start) u (s .pre)
 
 read-macroblock-requires : tie.Need-read-macroblock-requires Inv-loop μ-loop
@@ -37,7 +37,7 @@ read-macroblock-requires c κs =
     let s = c .before .before .before .before .before .before .before .before .before .before .before .before .before .before .before in
     let a = s .args in
     let g : Given = givenBy (a .canvas) (a .reference .now) (a .book .now) (a .codebook .now) in
-    let u : Slices = record { recon = a .recon .now; vx = a .vx .now; vy = a .vy .now } in
+    let u : Slices = slicesBy (a .recon .now) (a .vx .now) (a .vy .now) in
     let l = c .before .before .before .before .loop in
     ready g (a .raised .now) (a .bytes .now) (a .start) u (s .pre) _ (l .k) (l .at) (l .inv) (rw (count-by g (a .raised .now) (s .pre .ok)) at (c .before .before .before .loop-test .taken))
 
@@ -55,7 +55,7 @@ returns c =
     let s = c .before .before .before .before .before .before .before .before .before .before .before .before .before .before .before .before .before .before .before .before .before .before .before .before in
     let a = s .args in
     let g : Given = givenBy (a .canvas) (a .reference .now) (a .book .now) (a .codebook .now) in
-    let u : Slices = record { recon = a .recon .now; vx = a .vx .now; vy = a .vy .now } in
+    let u : Slices = slicesBy (a .recon .now) (a .vx .now) (a .vy .now) in
     let l = c .before .before .before .before .before .before .before .before .before .before .before .before .before .loop in
     let h : l .k < count g = rw (count-by g (a .raised .now) (s .pre .ok)) at (c .before .before .before .before .before .before .before .before .before .before .before .before .loop-test .taken) in
     stop-early g (a .raised .now) (a .bytes .now) (a .start) u (s .pre) _ (l .k) (l .at) (l .inv) _ _ h (c .before .before .before .before .before .before .before .before .read-macroblock .ensures) (c .if1 .taken)
@@ -75,7 +75,7 @@ loop-again c =
     let s = c .before .before .before .before .before .before .before .before .before .before .before .before .before .before .before .before .before .before .before .before .before .before .before .before in
     let a = s .args in
     let g : Given = givenBy (a .canvas) (a .reference .now) (a .book .now) (a .codebook .now) in
-    let u : Slices = record { recon = a .recon .now; vx = a .vx .now; vy = a .vy .now } in
+    let u : Slices = slicesBy (a .recon .now) (a .vx .now) (a .vy .now) in
     let l = c .before .before .before .before .before .before .before .before .before .before .before .before .before .loop in
     let h : l .k < count g = rw (count-by g (a .raised .now) (s .pre .ok)) at (c .before .before .before .before .before .before .before .before .before .before .before .before .loop-test .taken) in
     turn g (a .raised .now) (a .bytes .now) (a .start) u (s .pre) _ (l .k) (l .at) (l .inv) _ _ h (c .before .before .before .before .before .before .before .before .read-macroblock .ensures) (c .if1 .left)
@@ -94,7 +94,7 @@ returns-2 c =
     let s = c .before .before .before .before .before .before .before .before .before .before .before .before in
     let a = s .args in
     let g : Given = givenBy (a .canvas) (a .reference .now) (a .book .now) (a .codebook .now) in
-    let u : Slices = record { recon = a .recon .now; vx = a .vx .now; vy = a .vy .now } in
+    let u : Slices = slicesBy (a .recon .now) (a .vx .now) (a .vy .now) in
     let l = c .before .loop in
     stop-last g (a .raised .now) (a .bytes .now) (a .start) u (s .pre) _ (l .k) (l .at) (l .inv) (rw (count-by g (a .raised .now) (s .pre .ok)) at (c .loop-test .left))
 

@@ -1,7 +1,7 @@
 -- Refused, or read to its end. Assumes nothing.
 use mathlib.Core.Path.{sym, _∙_}
 use Rattle.macroblock.specs.Macroblock.{Given}
-use Rattle.macroblock.specs.Slices.{Slices}
+use Rattle.macroblock.specs.Slices.{Slices, slicesBy}
 use Rattle.macroblock.specs.Inner.{givenBy}
 use Rattle.plane.specs.ReaderLaws.{refusal-is, accepted, call-refused, call-read}
 use borrow.Author.Needs.{needs}
@@ -15,14 +15,14 @@ returns : tie.Need-returns
 returns c =
     let a = c .before .before .before .before .before .before .before .before .before .args in
     let g : Given = givenBy (a .canvas) (a .reference .now) (a .book .now) (a .codebook .now) in
-    let u : Slices = record { recon = a .recon .now; vx = a .vx .now; vy = a .vy .now } in
+    let u : Slices = slicesBy (a .recon .now) (a .vx .now) (a .vy .now) in
     call-refused g (a .bytes .now) (a .start) u _ (c .before .read-refusal .ensures ∙ refusal-is g (a .bytes .now) (a .start) u) (c .if1 .taken)
 
 read-accepted-requires : tie.Need-read-accepted-requires
 read-accepted-requires c κs =
     let a = c .before .before .before .before .before .before .before .before .before .before .before .before .args in
     let g : Given = givenBy (a .canvas) (a .reference .now) (a .book .now) (a .codebook .now) in
-    let u : Slices = record { recon = a .recon .now; vx = a .vx .now; vy = a .vy .now } in
+    let u : Slices = slicesBy (a .recon .now) (a .vx .now) (a .vy .now) in
     accepted g (a .bytes .now) (a .start) u (sym (c .before .before .before .before .read-refusal .ensures ∙ refusal-is g (a .bytes .now) (a .start) u) ∙ c .before .before .before .if1 .left)
 
 same-length : tie.Need-same-length
@@ -38,7 +38,7 @@ returns-2 : tie.Need-returns-2
 returns-2 c =
     let a = c .before .before .before .before .before .before .before .before .before .before .before .before .before .before .before .before .before .before .before .args in
     let g : Given = givenBy (a .canvas) (a .reference .now) (a .book .now) (a .codebook .now) in
-    let u : Slices = record { recon = a .recon .now; vx = a .vx .now; vy = a .vy .now } in
+    let u : Slices = slicesBy (a .recon .now) (a .vx .now) (a .vy .now) in
     call-read g (a .bytes .now) (a .start) u _ _ (sym (c .before .before .before .before .before .before .before .before .before .before .before .read-refusal .ensures ∙ refusal-is g (a .bytes .now) (a .start) u) ∙ c .before .before .before .before .before .before .before .before .before .before .if1 .left) (c .before .before .before .before .before .before .read-accepted .ensures)
 
 pub decode-inter-plane-spec : {M : Type 1} → statement M

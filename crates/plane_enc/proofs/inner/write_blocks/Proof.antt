@@ -6,7 +6,7 @@ use Rattle.bits.specs.Bits.{bitsOf}
 use Rattle.macroblock.specs.Macroblock.{Given}
 use Rattle.macroblock.specs.Choice.{Task}
 use Rattle.macroblock_choice.specs.Chosen.{taskIn}
-use Rattle.macroblock.specs.Slices.{Slices}
+use Rattle.macroblock.specs.Slices.{Slices, slicesBy}
 use Rattle.macroblock.specs.Inner.{givenBy}
 use Rattle.plane.specs.Plane.{count}
 use Rattle.plane.specs.ReaderLaws.{count-by, count-most}
@@ -22,8 +22,8 @@ use Rattle.plane_enc.proofs.inner.write_blocks.Tie as tie
 
 abbrev Inv-loop : tie.InvT-loop
 Inv-loop canvas source reference book codebook raised lambda radius four limit out₀ start recon₀ vx₀ vy₀ stated₀ count k₀ at₀ bits₀ error₀ out recon vx vy stated k at bits error =
-    Underway (givenBy canvas reference book codebook) (taskIn source lambda radius four (limitOf limit)) out₀ start (record { recon = recon₀; vx = vx₀; vy = vy₀ }) out (record { recon = recon; vx = vx; vy = vy }) k at bits error
-    × Telling (givenBy canvas reference book codebook) (taskIn source lambda radius four (limitOf limit)) (bitsOf out₀) start (record { recon = recon₀; vx = vx₀; vy = vy₀ }) stated₀ (record { recon = recon; vx = vx; vy = vy }) stated k bits
+    Underway (givenBy canvas reference book codebook) (taskIn source lambda radius four (limitOf limit)) out₀ start (slicesBy recon₀ vx₀ vy₀) out (slicesBy recon vx vy) k at bits error
+    × Telling (givenBy canvas reference book codebook) (taskIn source lambda radius four (limitOf limit)) (bitsOf out₀) start (slicesBy recon₀ vx₀ vy₀) stated₀ (slicesBy recon vx vy) stated k bits
 
 abbrev μ-loop : tie.MeasureT-loop
 μ-loop canvas source reference book codebook raised lambda radius four limit out₀ start recon₀ vx₀ vy₀ stated₀ count k₀ at₀ bits₀ error₀ out recon vx vy stated k at bits error = count - k
@@ -40,8 +40,8 @@ loop-holds c =
     let s = c .before .before .before .before .before .before .before .before .before .before .before .before in
     let a = s .args in
     let g : Given = givenBy (a .canvas) (a .reference .now) (a .book .now) (a .codebook .now) in
-    let t : Task = taskIn (a .source .now) (a .lambda) (a .radius) (a .four) (limitOf (a .limit)) in
-    let u : Slices = record { recon = a .recon .now; vx = a .vx .now; vy = a .vy .now } in (
+    let t : Task = taskIn (a .source .now) (a .settings) (limitOf (a .limit)) in
+    let u : Slices = slicesBy (a .recon .now) (a .vx .now) (a .vy .now) in (
       begun g (a .raised .now) t (λ j. c .before .before .before .before .before .before .before .before .before .before .before .shared-slice-known .given j .fits) (λ j. c .before .before .before .before .before .before .before .before .before .before .shared-slice-known2 .given j .fits) (a .out .now) (a .start) u (s .pre .0) (s .pre .1) (s .pre .2 .skips-rest),
       telling-begun g t (bitsOf (a .out .now)) (a .start) u (a .stated .now),
     )
@@ -51,8 +51,8 @@ write-macroblock-requires c κs =
     let s = c .before .before .before .before .before .before .before .before .before .before .before .before .before .before .before .before .before .before in
     let a = s .args in
     let g : Given = givenBy (a .canvas) (a .reference .now) (a .book .now) (a .codebook .now) in
-    let t : Task = taskIn (a .source .now) (a .lambda) (a .radius) (a .four) (limitOf (a .limit)) in
-    let u : Slices = record { recon = a .recon .now; vx = a .vx .now; vy = a .vy .now } in
+    let t : Task = taskIn (a .source .now) (a .settings) (limitOf (a .limit)) in
+    let u : Slices = slicesBy (a .recon .now) (a .vx .now) (a .vy .now) in
     let l = c .before .before .before .before .before .loop in
     (ready g (a .raised .now) t (λ j. c .before .before .before .before .before .before .before .before .before .before .before .before .before .before .before .before .before .shared-slice-known .given j .fits) (λ j. c .before .before .before .before .before .before .before .before .before .before .before .before .before .before .before .before .shared-slice-known2 .given j .fits) (a .out .now) (a .start) u (s .pre .0) (s .pre .1) _ _ (l .k) (l .at) (l .bits) (l .error) (l .inv .0) (rw (count-by g (a .raised .now) (s .pre .0 .ok)) at (c .before .before .before .before .loop-test .taken)), record { skips-rest = l .inv .0 .skips-rest; few = s .pre .2 .few })
 
@@ -76,8 +76,8 @@ returns c =
     let s = c .before .before .before .before .before .before .before .before .before .before .before .before .before .before .before .before .before .before .before .before .before .before .before .before .before .before .before .before .before in
     let a = s .args in
     let g : Given = givenBy (a .canvas) (a .reference .now) (a .book .now) (a .codebook .now) in
-    let t : Task = taskIn (a .source .now) (a .lambda) (a .radius) (a .four) (limitOf (a .limit)) in
-    let u : Slices = record { recon = a .recon .now; vx = a .vx .now; vy = a .vy .now } in
+    let t : Task = taskIn (a .source .now) (a .settings) (limitOf (a .limit)) in
+    let u : Slices = slicesBy (a .recon .now) (a .vx .now) (a .vy .now) in
     let l = c .before .before .before .before .before .before .before .before .before .before .before .before .before .before .before .before .loop in
     let h : l .k < count g = rw (count-by g (a .raised .now) (s .pre .0 .ok)) at (c .before .before .before .before .before .before .before .before .before .before .before .before .before .before .before .loop-test .taken) in
     record {
@@ -96,8 +96,8 @@ add-bits c =
     let s = c .before .before .before .before .before .before .before .before .before .before .before .before .before .before .before .before .before .before .before .before .before .before .before .before .before .before .before .before .before .before .before .before .before .before in
     let a = s .args in
     let g : Given = givenBy (a .canvas) (a .reference .now) (a .book .now) (a .codebook .now) in
-    let t : Task = taskIn (a .source .now) (a .lambda) (a .radius) (a .four) (limitOf (a .limit)) in
-    let u : Slices = record { recon = a .recon .now; vx = a .vx .now; vy = a .vy .now } in
+    let t : Task = taskIn (a .source .now) (a .settings) (limitOf (a .limit)) in
+    let u : Slices = slicesBy (a .recon .now) (a .vx .now) (a .vy .now) in
     let l = c .before .before .before .before .before .before .before .before .before .before .before .before .before .before .before .before .before .before .before .before .before .loop in
     let h : l .k < count g = rw (count-by g (a .raised .now) (s .pre .0 .ok)) at (c .before .before .before .before .before .before .before .before .before .before .before .before .before .before .before .before .before .before .before .before .loop-test .taken) in
     omega (arith, h, l .inv .0 .few-bits, few g (a .raised .now) t (λ j. c .before .before .before .before .before .before .before .before .before .before .before .before .before .before .before .before .before .before .before .before .before .before .before .before .before .before .before .before .before .before .before .before .before .shared-slice-known .given j .fits) (λ j. c .before .before .before .before .before .before .before .before .before .before .before .before .before .before .before .before .before .before .before .before .before .before .before .before .before .before .before .before .before .before .before .before .shared-slice-known2 .given j .fits) (a .out .now) (a .start) u (s .pre .0) (s .pre .1) _ _ (l .k) (l .at) (l .bits) (l .error) (l .inv .0) _ _ _ h (c .before .before .before .before .before .before .before .before .before .before .before .before .before .before .before .write-macroblock .ensures), count-most g (a .raised .now) (s .pre .0 .ok))
@@ -110,8 +110,8 @@ add-error c =
     let s = c .before .before .before .before .before .before .before .before .before .before .before .before .before .before .before .before .before .before .before .before .before .before .before .before .before .before .before .before .before .before .before .before .before .before .before in
     let a = s .args in
     let g : Given = givenBy (a .canvas) (a .reference .now) (a .book .now) (a .codebook .now) in
-    let t : Task = taskIn (a .source .now) (a .lambda) (a .radius) (a .four) (limitOf (a .limit)) in
-    let u : Slices = record { recon = a .recon .now; vx = a .vx .now; vy = a .vy .now } in
+    let t : Task = taskIn (a .source .now) (a .settings) (limitOf (a .limit)) in
+    let u : Slices = slicesBy (a .recon .now) (a .vx .now) (a .vy .now) in
     let l = c .before .before .before .before .before .before .before .before .before .before .before .before .before .before .before .before .before .before .before .before .before .before .loop in
     let h : l .k < count g = rw (count-by g (a .raised .now) (s .pre .0 .ok)) at (c .before .before .before .before .before .before .before .before .before .before .before .before .before .before .before .before .before .before .before .before .before .loop-test .taken) in
     omega (arith, h, l .inv .0 .low-error, low g (a .raised .now) t (λ j. c .before .before .before .before .before .before .before .before .before .before .before .before .before .before .before .before .before .before .before .before .before .before .before .before .before .before .before .before .before .before .before .before .before .before .shared-slice-known .given j .fits) (λ j. c .before .before .before .before .before .before .before .before .before .before .before .before .before .before .before .before .before .before .before .before .before .before .before .before .before .before .before .before .before .before .before .before .before .shared-slice-known2 .given j .fits) (a .out .now) (a .start) u (s .pre .0) (s .pre .1) _ _ (l .k) (l .at) (l .bits) (l .error) (l .inv .0) _ _ _ h (c .before .before .before .before .before .before .before .before .before .before .before .before .before .before .before .before .write-macroblock .ensures), count-most g (a .raised .now) (s .pre .0 .ok))
@@ -131,8 +131,8 @@ loop-again c =
     let s = c .before .before .before .before .before .before .before .before .before .before .before .before .before .before .before .before .before .before .before .before .before .before .before .before .before .before .before .before .before .before .before .before .before .before .before in
     let a = s .args in
     let g : Given = givenBy (a .canvas) (a .reference .now) (a .book .now) (a .codebook .now) in
-    let t : Task = taskIn (a .source .now) (a .lambda) (a .radius) (a .four) (limitOf (a .limit)) in
-    let u : Slices = record { recon = a .recon .now; vx = a .vx .now; vy = a .vy .now } in
+    let t : Task = taskIn (a .source .now) (a .settings) (limitOf (a .limit)) in
+    let u : Slices = slicesBy (a .recon .now) (a .vx .now) (a .vy .now) in
     let l = c .before .before .before .before .before .before .before .before .before .before .before .before .before .before .before .before .before .before .before .before .before .before .loop in
     let h : l .k < count g = rw (count-by g (a .raised .now) (s .pre .0 .ok)) at (c .before .before .before .before .before .before .before .before .before .before .before .before .before .before .before .before .before .before .before .before .before .loop-test .taken) in
     let w = c .before .before .before .before .before .before .before .before .before .before .before .before .before .before .before .before .write-macroblock in (
@@ -160,8 +160,8 @@ returns-2 c =
     let s = c .before .before .before .before .before .before .before .before .before .before .before .before .before .before in
     let a = s .args in
     let g : Given = givenBy (a .canvas) (a .reference .now) (a .book .now) (a .codebook .now) in
-    let t : Task = taskIn (a .source .now) (a .lambda) (a .radius) (a .four) (limitOf (a .limit)) in
-    let u : Slices = record { recon = a .recon .now; vx = a .vx .now; vy = a .vy .now } in
+    let t : Task = taskIn (a .source .now) (a .settings) (limitOf (a .limit)) in
+    let u : Slices = slicesBy (a .recon .now) (a .vx .now) (a .vy .now) in
     let l = c .before .loop in
     record {
       written = stop-last g (a .raised .now) t (λ j. c .before .before .before .before .before .before .before .before .before .before .before .before .before .shared-slice-known .given j .fits) (λ j. c .before .before .before .before .before .before .before .before .before .before .before .before .shared-slice-known2 .given j .fits) (a .out .now) (a .start) u (s .pre .0) (s .pre .1) _ _ (l .k) (l .at) (l .bits) (l .error) (l .inv .0) (rw (count-by g (a .raised .now) (s .pre .0 .ok)) at (c .loop-test .left));

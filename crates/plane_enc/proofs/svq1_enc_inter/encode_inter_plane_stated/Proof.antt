@@ -5,7 +5,7 @@ use Rattle.bits.specs.Bits.{bitsOf}
 use Rattle.macroblock.specs.Macroblock.{Given}
 use Rattle.macroblock.specs.Choice.{Task}
 use Rattle.macroblock_choice.specs.Chosen.{taskBy}
-use Rattle.macroblock.specs.Slices.{Slices}
+use Rattle.macroblock.specs.Slices.{Slices, slicesBy}
 use Rattle.macroblock.specs.Inner.{givenBy}
 use Rattle.plane_enc.specs.StatedLaws.{in-none}
 use Rattle.plane_enc.specs.WriterLaws.{refusal-is, write-accepted, call-refused, call-written}
@@ -20,8 +20,8 @@ returns : tie.Need-returns
 returns c =
     let a = c .before .before .before .before .before .before .before .before .before .before .before .args in
     let g : Given = givenBy (a .canvas) (a .reference .now) (a .book .now) (a .codebook .now) in
-    let t : Task = taskBy (a .source .now) (a .lambda) (a .radius) (a .four) in
-    let u : Slices = record { recon = a .recon .now; vx = a .vx .now; vy = a .vy .now } in
+    let t : Task = taskBy (a .source .now) (a .settings) in
+    let u : Slices = slicesBy (a .recon .now) (a .vx .now) (a .vy .now) in
     record {
       written = call-refused g t (a .out .now) (a .start) u _ (c .before .write-refusal .ensures ∙ refusal-is g t (a .out .now) (a .start) u) (c .if1 .taken);
       stated = sym (in-none g t (bitsOf (a .out .now)) (a .start) u (a .stated .now));
@@ -31,8 +31,8 @@ write-accepted-requires : tie.Need-write-accepted-requires
 write-accepted-requires c κs =
     let a = c .before .before .before .before .before .before .before .before .before .before .before .before .before .before .before .before .args in
     let g : Given = givenBy (a .canvas) (a .reference .now) (a .book .now) (a .codebook .now) in
-    let t : Task = taskBy (a .source .now) (a .lambda) (a .radius) (a .four) in
-    let u : Slices = record { recon = a .recon .now; vx = a .vx .now; vy = a .vy .now } in
+    let t : Task = taskBy (a .source .now) (a .settings) in
+    let u : Slices = slicesBy (a .recon .now) (a .vx .now) (a .vy .now) in
     let w = write-accepted g t (a .out .now) (a .start) u (sym (c .before .before .before .before .before .before .write-refusal .ensures ∙ refusal-is g t (a .out .now) (a .start) u) ∙ c .before .before .before .before .before .if1 .left) in
     (w .0, w .1, record { skips-rest = refl; few = omega arith })
 
@@ -55,8 +55,8 @@ returns-2 : tie.Need-returns-2
 returns-2 c =
     let a = c .before .before .before .before .before .before .before .before .before .before .before .before .before .before .before .before .before .before .before .before .before .before .before .before .before .before .before .args in
     let g : Given = givenBy (a .canvas) (a .reference .now) (a .book .now) (a .codebook .now) in
-    let t : Task = taskBy (a .source .now) (a .lambda) (a .radius) (a .four) in
-    let u : Slices = record { recon = a .recon .now; vx = a .vx .now; vy = a .vy .now } in
+    let t : Task = taskBy (a .source .now) (a .settings) in
+    let u : Slices = slicesBy (a .recon .now) (a .vx .now) (a .vy .now) in
     record {
       written = call-written g t (a .out .now) (a .start) u _ _ _ (sym (c .before .before .before .before .before .before .before .before .before .before .before .before .before .before .before .before .before .write-refusal .ensures ∙ refusal-is g t (a .out .now) (a .start) u) ∙ c .before .before .before .before .before .before .before .before .before .before .before .before .before .before .before .before .if1 .left) (c .before .before .before .before .before .before .before .before .before .before .write-accepted .ensures .written);
       stated = c .before .before .before .before .before .before .before .before .before .before .write-accepted .ensures .stated;

@@ -53,7 +53,7 @@ returns : tie.Need-returns
 returns c =
     let s = c .before .before .before .before .before .before .before .before .before .before .before .before in
     let a = s .args in
-    chosen-for (a .canvas) (a .reference .now) (a .book .now) (a .codebook .now) (a .target .now) (a .lambda) (a .radius) (a .four) (a .room) (a .k) (nearFrom (a .near)) _ _ _ _ _ _ _ (c .before .before .before .before .before .before .skip-candidate .ensures .0) (c .before .before .before .before .before .single-motion .ensures) (c .before .before .before .still-found .ensures) (c .before .four-motion .ensures)
+    chosen-for (a .canvas) (a .reference .now) (a .book .now) (a .codebook .now) (a .target .now) (a .settings) (a .room) (a .k) (nearFrom (a .near)) _ _ _ _ _ _ _ (c .before .before .before .before .before .before .skip-candidate .ensures .0) (c .before .before .before .before .before .single-motion .ensures) (c .before .before .before .still-found .ensures) (c .before .four-motion .ensures)
     (c .before .before .before .before .try-motion .ensures) (c .before .before .try-motion2 .ensures) (c .try-motion3 .ensures)
 
 pub choose-for-spec : {M : Type 1} → statement M

@@ -25,7 +25,7 @@ returns : tie.Need-returns
 returns c =
     let s = c .before .before .before .before .before .before .before .before .before .before .before .before in
     let a = s .args in
-    chosen-by (givenBy (a .canvas) (a .reference .now) (a .book .now) (a .codebook .now)) (a .raised .now) (a .source .now) (a .k) (s .pre .0) (a .lambda) (a .radius) (a .four) (a .room) _ (nearFrom (a .near)) _ (c .before .before .before .before .block .ensures) (c .choose-for .ensures)
+    chosen-by (givenBy (a .canvas) (a .reference .now) (a .book .now) (a .codebook .now)) (a .raised .now) (a .source .now) (a .k) (s .pre .0) (a .settings) (a .room) _ (nearFrom (a .near)) _ (c .before .before .before .before .block .ensures) (c .choose-for .ensures)
 
 pub choose-over-spec : {M : Type 1} → statement M
 choose-over-spec =

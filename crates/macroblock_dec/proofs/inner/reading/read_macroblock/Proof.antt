@@ -1,7 +1,7 @@
 -- What is read, and laid where it is not refused. Assumes nothing.
 use native.Mathlib.Omega.{arith}
 use Rattle.bits.specs.Basics.{Bytes}
-use Rattle.macroblock.specs.Slices.{Slices}
+use Rattle.macroblock.specs.Slices.{Slices, slicesBy}
 use Rattle.macroblock_dec.specs.ReadCallLaws.{among-asks, call-refused, lay-ready, call-laid}
 use borrow.Author.Needs.{needs}
 use Rattle.macroblock_dec.proofs.inner.reading.read_macroblock.Statement.{statement}
@@ -11,7 +11,7 @@ read-among-requires : tie.Need-read-among-requires
 read-among-requires c κs =
     let s = c .before .before .before .before .before .before .before .before .before .before .before .before in
     let a = s .args in
-    let u : Slices = record { recon = a .recon .now; vx = a .vx .now; vy = a .vy .now } in
+    let u : Slices = slicesBy (a .recon .now) (a .vx .now) (a .vy .now) in
     among-asks (a .canvas) (a .reference .now) (a .book .now) (a .codebook .now) (a .raised .now) (a .s .now) (a .at) (a .k) u (s .pre)
 
 same-length : tie.Need-same-length
@@ -24,7 +24,7 @@ returns : tie.Need-returns
 returns c =
     let s = c .before .before .before .before .before .before .before .before .before .before .before .before .before .before .before .before .before in
     let a = s .args in
-    let u : Slices = record { recon = a .recon .now; vx = a .vx .now; vy = a .vy .now } in
+    let u : Slices = slicesBy (a .recon .now) (a .vx .now) (a .vy .now) in
     let m = c .before .before .before .before .read-among in
     call-refused (a .canvas) (a .reference .now) (a .book .now) (a .codebook .now) (a .raised .now) (a .s .now) (a .at) (a .k) u (s .pre) (m .result) (m .ensures) (c .if1 .taken)
 
@@ -32,7 +32,7 @@ lay-choice-requires : tie.Need-lay-choice-requires
 lay-choice-requires c κs =
     let s = c .before .before .before .before .before .before .before .before .before .before .before .before .before .before .before .before .before .before .before .before in
     let a = s .args in
-    let u : Slices = record { recon = a .recon .now; vx = a .vx .now; vy = a .vy .now } in
+    let u : Slices = slicesBy (a .recon .now) (a .vx .now) (a .vy .now) in
     let m = c .before .before .before .before .before .before .before .read-among in
     lay-ready (a .canvas) (a .reference .now) (a .book .now) (a .codebook .now) (a .raised .now) (a .s .now) (a .at) (a .k) u (s .pre) (m .result) (m .ensures) (c .before .before .before .if1 .left)
 
@@ -49,7 +49,7 @@ returns-2 : tie.Need-returns-2
 returns-2 c =
     let s = c .before .before .before .before .before .before .before .before .before .before .before .before .before .before .before .before .before .before .before .before .before .before .before .before .before .before .before in
     let a = s .args in
-    let u : Slices = record { recon = a .recon .now; vx = a .vx .now; vy = a .vy .now } in
+    let u : Slices = slicesBy (a .recon .now) (a .vx .now) (a .vy .now) in
     let m = c .before .before .before .before .before .before .before .before .before .before .before .before .before .before .read-among in
     let bytes : Bytes (a .codebook .now) = λ i. omega (arith, c .before .before .before .before .before .before .before .before .before .before .before .before .before .before .before .before .before .before .before .before .before .before .before .before .shared-slice-known3 .given i) in
     call-laid (a .canvas) (a .reference .now) (a .book .now) (a .codebook .now) (a .raised .now) (a .s .now) (a .at) (a .k) u (s .pre) (m .result) (m .ensures) (c .before .before .before .before .before .before .before .before .before .before .if1 .left) _ _ _ bytes (c .before .before .before .before .before .before .lay-choice .ensures)
