@@ -48,6 +48,11 @@ valuesFrom f (suc n) j = f j ∷ valuesFrom f n (suc j)
 abbrev pub orElse : ℕ → ℕ → ℕ
 orElse a b = pick (eqb a 0) b a
 
+-- the first of a chain of refusals that is one
+unfoldable pub firstOf : List ℕ → ℕ
+firstOf [] = 0
+firstOf (n ∷ ns) = orElse n (firstOf ns)
+
 -- the refusal where the test fails
 abbrev pub unless : Bool → ℕ → ℕ
 unless b n = pick b 0 n

@@ -10,7 +10,7 @@ use lib.Dec.{eqb}
 use lib.ListN.{length, getD, take, drop, length-append, length-drop}
 use lib.Seq.{take-all}
 use borrow.Author.Tests.{eq-eqb, ne-eqb, eqb-true, eqb-false}
-use Rattle.bits.specs.Basics.{orElse, unless, valuesFrom}
+use Rattle.bits.specs.Basics.{All, orElse, firstOf, unless, valuesFrom}
 
 -- ---- tests
 pub both-true : (a b : Bool) → (a && b) ≡ true → (a ≡ true) × (b ≡ true)
@@ -42,6 +42,57 @@ or-none a b h = go (eqb a 0) refl
     go : (t : Bool) → eqb a 0 ≡ t → (a ≡ 0) × (b ≡ 0)
     go true e = (eqb-true a 0 e, rw e at h)
     go false e = absurd (eqb-false a 0 e (rw e at h))
+
+-- ---- a chain of refusals
+or-zero : (a : ℕ) → orElse a 0 ≡ a
+or-zero a = go (eqb a 0) refl
+  where
+    go : (t : Bool) → eqb a 0 ≡ t → orElse a 0 ≡ a
+    go true e = rw e (sym (eqb-true a 0 e))
+    go false e = rw e
+
+-- r is its answer: its first link refuses with r, it passes, or it is the last
+pub first-met : (r n : ℕ) (ns : List ℕ) → r ≡ n → (r ≡ 0 → ⊥) → r ≡ firstOf (n ∷ ns)
+unfolding firstOf
+first-met r n ns e h = e ∙ sym (or-first n (firstOf ns) (λ z. h (e ∙ z)))
+
+pub first-passed : (r n : ℕ) (ns : List ℕ) → n ≡ 0 → r ≡ firstOf ns → r ≡ firstOf (n ∷ ns)
+unfolding firstOf
+first-passed r n ns z e = e ∙ sym (or-next n (firstOf ns) z)
+
+pub first-last : (r n : ℕ) → r ≡ n → r ≡ firstOf (n ∷ [])
+unfolding firstOf
+first-last r n e = e ∙ sym (or-zero n)
+
+or-assoc : (a b c d : ℕ) → b ≡ orElse c d → orElse a b ≡ orElse (orElse a c) d
+or-assoc a b c d h = go (eqb a 0) refl
+  where
+    go : (t : Bool) → eqb a 0 ≡ t → orElse a b ≡ orElse (orElse a c) d
+    go true e = rw e h
+    go false e = rw (e, e)
+
+-- two chains, one behind the other
+pub first-append : (ns ms : List ℕ) → firstOf (ns ++ ms) ≡ orElse (firstOf ns) (firstOf ms)
+unfolding firstOf
+first-append [] ms = refl
+first-append (n ∷ ns) ms = or-assoc n (firstOf (ns ++ ms)) (firstOf ns) (firstOf ms) (first-append ns ms)
+
+-- r is the answer of the first of them where that refuses, else of the second
+pub chain-met : (r : ℕ) (ns ms : List ℕ) → r ≡ firstOf ns → (r ≡ 0 → ⊥) → r ≡ firstOf (ns ++ ms)
+chain-met r ns ms e h = e ∙ sym (first-append ns ms ∙ or-first (firstOf ns) (firstOf ms) (λ z. h (e ∙ z)))
+
+pub chain-passed : (r : ℕ) (ns ms : List ℕ) → firstOf ns ≡ 0 → r ≡ firstOf ms → r ≡ firstOf (ns ++ ms)
+chain-passed r ns ms z e = e ∙ sym (first-append ns ms ∙ or-next (firstOf ns) (firstOf ms) z)
+
+pub two-links : (a b : ℕ) → firstOf (a ∷ b ∷ []) ≡ orElse a b
+unfolding firstOf
+two-links a b = ap (orElse a) (or-zero b)
+
+-- where none of it refuses, each link passes
+pub first-none : (ns : List ℕ) → firstOf ns ≡ 0 → All (λ n. n ≡ 0) ns
+unfolding firstOf
+first-none [] e = tt
+first-none (n ∷ ns) e = let p = or-none n (firstOf ns) e in (p .0, first-none ns (p .1))
 
 pub unless-none : (b : Bool) (n : ℕ) → 0 < n → unless b n ≡ 0 → b ≡ true
 unless-none true n h e = refl

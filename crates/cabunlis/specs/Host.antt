@@ -1,22 +1,17 @@
 -- What the C host's calls answer, and every byte that they leave (document 01, "Refused for the state met": a C program calls the writer and reader with numbers and byte slices).
 use Prim.Native.Nat.{ℕ}
-use mathlib.Core.Bool.{Bool, _||_}
 use mathlib.Core.List.{List}
 use mathlib.Core.Path.{_≡_}
-use lib.Dec.{eqb}
 use Rattle.bits.specs.Basics.{pick}
 use Rattle.macroblock.specs.Macroblock.{Given}
 use Rattle.macroblock.specs.Choice.{Task}
 use Rattle.macroblock.specs.Slices.{Slices}
+use Rattle.plane.specs.Refusals.{midPlane}
 use Rattle.plane.specs.Calls.{PlaneAnswer, writeAnswer, PlaneWritten, readPlaneAnswer, PlaneRead}
 use Rattle.plane_enc.specs.Stated.{PlaneStated}
 use Rattle.plane_room.specs.declared.Room.{Room}
 use Rattle.cabunlis.specs.declared.planes.HostAnswer.{HostAnswer}
 use Rattle.cabunlis.specs.declared.rooms.HostRoom.{HostRoom}
-
--- the refusals that come in the middle of a plane and add the macroblock's index: 10, 11, 22 and 24
-unfoldable pub midPlane : ℕ → Bool
-midPlane n = (eqb n 10 || eqb n 11) || (eqb n 22 || eqb n 24)
 
 -- a plane call's answer as a C struct; the index is that of the macroblock met with 10, 11, 22 and 24, else 0
 abbrev pub hostAnswer : PlaneAnswer → HostAnswer
@@ -24,19 +19,19 @@ hostAnswer a =
     record { refusal = a .refusal; macroblock = pick (midPlane (a .refusal)) (a .done) 0; done = a .done; next = a .next; bits = a .bits; error = a .error }
 
 -- the writer: r is the answer of the definition, and the slices are left as it says
-pub record HostWritten (g : Given) (t : Task) (out : List ℕ) (start : ℕ) (s : Slices) (r : HostAnswer) (out' recon' vx' vy' : List ℕ) : Type 0 where
+pub record HostWritten (g : Given) (t : Task) (out : List ℕ) (start : ℕ) (s : Slices) (r : HostAnswer) (out' : List ℕ) (s' : Slices) : Type 0 where
   pub answer : r ≡ hostAnswer (writeAnswer g t out start s)
-  pub left : PlaneWritten g t out start s (writeAnswer g t out start s) out' recon' vx' vy'
+  pub left : PlaneWritten g t out start s (writeAnswer g t out start s) out' s'
 
 -- the same with `stated`, which holds held before and what the macroblocks state after
-pub record HostStated (g : Given) (t : Task) (out : List ℕ) (start : ℕ) (s : Slices) (held : List ℕ) (r : HostAnswer) (out' recon' vx' vy' stated' : List ℕ) : Type 0 where
+pub record HostStated (g : Given) (t : Task) (out : List ℕ) (start : ℕ) (s : Slices) (held : List ℕ) (r : HostAnswer) (out' : List ℕ) (s' : Slices) (stated' : List ℕ) : Type 0 where
   pub answer : r ≡ hostAnswer (writeAnswer g t out start s)
-  pub left : PlaneStated g t out start s held (writeAnswer g t out start s) out' recon' vx' vy' stated'
+  pub left : PlaneStated g t out start s held (writeAnswer g t out start s) out' s' stated'
 
 -- the reader
-pub record HostRead (g : Given) (bytes : List ℕ) (start : ℕ) (s : Slices) (r : HostAnswer) (recon' vx' vy' : List ℕ) : Type 0 where
+pub record HostRead (g : Given) (bytes : List ℕ) (start : ℕ) (s : Slices) (r : HostAnswer) (s' : Slices) : Type 0 where
   pub answer : r ≡ hostAnswer (readPlaneAnswer g bytes start s)
-  pub left : PlaneRead g bytes start s (readPlaneAnswer g bytes start s) recon' vx' vy'
+  pub left : PlaneRead g bytes start s (readPlaneAnswer g bytes start s) s'
 
 -- a room as a C struct stands for it
 abbrev pub roomOf : HostRoom → Room

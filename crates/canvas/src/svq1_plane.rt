@@ -1,8 +1,8 @@
 // Planes and their canvases, and refusals 1, 3 and 4.
 ghost use mathlib.Core.Path.{_≡_};
 ghost use Prim.Native.Nat.{_≤_};
-ghost use Rattle.bits.specs.Basics.{orElse};
-ghost use Rattle.canvas.specs.Canvas.{largestSide, padded16, sideOk, sizeRefusal, canvasRefusal};
+ghost use Rattle.bits.specs.Basics.{orElse, firstOf};
+ghost use Rattle.canvas.specs.Canvas.{largestSide, padded16, sideOk, sizeRefusal, canvasRefusal, sourceLinks};
 
 // The side of a macroblock in samples.
 pub const MB_DIM: usize = 16;
@@ -76,4 +76,20 @@ pub fn plane_refusal(
         return n;
     }
     canvas_refusal(reference, width, height, stride, rows)
+}
+
+// The refusals 1 to 4 of a plane, its source, of which the length is given, and its reference's canvas; 0 for none.
+pub fn source_refusal(canvas: Svq1PlaneCanvas, source: usize, reference: &[u8]) -> u8
+    ensures { λ r. ⌜ r ≡ firstOf (sourceLinks (canvas .width) (canvas .height) source (record { samples = now (reference .entry); stride = canvas .stride; rows = canvas .rows })) ⌝ }
+{
+    let width = canvas.width;
+    let height = canvas.height;
+    let n = size_refusal(width, height);
+    if n != 0 {
+        return n;
+    }
+    if source != width * height {
+        return 2;
+    }
+    canvas_refusal(reference, width, height, canvas.stride, canvas.rows)
 }

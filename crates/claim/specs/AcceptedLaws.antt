@@ -1,26 +1,22 @@
 -- Laws of acceptance: what is known of a plane that no refusal meets.
 -- Assumes nothing.
 use mathlib.Core.Path.{_≡_, ap, _∙_}
-use Prim.Native.Nat.{ℕ, _-_, _*_, _<_}
+use Prim.Native.Nat.{ℕ, _*_, _<_}
 use native.Mathlib.Omega.{arith}
 use native.Mathlib.Nat.{mul-comm}
-use mathlib.Core.Bool.{_&&_}
 use mathlib.Core.List.{List}
-use lib.Dec.{eqb, leb}
 use lib.ListN.{length}
-use borrow.Author.Tests.{leb-true, eqb-true}
-use Rattle.bits.specs.Basics.{orElse, unless}
-use Rattle.bits.specs.BasicsLaws.{both-true, or-none, unless-none, length-values}
-use Rattle.bits.specs.Calls.{startRefusal}
+use Rattle.bits.specs.BasicsLaws.{or-next, length-values}
 use Rattle.book.specs.Book.{dataRefusal}
 use Rattle.book.specs.BookLaws.{data-passes}
-use Rattle.canvas.specs.Canvas.{largestSide, sideOk, padded16, sizeRefusal, canvasRefusal}
+use Rattle.canvas.specs.Canvas.{sizeRefusal, canvasRefusal}
+use Rattle.canvas.specs.CanvasLaws.{plane-passes}
 use Rattle.macroblock.specs.Macroblock.{Given, cols, rows}
 use Rattle.macroblock.specs.Choice.{Task, paddedSource}
 use Rattle.macroblock.specs.MacroblockLaws.{Fine}
 use Rattle.macroblock.specs.Slices.{Slices}
-use Rattle.plane.specs.Plane.{count}
-use Rattle.plane.specs.Calls.{sourceRefusal, slicesRefusal, writeRefusal}
+use Rattle.plane.specs.Refusals.{slicesRefusal, writeRefusal}
+use Rattle.plane.specs.RefusalsLaws.{slices-held, write-accepted}
 use Rattle.plane.specs.SlicesLaws.{Sized}
 use Rattle.claim.specs.Claim.{InMemory}
 
@@ -33,70 +29,26 @@ pub record Accepted (g : Given) (t : Task) : Type 0 where
   pub canvas-passes : canvasRefusal (g .width) (g .height) (g .reference) ≡ 0
   pub data-passes : dataRefusal (g .book) (g .codebook) ≡ 0
 
-module _ (g : Given) (t : Task) (out : List ℕ) (start : ℕ) (a : Slices) where
-  -- the parts of the writer's refusal
-  record Passes : Type 0 where
-    size : sizeRefusal (g .width) (g .height) ≡ 0
-    source : sourceRefusal g t ≡ 0
-    canvas : canvasRefusal (g .width) (g .height) (g .reference) ≡ 0
-    tables : dataRefusal (g .book) (g .codebook) ≡ 0
-    slices : slicesRefusal g a ≡ 0
-    begins : startRefusal (length out) start ≡ 0
-
-  passes : writeRefusal g t out start a ≡ 0 → Passes
-  unfolding writeRefusal
-  passes e =
-      let r5 = orElse (slicesRefusal g a) (startRefusal (length out) start) in
-      let r4 = orElse (dataRefusal (g .book) (g .codebook)) r5 in
-      let r3 = orElse (canvasRefusal (g .width) (g .height) (g .reference)) r4 in
-      let r2 = orElse (sourceRefusal g t) r3 in
-      let p1 = or-none (sizeRefusal (g .width) (g .height)) r2 e in
-      let p2 = or-none (sourceRefusal g t) r3 (p1 .1) in
-      let p3 = or-none (canvasRefusal (g .width) (g .height) (g .reference)) r4 (p2 .1) in
-      let p4 = or-none (dataRefusal (g .book) (g .codebook)) r5 (p3 .1) in
-      let p5 = or-none (slicesRefusal g a) (startRefusal (length out) start) (p4 .1) in
-      record { size = p1 .0; source = p2 .0; canvas = p3 .0; tables = p4 .0; slices = p5 .0; begins = p5 .1 }
-
-  pub results-pass : writeRefusal g t out start a ≡ 0 → (slicesRefusal g a ≡ 0) × (startRefusal (length out) start ≡ 0)
-  results-pass e = (passes e .slices, passes e .begins)
-
-  pub accepted : InMemory g t out start a → writeRefusal g t out start a ≡ 0 → Accepted g t
-  accepted mem e =
-      let p = passes e in
-      let c3 = eqb (g .reference .stride) (padded16 (g .width)) && eqb (g .reference .rows) (padded16 (g .height)) in
-      let c4 = eqb (length (g .reference .samples)) (g .reference .stride * g .reference .rows) in
-      let two = or-none (unless c3 3) (unless c4 4) (p .canvas) in
-      let sr = both-true (eqb (g .reference .stride) (padded16 (g .width))) (eqb (g .reference .rows) (padded16 (g .height))) (unless-none c3 3 (omega arith) (two .0)) in
-      let hs = eqb-true (g .reference .stride) (padded16 (g .width)) (sr .0) in
-      let hr = eqb-true (g .reference .rows) (padded16 (g .height)) (sr .1) in
-      let hl = eqb-true (length (g .reference .samples)) (g .reference .stride * g .reference .rows) (unless-none c4 4 (omega arith) (two .1)) in
-      let area : g .reference .stride * g .reference .rows ≡ rows g * 16 * (16 * cols g) =
-      rw (hs, hr) (mul-comm (16 * cols g) (16 * rows g) ∙ ap (λ (n : ℕ). n * (16 * cols g)) (mul-comm 16 (rows g))) in
-      let ok = both-true (sideOk (g .width)) (sideOk (g .height)) (unless-none (sideOk (g .width) && sideOk (g .height)) 1 (omega arith) (p .size)) in
-      let some = leb-true 1 (g .width) (both-true (leb 1 (g .width)) (leb (g .width) largestSide) (ok .0) .0) in
-      record {
-        fine = record { book = data-passes (g .book) (g .codebook) (p .tables) .1; source-bytes = mem .source; reference-bytes = mem .reference };
-        wide = omega arith;
-        canvas = area;
-        reference-size = hl ∙ area;
-        size-passes = p .size;
-        canvas-passes = p .canvas;
-        data-passes = p .tables;
-      }
+pub accepted : (g : Given) (t : Task) (out : List ℕ) (start : ℕ) (a : Slices) → InMemory g t out start a → writeRefusal g t out start a ≡ 0 → Accepted g t
+accepted g t out start a mem e =
+    let p = write-accepted g a (length out) start (length (t .source)) e .0 in
+    let f = plane-passes (g .width) (g .height) (g .reference) (or-next (sizeRefusal (g .width) (g .height)) _ (p .size) ∙ p .canvas) in
+    let area : g .reference .stride * g .reference .rows ≡ rows g * 16 * (16 * cols g) =
+    rw (f .stride, f .rows) (mul-comm (16 * cols g) (16 * rows g) ∙ ap (λ (n : ℕ). n * (16 * cols g)) (mul-comm 16 (rows g))) in
+    record {
+      fine = record { book = data-passes (g .book) (g .codebook) (p .tables) .1; source-bytes = mem .source; reference-bytes = mem .reference };
+      wide = omega (arith, f .width .some);
+      canvas = area;
+      reference-size = f .samples ∙ area;
+      size-passes = p .size;
+      canvas-passes = p .canvas;
+      data-passes = p .tables;
+    }
 
 pub slices-sized : (g : Given) (t : Task) → Accepted g t → (d : Slices) → slicesRefusal g d ≡ 0 → Sized g d
-unfolding slicesRefusal
 slices-sized g t ok d e =
-    let x = leb (4 * count g) (length (d .vx)) in
-    let y = leb (4 * count g) (length (d .vy)) in
-    let r = eqb (length (d .recon)) (g .reference .stride * g .reference .rows) in
-    let two = both-true (x && y) r (unless-none ((x && y) && r) 20 (omega arith) e) in
-    let xy = both-true x y (two .0) in
-    record {
-      recon = eqb-true (length (d .recon)) (g .reference .stride * g .reference .rows) (two .1) ∙ ok .canvas;
-      vx = leb-true (4 * count g) (length (d .vx)) (xy .0);
-      vy = leb-true (4 * count g) (length (d .vy)) (xy .1);
-    }
+    let h = slices-held g d e in
+    record { recon = h .recon-whole ∙ ok .canvas; blocks = h .blocks-long }
 
 pub padded-size : (g : Given) (t : Task) → Accepted g t → length (paddedSource g t) ≡ rows g * 16 * (16 * cols g)
 unfolding paddedSource

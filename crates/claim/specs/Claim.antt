@@ -15,9 +15,9 @@ use Rattle.macroblock.specs.declared.svq1_enc_inter.Svq1MbMode.the-variants.{Sk
 use Rattle.macroblock.specs.Macroblock.{Given, cols, Choice, modeBits}
 use Rattle.macroblock.specs.Limit.{canSkipRest}
 use Rattle.macroblock.specs.Choice.{Task, paddedSource, target, motionsTried, planningFor, fitting, weightOf}
-use Rattle.macroblock.specs.Slices.{Slices, near}
+use Rattle.macroblock.specs.Slices.{Slices, BlockSlice, blocksIn, near}
 use Rattle.plane.specs.Plane.{count, Writing, wrote, wroteWeight, wroteBits, writePlane, writingAt, readUpTo, readPlane}
-use Rattle.plane.specs.Calls.{writeRefusal, readRefusal, slicesRefusal}
+use Rattle.plane.specs.Refusals.{writeRefusal, readRefusal, slicesRefusal}
 
 -- macroblock k, written in state s, leads to state u: it appends exactly the bits that it states
 pub record Appended (g : Given) (t : Task) (k : ℕ) (s u : Writing) : Type 0 where
@@ -35,10 +35,8 @@ pub record ReadBack (g : Given) (bytes : List ℕ) (start : ℕ) (d : Slices) (s
   pub same-bit : (k : ℕ) → k ≤ count g → readUpTo g (bitsOf bytes) start d k .state .next ≡ s k .next
   pub ends : readPlane g (bitsOf bytes) start d .state .next ≡ s (count g) .next
   pub recon : readPlane g (bitsOf bytes) start d .state .slices .recon ≡ s (count g) .slices .recon
-  pub vx : take (4 * count g) (readPlane g (bitsOf bytes) start d .state .slices .vx) ≡ take (4 * count g) (s (count g) .slices .vx)
-  pub vy : take (4 * count g) (readPlane g (bitsOf bytes) start d .state .slices .vy) ≡ take (4 * count g) (s (count g) .slices .vy)
-  pub rest-vx : drop (4 * count g) (readPlane g (bitsOf bytes) start d .state .slices .vx) ≡ drop (4 * count g) (d .vx)
-  pub rest-vy : drop (4 * count g) (readPlane g (bitsOf bytes) start d .state .slices .vy) ≡ drop (4 * count g) (d .vy)
+  pub blocks : (b : BlockSlice) → take (4 * count g) (blocksIn b (readPlane g (bitsOf bytes) start d .state .slices)) ≡ take (4 * count g) (blocksIn b (s (count g) .slices))
+  pub rest : (b : BlockSlice) → drop (4 * count g) (blocksIn b (readPlane g (bitsOf bytes) start d .state .slices)) ≡ drop (4 * count g) (blocksIn b d)
 
 -- a plane written from bit start of the bytes out, with the result slices a: the state before macroblock k, and the state at the end
 module _ (g : Given) (t : Task) (out : List ℕ) (start : ℕ) (a : Slices) where
@@ -66,9 +64,8 @@ module _ (g : Given) (t : Task) (out : List ℕ) (start : ℕ) (a : Slices) wher
     pub bit-total : final .bits ≡ sum (λ k. wroteWeight g t k (stateAt k) .bits) (count g)
     pub error-total : final .error ≡ sum (λ k. wroteWeight g t k (stateAt k) .err) (count g)
     pub next-bit : final .next ≡ start + final .bits
-    -- what lies behind the block vectors stays
-    pub rest-vx : drop (4 * count g) (final .slices .vx) ≡ drop (4 * count g) (a .vx)
-    pub rest-vy : drop (4 * count g) (final .slices .vy) ≡ drop (4 * count g) (a .vy)
+    -- in each block slice, that of x and that of y, what lies behind the blocks of the plane stays
+    pub rest : (b : BlockSlice) → drop (4 * count g) (blocksIn b (final .slices)) ≡ drop (4 * count g) (blocksIn b a)
     -- 4. the reader, given that output or any bytes that pass 21 and begin as it does up to the next bit, and any slices that pass 20, takes exactly those bits
     -- and ends with the writer's next bit, reconstruction and block vectors
     pub read-back : (bytes : List ℕ) (d : Slices) → take (final .next) (bitsOf bytes) ≡ take (final .next) (final .out) → startRefusal (length bytes) start ≡ 0 → slicesRefusal g d ≡ 0 → ReadBack g bytes start d stateAt

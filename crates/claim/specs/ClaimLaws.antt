@@ -5,20 +5,20 @@ use Prim.Native.Nat.{ℕ, zero, suc, _+_, _-_, _*_, _≤_, _<_}
 use native.Mathlib.Omega.{arith}
 use native.Mathlib.Nat.{add-zero, zero-add, add-suc, le-refl, mul-add, mul-suc}
 use mathlib.Core.Bool.{true}
-use mathlib.Core.List.{List, map}
+use mathlib.Core.List.{List}
 use lib.ListN.{length, take, drop, length-append, length-drop}
-use Rattle.bits.specs.Basics.{All, sum, signedByte}
+use Rattle.bits.specs.Basics.{All, sum}
 use Rattle.bits.specs.Bits.{bitsOf}
 use Rattle.bits.specs.Calls.{startRefusal}
 use Rattle.book.specs.BookLaws.{data-passes}
 use Rattle.leaf.specs.Leaf.{sse}
 use Rattle.mv_cache.specs.Grid.{part}
 use Rattle.mv_cache.specs.GridLaws.{part-own, part-other, agree-whole, agree-take}
-use Rattle.mv_cache.specs.NeighboursLaws.{Ranged, ranged-put, stored-x, stored-y, Around, around}
+use Rattle.mv_cache.specs.NeighboursLaws.{Ranged, Around, around}
 use Rattle.tree.specs.Plan.{Weight}
 use Rattle.plan.specs.PlanClaim.{largestLambda}
 use Rattle.macroblock.specs.declared.svq1_enc_inter.Svq1MbMode.the-variants.{Skip}
-use Rattle.macroblock.specs.Macroblock.{Given, cols, rows, Choice, vectorsOf, shown, referenceBlock, modeBits, choiceBits}
+use Rattle.macroblock.specs.Macroblock.{Given, cols, rows, Choice, shown, referenceBlock, modeBits, choiceBits}
 use Rattle.macroblock.specs.Limit.{canSkipRest}
 use Rattle.macroblock.specs.Choice.{Task, paddedSource, target, motionsTried, fitting, weightOf}
 use Rattle.bits.specs.ListLaws.{all-any}
@@ -28,15 +28,16 @@ use Rattle.macroblock.specs.InnerLaws.{four-each}
 use Rattle.macroblock.specs.Reading.{readMacroblock}
 use Rattle.plane.specs.Run.{on, End, after}
 use Rattle.plane.specs.RunLaws.{run-on}
-use Rattle.macroblock.specs.Slices.{Slices, near, laid}
+use Rattle.macroblock.specs.Slices.{Slices, BlockSlice, xSlice, ySlice, blocksIn, near, laid}
 use Rattle.plane.specs.Plane.{count, Writing, wrote, wroteWeight, wroteBits, written, writePlane, ReadingState, taken, readStep, readUpTo, readPlane}
-use Rattle.plane.specs.Calls.{slicesRefusal, readRefusal}
+use Rattle.plane.specs.Refusals.{slicesRefusal}
+use Rattle.plane.specs.RefusalsLaws.{lent-passes, read-passes, results-pass}
 use Rattle.plane.specs.LimitLaws.{skip-rest-at}
-use Rattle.plane.specs.SlicesLaws.{Sized, holds-recon, holds-vx, holds-vy, laid-sized, Alike, alike-laid, alike-near, laid-past-vx, laid-past-vy}
+use Rattle.plane.specs.SlicesLaws.{Sized, holds-recon, laid-sized, ranged-laid, Alike, alike-laid, alike-near, laid-past}
 use Rattle.claim.specs.SumLaws.{sse-blocks}
 use Rattle.claim.specs.OutputLaws.{reached, appended, held, before, stands-in}
 use Rattle.claim.specs.Claim.{ReadBack, stateAt, final, costOf, Claimed}
-use Rattle.claim.specs.AcceptedLaws.{Accepted, results-pass, accepted, slices-sized, padded-size}
+use Rattle.claim.specs.AcceptedLaws.{Accepted, accepted, slices-sized, padded-size}
 
 module _ (g : Given) (t : Task) (ok : Accepted g t) (out : List ℕ) (start : ℕ) (a : Slices) (sized : Sized g a)
     (whole : writePlane g t (bitsOf out) start a .refusal ≡ 0) where
@@ -66,22 +67,13 @@ module _ (g : Given) (t : Task) (ok : Accepted g t) (out : List ℕ) (start : �
   sized-at (suc k) = laid-sized g (ok .wide) k (W k) (S k .slices) (sized-at k)
 
   -- every vector stored is in -32..31, and so every predictor of the run (refusal 9 is never met)
-  ranged-x : (k : ℕ) → k ≤ count g → Ranged (cols g) k (S k .slices .vx)
-  unfolding after written laid
-  ranged-x zero h = λ j l. absurd (omega arith)
-  ranged-x (suc k) h =
-      ranged-put (cols g) k (map (λ v. signedByte (v .x)) (vectorsOf (W k))) (S k .slices .vx) (holds-vx g (ok .wide) (S k .slices) (suc k) h (sized-at k))
-      (ranged-x k (omega arith)) (stored-x (vectorsOf (W k)) (good k .inside))
-
-  ranged-y : (k : ℕ) → k ≤ count g → Ranged (cols g) k (S k .slices .vy)
-  unfolding after written laid
-  ranged-y zero h = λ j l. absurd (omega arith)
-  ranged-y (suc k) h =
-      ranged-put (cols g) k (map (λ v. signedByte (v .y)) (vectorsOf (W k))) (S k .slices .vy) (holds-vy g (ok .wide) (S k .slices) (suc k) h (sized-at k))
-      (ranged-y k (omega arith)) (stored-y (vectorsOf (W k)) (good k .inside))
+  ranged : (b : BlockSlice) (k : ℕ) → k ≤ count g → Ranged (cols g) k (blocksIn b (S k .slices))
+  unfolding after written
+  ranged b zero h = λ j l. absurd (omega arith)
+  ranged b (suc k) h = ranged-laid g (ok .wide) b k (W k) (S k .slices) h (good k .inside) (sized-at k .blocks b) (ranged b k (omega arith))
 
   pub all-around : (k : ℕ) → k ≤ count g → Around (near g (S k .slices) k)
-  all-around k h = around (cols g) (rows g) k (S k .slices .vx) (S k .slices .vy) (ranged-x k h) (ranged-y k h)
+  all-around k h = around (cols g) (rows g) k (S k .slices .vx) (S k .slices .vy) (ranged xSlice k h) (ranged ySlice k h)
 
   -- any slices with the first k macroblocks laid
   shownTo : Slices → ℕ → Slices
@@ -98,19 +90,14 @@ module _ (g : Given) (t : Task) (ok : Accepted g t) (out : List ℕ) (start : �
 
   alike : (d : Slices) → Sized g d → (k : ℕ) → k ≤ count g → Alike g (ok .wide) k (shownTo d k) (S k .slices)
   unfolding shownTo after written
-  alike d z zero h = record { recon = λ j l. never _ l; vx = λ j l. never _ l; vy = λ j l. never _ l }
+  alike d z zero h = record { recon = λ j l. never _ l; blocks = λ b j l. never _ l }
   alike d z (suc k) h =
       alike-laid g (ok .wide) k (W k) (shownTo d k) (S k .slices) h (shown-sized d z k) (sized-at k) (alike d z k (omega arith))
 
-  past-vx : (d : Slices) (k : ℕ) → k ≤ count g → drop (4 * count g) (shownTo d k .vx) ≡ drop (4 * count g) (d .vx)
+  past : (b : BlockSlice) (d : Slices) (k : ℕ) → k ≤ count g → drop (4 * count g) (blocksIn b (shownTo d k)) ≡ drop (4 * count g) (blocksIn b d)
   unfolding shownTo
-  past-vx d zero h = refl
-  past-vx d (suc k) h = laid-past-vx g (ok .wide) k (W k) (shownTo d k) h ∙ past-vx d k (omega arith)
-
-  past-vy : (d : Slices) (k : ℕ) → k ≤ count g → drop (4 * count g) (shownTo d k .vy) ≡ drop (4 * count g) (d .vy)
-  unfolding shownTo
-  past-vy d zero h = refl
-  past-vy d (suc k) h = laid-past-vy g (ok .wide) k (W k) (shownTo d k) h ∙ past-vy d k (omega arith)
+  past b d zero h = refl
+  past b d (suc k) h = laid-past g (ok .wide) b k (W k) (shownTo d k) h ∙ past b d k (omega arith)
 
   -- the writer's slices are its own with every macroblock laid
   slices-are : (k : ℕ) → S k .slices ≡ shownTo a k
@@ -118,11 +105,8 @@ module _ (g : Given) (t : Task) (ok : Accepted g t) (out : List ℕ) (start : �
   slices-are zero = refl
   slices-are (suc k) = ap (laid g k (W k)) (slices-are k)
 
-  pub rest-vx : drop (4 * count g) (E .slices .vx) ≡ drop (4 * count g) (a .vx)
-  rest-vx = ap (λ (u : Slices). drop (4 * count g) (u .vx)) (slices-are (count g)) ∙ past-vx a (count g) (le-refl (count g))
-
-  pub rest-vy : drop (4 * count g) (E .slices .vy) ≡ drop (4 * count g) (a .vy)
-  rest-vy = ap (λ (u : Slices). drop (4 * count g) (u .vy)) (slices-are (count g)) ∙ past-vy a (count g) (le-refl (count g))
+  pub rest : (b : BlockSlice) → drop (4 * count g) (blocksIn b (E .slices)) ≡ drop (4 * count g) (blocksIn b a)
+  rest b = ap (λ (u : Slices). drop (4 * count g) (blocksIn b u)) (slices-are (count g)) ∙ past b a (count g) (le-refl (count g))
 
   -- ---- reading back
   abbrev R : Slices → ℕ → ReadingState
@@ -150,7 +134,7 @@ module _ (g : Given) (t : Task) (ok : Accepted g t) (out : List ℕ) (start : �
         ∙ ap (λ (i : ℕ). record { refusal = 0; done = i; state = R d i }) (zero-add k)
 
   pub read-back : (bytes : List ℕ) (d : Slices) → take (E .next) (bitsOf bytes) ≡ take (E .next) (E .out) → startRefusal (length bytes) start ≡ 0 → slicesRefusal g d ≡ 0 → ReadBack g bytes start d S
-  unfolding readRefusal readPlane
+  unfolding readPlane
   read-back bytes d e st sl =
       let n : ℕ = count g in
       let z = slices-sized g t ok d sl in
@@ -160,16 +144,16 @@ module _ (g : Given) (t : Task) (ok : Accepted g t) (out : List ℕ) (start : �
       let to = read-to (bitsOf bytes) e d z in
       let f : readUpTo g (bitsOf bytes) start d n .state .slices ≡ shownTo d n = ap (λ (u : End ReadingState). u .state .slices) (to n (le-refl n)) in
       record {
-        accepted = rw (ok .size-passes, ok .canvas-passes, ok .data-passes, sl, st);
+        accepted = read-passes g d (length bytes) start (ok .size-passes) (ok .canvas-passes) (lent-passes g d (length bytes) start (ok .data-passes) sl st);
         goes-on = λ k h. ap (λ (u : End ReadingState). u .refusal) (to k h);
         reads = λ k h. ap (λ (u : End ReadingState). u .done) (to k h);
         same-bit = λ k h. ap (λ (u : End ReadingState). u .state .next) (to k h);
         ends = ap (λ (u : End ReadingState). u .state .next) (to n (le-refl n));
         recon = ap (λ (u : Slices). u .recon) f ∙ agree-whole 16 (cols g) (omega arith) (ok .wide) (rows g) _ _ (x .recon) (zd .recon) (ze .recon);
-        vx = ap (λ (u : Slices). take (4 * n) (u .vx)) f ∙ agree-take 2 (cols g) (omega arith) (ok .wide) (rows g) _ _ (x .vx) (4 * n) (four-each (rows g) (cols g)) (zd .vx) (ze .vx);
-        vy = ap (λ (u : Slices). take (4 * n) (u .vy)) f ∙ agree-take 2 (cols g) (omega arith) (ok .wide) (rows g) _ _ (x .vy) (4 * n) (four-each (rows g) (cols g)) (zd .vy) (ze .vy);
-        rest-vx = ap (λ (u : Slices). drop (4 * n) (u .vx)) f ∙ past-vx d n (le-refl n);
-        rest-vy = ap (λ (u : Slices). drop (4 * n) (u .vy)) f ∙ past-vy d n (le-refl n);
+        blocks = λ b.
+            ap (λ (u : Slices). take (4 * n) (blocksIn b u)) f
+            ∙ agree-take 2 (cols g) (omega arith) (ok .wide) (rows g) _ _ (x .blocks b) (4 * n) (four-each (rows g) (cols g)) (zd .blocks b) (ze .blocks b);
+        rest = λ b. ap (λ (u : Slices). drop (4 * n) (blocksIn b u)) f ∙ past b d n (le-refl n);
       }
 
   -- ---- errors
@@ -235,7 +219,7 @@ module _ (g : Given) (t : Task) (ok : Accepted g t) (out : List ℕ) (start : �
 pub claimed : (g : Given) (t : Task) (out : List ℕ) (start : ℕ) (a : Slices) → Claimed g t out start a
 claimed g t out start a enough mem e low whole =
     let ok = accepted g t out start a mem e in
-    let passes = results-pass g t out start a e in
+    let passes = results-pass g a (length out) start (length (t .source)) e in
     let sized = slices-sized g t ok a (passes .0) in
     record {
       reaches = reached g t out start a whole;
@@ -246,8 +230,7 @@ claimed g t out start a enough mem e low whole =
       bit-total = bits-to g t ok out start a sized whole (count g);
       error-total = errors-to g t ok out start a sized whole (count g);
       next-bit = next-to g t ok out start a sized whole (count g);
-      rest-vx = rest-vx g t ok out start a sized whole;
-      rest-vy = rest-vy g t ok out start a sized whole;
+      rest = rest g t ok out start a sized whole;
       read-back = read-back g t ok out start a sized whole;
       no-pruning-cheaper = λ k h. all-any _ (motionsTried g t k _) (λ m. unpruned g t (ok .fine) low k m);
       no-mode-cheaper = λ k h. cheapest g t ok out start a sized whole low k;

@@ -7,9 +7,10 @@ use Rattle.bits.specs.Bits.{bitsOf}
 use Rattle.plan.specs.PlanClaim.{largestLambda}
 use Rattle.macroblock.specs.Macroblock.{Given}
 use Rattle.macroblock.specs.Choice.{Task}
-use Rattle.macroblock.specs.Slices.{Slices}
+use Rattle.macroblock.specs.Slices.{Slices, BlockSlice, blocksIn}
 use Rattle.plane.specs.Plane.{count, stepStated}
-use Rattle.plane.specs.Calls.{PlaneAnswer, PlaneRead, writeRefusal, slicesRefusal}
+use Rattle.plane.specs.Refusals.{writeRefusal, slicesRefusal}
+use Rattle.plane.specs.Calls.{PlaneAnswer, PlaneRead}
 use Rattle.plane_enc.specs.Stated.{threeOf, PlaneStated}
 use Rattle.claim.specs.Claim.{stateAt, final, Claim}
 
@@ -30,15 +31,13 @@ pub record Returned (g : Given) (w r : PlaneAnswer) (a' d d' : Slices) : Type 0 
   pub done : r .done ≡ w .done
   pub next : r .next ≡ w .next
   pub recon : d' .recon ≡ a' .recon
-  pub vx : take (4 * count g) (d' .vx) ≡ take (4 * count g) (a' .vx)
-  pub vy : take (4 * count g) (d' .vy) ≡ take (4 * count g) (a' .vy)
-  pub rest-vx : drop (4 * count g) (d' .vx) ≡ drop (4 * count g) (d .vx)
-  pub rest-vy : drop (4 * count g) (d' .vy) ≡ drop (4 * count g) (d .vy)
+  pub blocks : (b : BlockSlice) → take (4 * count g) (blocksIn b d') ≡ take (4 * count g) (blocksIn b a')
+  pub rest : (b : BlockSlice) → drop (4 * count g) (blocksIn b d') ≡ drop (4 * count g) (blocksIn b d)
 
 -- a plane written with the slices a and read back from what was left with the slices d: both calls answer as they do alone,
 -- and of every plane that no refusal meets, with lambda at most 2^48, written to its last macroblock, the claim holds, and it holds of memory
 pub record RoundTrip (g : Given) (t : Task) (out : List ℕ) (start : ℕ) (a : Slices) (held : List ℕ) (d : Slices) (w r : PlaneAnswer) (out' : List ℕ) (a' : Slices) (stated' : List ℕ) (d' : Slices) : Type 0 where
-  pub wrote : PlaneStated g t out start a held w out' (a' .recon) (a' .vx) (a' .vy) stated'
-  pub read : PlaneRead g out' start d r (d' .recon) (d' .vx) (d' .vy)
+  pub wrote : PlaneStated g t out start a held w out' a' stated'
+  pub read : PlaneRead g out' start d r d'
   pub claim : writeRefusal g t out start a ≡ 0 → t .settings .lambda ≤ largestLambda → w .refusal ≡ 0 → Claim g t out start a × Ended g t out start a held w out' a' stated'
   pub returned : writeRefusal g t out start a ≡ 0 → t .settings .lambda ≤ largestLambda → w .refusal ≡ 0 → slicesRefusal g d ≡ 0 → Returned g w r a' d d'

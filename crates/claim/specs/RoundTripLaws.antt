@@ -13,21 +13,22 @@ use Rattle.plan.specs.PlanClaim.{largestLambda}
 use Rattle.macroblock.specs.Macroblock.{Given}
 use Rattle.macroblock.specs.Limit.{canSkipRest}
 use Rattle.macroblock.specs.Choice.{Task}
-use Rattle.macroblock.specs.Slices.{Slices}
+use Rattle.macroblock.specs.Slices.{Slices, blocksIn}
 use Rattle.plane.specs.Run.{End}
 use Rattle.plane.specs.Plane.{count, Writing, writePlane, ReadingState, readPlane}
-use Rattle.plane.specs.Calls.{PlaneAnswer, PlaneWritten, PlaneRead, writeRefusal, readRefusal, slicesRefusal, writtenAnswer, endAnswer, writeAnswer, writeOut, writeSlices, readPlaneAnswer, readSlices}
+use Rattle.plane.specs.Refusals.{writeRefusal, readRefusal, slicesRefusal}
+use Rattle.plane.specs.RefusalsLaws.{results-pass}
+use Rattle.plane.specs.Calls.{PlaneAnswer, PlaneWritten, PlaneRead, writtenAnswer, endAnswer, writeAnswer, writeOut, writeSlices, readPlaneAnswer, readSlices}
 use Rattle.plane_enc.specs.Stated.{PlaneStated}
 use Rattle.plane_enc.specs.StatedLaws.{stated-at}
 use Rattle.claim.specs.Claim.{stateAt, final, Claim, InMemory, ReadBack}
-use Rattle.claim.specs.AcceptedLaws.{results-pass}
 use Rattle.claim.specs.OutputLaws.{same-length}
 use Rattle.claim.specs.ClaimLaws.{claimed}
 use Rattle.claim.specs.RoundTrip.{Ended, Returned, RoundTrip}
 
 module _ (g : Given) (t : Task) (out : List ℕ) (start : ℕ) (a : Slices) (held : List ℕ) (d : Slices) (w r : PlaneAnswer) (out' : List ℕ) (a' : Slices) (stated' : List ℕ) (d' : Slices) (enough : canSkipRest (t .limit) g 0 0 ≡ true) (mem : InMemory g t out start a)
-    (told : PlaneStated g t out start a held w out' (a' .recon) (a' .vx) (a' .vy) stated') (read : PlaneRead g out' start d r (d' .recon) (d' .vx) (d' .vy)) where
-  abbrev wrote : PlaneWritten g t out start a w out' (a' .recon) (a' .vx) (a' .vy)
+    (told : PlaneStated g t out start a held w out' a' stated') (read : PlaneRead g out' start d r d') where
+  abbrev wrote : PlaneWritten g t out start a w out' a'
   wrote = told .written
 
   module _ (passes : writeRefusal g t out start a ≡ 0) (most : t .settings .lambda ≤ largestLambda) (whole : w .refusal ≡ 0) where
@@ -70,11 +71,11 @@ module _ (g : Given) (t : Task) (out : List ℕ) (start : ℕ) (a : Slices) (hel
         all = ap (λ (x : PlaneAnswer). x .done) answered ∙ ap (λ (x : End Writing). x .done) (holds .reaches)
 
         same : a' ≡ writeSlices g t out start a
-        same = rw (← wrote .left-recon, ← wrote .left-vx, ← wrote .left-vy)
+        same = wrote .left-slices
 
     module _ (fits : slicesRefusal g d ≡ 0) where
       starts : startRefusal (length out') start ≡ 0
-      starts = rw (same-length g t out start a ends out' (trip-ended .output)) (results-pass g t out start a passes .1)
+      starts = rw (same-length g t out start a ends out' (trip-ended .output)) (results-pass g a (length out) start (length (t .source)) passes .1)
 
       abbrev back : ReadBack g out' start d (stateAt g t out start a)
       back = holds .read-back out' d (ap (take (final g t out start a .next)) (trip-ended .output)) starts fits
@@ -101,18 +102,16 @@ module _ (g : Given) (t : Task) (out : List ℕ) (start : ℕ) (a : Slices) (hel
       trip-returned : Returned g w r a' d d'
       trip-returned =
           let u = trip-ended in
-          let got-recon : d' .recon ≡ f .state .slices .recon = read .left-recon ∙ ap (λ (x : Slices). x .recon) left in
-          let got-vx : d' .vx ≡ f .state .slices .vx = read .left-vx ∙ ap (λ (x : Slices). x .vx) left in
-          let got-vy : d' .vy ≡ f .state .slices .vy = read .left-vy ∙ ap (λ (x : Slices). x .vy) left in
+          let gave-slices : d' ≡ f .state .slices = read .left-slices ∙ left in
           record {
             refusal = ap (λ (x : PlaneAnswer). x .refusal) gave ∙ ends-none;
             done = ap (λ (x : PlaneAnswer). x .done) gave ∙ ends-last ∙ sym (u .done);
             next = ap (λ (x : PlaneAnswer). x .next) gave ∙ back .ends ∙ sym (u .next);
-            recon = got-recon ∙ back .recon ∙ sym (ap (λ (x : Slices). x .recon) (u .slices));
-            vx = ap (take (4 * count g)) got-vx ∙ back .vx ∙ sym (ap (λ (x : Slices). take (4 * count g) (x .vx)) (u .slices));
-            vy = ap (take (4 * count g)) got-vy ∙ back .vy ∙ sym (ap (λ (x : Slices). take (4 * count g) (x .vy)) (u .slices));
-            rest-vx = ap (drop (4 * count g)) got-vx ∙ back .rest-vx;
-            rest-vy = ap (drop (4 * count g)) got-vy ∙ back .rest-vy;
+            recon = ap (λ (x : Slices). x .recon) gave-slices ∙ back .recon ∙ sym (ap (λ (x : Slices). x .recon) (u .slices));
+            blocks = λ b.
+                ap (λ (x : Slices). take (4 * count g) (blocksIn b x)) gave-slices ∙ back .blocks b
+                ∙ sym (ap (λ (x : Slices). take (4 * count g) (blocksIn b x)) (u .slices));
+            rest = λ b. ap (λ (x : Slices). drop (4 * count g) (blocksIn b x)) gave-slices ∙ back .rest b;
           }
 
   pub tripped : RoundTrip g t out start a held d w r out' a' stated' d'

@@ -1,14 +1,14 @@
 // A plane written and read back: what is claimed of a whole plane, tied to memory.
 ghost use Rattle.macroblock_choice.specs.Chosen.{taskBy};
 ghost use Rattle.macroblock.specs.Inner.{givenBy};
-ghost use Rattle.plane.specs.Reader as reader;
+ghost use Rattle.plane_dec.specs.Reader as reader;
 ghost use Rattle.plane_enc.specs.Writer as writer;
 ghost use Rattle.claim.specs.RoundTrip.{RoundTrip};
 ghost use Rattle.macroblock.specs.Slices.{slicesBy};
 use canvas::svq1_plane::Svq1PlaneCanvas;
 use macroblock::svq1_enc_inter::Settings;
-use plane::svq1_plane::ReadEnd;
-use plane::svq1_plane::decode_inter_plane;
+use plane_dec::svq1_plane::ReadEnd;
+use plane_dec::svq1_plane::decode_inter_plane;
 use plane_enc::svq1_enc_inter::WriteEnd;
 use plane_enc::svq1_enc_inter::encode_inter_plane_stated;
 

@@ -11,14 +11,14 @@ use lib.Dec.{eqb, leb}
 use lib.ListN.{length, take}
 use lib.Seq.{take-all, length-take-le}
 use borrow.Author.Tests.{ne-eqb, leb-true, leb-false}
-use Rattle.bits.specs.Basics.{orElse, unless}
+use Rattle.bits.specs.Basics.{orElse, firstOf, unless}
 use Rattle.bits.specs.BasicsLaws.{or-none}
 use Rattle.book.specs.Book.{codebookBytes}
 use Rattle.book_file.specs.BookFile.{fileRefusal}
 use Rattle.canvas.specs.Canvas.{padded16, sizeRefusal, canvasRefusal}
 use Rattle.listing_job.specs.Job.{Job, mostWidth, mostHeight, jobIn}
 use Rattle.listing_job.specs.JobLaws.{job-small}
-use Rattle.listing_text.specs.Listing.{Files, filesRefusal, jobText, listing}
+use Rattle.listing_text.specs.Listing.{Files, filesRefusalBy, filesRefusal, jobText, listing}
 use Rattle.listing_text.specs.Listed.{filesBy}
 use Rattle.listing_text.specs.FilesLaws.{area-small, text-by}
 use Rattle.listing_text.specs.Cut.{longestJob, longestBook, cut}
@@ -75,7 +75,7 @@ module _ (j : Job) (wide : j .width ≤ mostWidth) (high : j .height ≤ mostHei
   side = mostWidth * mostHeight + 1
 
   source-cut : (b c r : List ℕ) → prints b c (take side source) r ≡ prints b c source r
-  unfolding filesRefusal
+  unfolding filesRefusalBy firstOf
   source-cut b c r = go (read side source)
     where
       area : j .width * j .height ≤ mostWidth * mostHeight
@@ -89,14 +89,14 @@ module _ (j : Job) (wide : j .width ≤ mostWidth) (high : j .height ≤ mostHei
       go (part h e) = same-refused _ _ j (orElse size 2) (other (take side source) (omega (arith, e))) (other source (omega arith)) (λ z. omega (arith, or-none size 2 z .1))
 
   reference-cut : (b c s : List ℕ) → prints b c s (take side reference) ≡ prints b c s reference
-  unfolding filesRefusal
+  unfolding filesRefusalBy firstOf
   reference-cut b c s = go (read side reference)
     where
       stride : Bool
       stride = eqb (padded16 (j .width)) (padded16 (j .width)) && eqb (padded16 (j .height)) (padded16 (j .height))
 
       last : ℕ
-      last = orElse (unless (eqb (length c) codebookBytes) 5) (fileRefusal b)
+      last = orElse (unless (eqb (length c) codebookBytes) 5) (orElse (fileRefusal b) 0)
 
       source-ok : ℕ
       source-ok = unless (eqb (length s) (j .width * j .height)) 2
@@ -128,7 +128,7 @@ module _ (j : Job) (wide : j .width ≤ mostWidth) (high : j .height ≤ mostHei
       k (or-none (canvasRefusal (j .width) (j .height) (record { samples = r; stride = padded16 (j .width); rows = padded16 (j .height) })) n (d .1) .1)
 
   codebook-cut : (b s r : List ℕ) → prints b (take (codebookBytes + 1) codebook) s r ≡ prints b codebook s r
-  unfolding filesRefusal
+  unfolding filesRefusalBy firstOf
   codebook-cut b s r = go (read (codebookBytes + 1) codebook)
     where
       other : (c : List ℕ) → codebookBytes + 1 ≤ length c → filesRefusal (filesBy b c s r job) j ≡ before s r 5
@@ -139,7 +139,7 @@ module _ (j : Job) (wide : j .width ≤ mostWidth) (high : j .height ≤ mostHei
       go (part h e) = same-refused _ _ j (before s r 5) (other (take (codebookBytes + 1) codebook) (omega (arith, e))) (other codebook (omega arith)) (some-before s r 5 (λ z. omega arith))
 
   book-cut : (c s r : List ℕ) → prints (take (longestBook + 1) book) c s r ≡ prints book c s r
-  unfolding filesRefusal
+  unfolding filesRefusalBy firstOf
   book-cut c s r = go (read (longestBook + 1) book)
     where
       last : ℕ

@@ -4,15 +4,14 @@ use mathlib.Core.Path.{_≡_}
 use mathlib.Core.List.{List, _++_}
 use lib.Dec.{eqb, leb}
 use lib.ListN.{length, take, drop, replicate}
-use Rattle.bits.specs.Basics.{pick, orElse, unless}
-use Rattle.book.specs.Book.{codebookBytes}
-use Rattle.book_file.specs.BookFile.{fileRefusal, fileBook}
-use Rattle.canvas.specs.Canvas.{Canvas, padded16, sizeRefusal, canvasRefusal}
+use Rattle.bits.specs.Basics.{pick}
+use Rattle.book_file.specs.BookFile.{fileBook}
+use Rattle.canvas.specs.Canvas.{padded16}
 use Rattle.canvas.specs.declared.svq1_plane.Svq1PlaneCanvas.{Svq1PlaneCanvas}
 use Rattle.macroblock.specs.Macroblock.{Given}
 use Rattle.macroblock.specs.Choice.{Task}
 use Rattle.plane_enc.specs.declared.svq1_enc_inter.WriteEnd.{WriteEnd}
-use Rattle.plane.specs.Calls.{writeRefusal}
+use Rattle.plane.specs.Refusals.{writeRefusal}
 use Rattle.listing_job.specs.Job.{mostWidth, mostHeight}
 use Rattle.listing_text.specs.Listing.{Files, outputBytes, noSlices, totalLine, refusedText, listing}
 use Rattle.listing_text.specs.Lines.{linesFrom}
@@ -40,14 +39,6 @@ filesBy book codebook source reference job = record { book = book; codebook = co
 -- the canvas of a plane
 abbrev pub canvasOf : ℕ → ℕ → Svq1PlaneCanvas
 canvasOf w h = record { width = w; height = h; stride = padded16 w; rows = padded16 h }
-
--- the refusals of the files, by the lengths of the source and the codebook
-unfoldable pub filesRefusalBy : ℕ → ℕ → Canvas → ℕ → ℕ → List ℕ → ℕ
-filesRefusalBy w h reference source codebook file =
-    orElse (sizeRefusal w h)
-    (orElse (unless (eqb source (w * h)) 2)
-    (orElse (canvasRefusal w h reference)
-    (orElse (unless (eqb codebook codebookBytes) 5) (fileRefusal file))))
 
 -- what checking the files promises: the refusal, and the file's book where there is none
 pub record FilesChecked (refusal : ℕ) (file : List ℕ) (r : ℕ) (book : List ℕ) : Type 0 where

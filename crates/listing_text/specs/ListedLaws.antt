@@ -10,11 +10,9 @@ use lib.Dec.{eqb}
 use lib.ListN.{length, take, drop, replicate, getD, length-replicate, length-append, List·getD-append}
 use lib.Seq.{getD-append-add}
 use borrow.Author.Tests.{eq-eqb, ne-eqb, eqb-true}
-use Rattle.bits.specs.Basics.{pick, orElse}
-use Rattle.bits.specs.BasicsLaws.{or-next, or-none}
+use Rattle.bits.specs.Basics.{pick}
+use Rattle.bits.specs.BasicsLaws.{or-next}
 use Rattle.bits.specs.Bits.{bitsOf}
-use Rattle.bits.specs.Calls.{startRefusal}
-use Rattle.book.specs.Book.{dataRefusal}
 use Rattle.canvas.specs.Canvas.{sizeRefusal, canvasRefusal}
 use Rattle.canvas.specs.CanvasLaws.{plane-passes}
 use Rattle.macroblock.specs.declared.svq1_enc_inter.Svq1MbMode.{Svq1MbMode}
@@ -27,7 +25,9 @@ use Rattle.plane_enc.specs.declared.svq1_enc_inter.WriteEnd.{WriteEnd}
 use Rattle.plane.specs.Run.{End, after}
 use Rattle.plane.specs.RunLaws.{Stands, run-stands}
 use Rattle.plane.specs.Plane.{count, Writing, stepStated, fits, written, toWrite, writePlane, writingAt}
-use Rattle.plane.specs.Calls.{PlaneAnswer, PlaneWritten, sourceRefusal, slicesRefusal, writtenAnswer, writeRefusal, writeAnswer}
+use Rattle.plane.specs.Refusals.{writeRefusal}
+use Rattle.plane.specs.RefusalsLaws.{write-accepted}
+use Rattle.plane.specs.Calls.{PlaneAnswer, PlaneWritten, writtenAnswer, writeAnswer}
 use Rattle.plane_enc.specs.Writer.{endOf}
 use Rattle.plane_enc.specs.Stated.{threeOf, statedTo, statedIn, PlaneStated}
 use Rattle.listing_job.specs.Job.{mostWidth, mostHeight}
@@ -102,7 +102,7 @@ module _ (g : Given) (t : Task) (out : List ℕ) (passes : writeRefusal g t out 
   unfolding writePlane after
   stands = run-stands 22 (fits g t) (written g t) (toWrite (bitsOf out) 0 (noSlices g)) (count g) 0
 
-  module _ (r : WriteEnd) (out' recon' vx' vy' : List ℕ) (p : PlaneWritten g t out 0 (noSlices g) (endOf r) out' recon' vx' vy') where
+  module _ (r : WriteEnd) (out' : List ℕ) (s' : Slices) (p : PlaneWritten g t out 0 (noSlices g) (endOf r) out' s') where
     answered : endOf r ≡ writtenAnswer end
     unfolding writeAnswer
     answered = p .answer ∙ rw (eq-eqb (writeRefusal g t out 0 (noSlices g)) 0 passes)
@@ -165,14 +165,9 @@ zeros-taken (suc n) (suc m) h = ap (λ (l : List ℕ). 0 ∷ l) (zeros-taken n m
 
 module _ (g : Given) (t : Task) (ok : Listable g t) where
   pub sizes : Sizes g
-  unfolding writeRefusal
   sizes =
-      let c = canvasRefusal (g .width) (g .height) (g .reference) in
-      let r3 = orElse c (orElse (dataRefusal (g .book) (g .codebook)) (orElse (slicesRefusal g (noSlices g)) (startRefusal (length {A = ℕ} (replicate outputBytes 0)) 0))) in
-      let p1 = or-none (sizeRefusal (g .width) (g .height)) (orElse (sourceRefusal g t) r3) (ok .passes) in
-      let p2 = or-none (sourceRefusal g t) r3 (p1 .1) in
-      let p3 = or-none c _ (p2 .1) in
-      let fit = plane-passes (g .width) (g .height) (g .reference) (or-next (sizeRefusal (g .width) (g .height)) c (p1 .0) ∙ p3 .0) in
+      let p = write-accepted g (noSlices g) _ 0 (length (t .source)) (ok .passes) .0 in
+      let fit = plane-passes (g .width) (g .height) (g .reference) (or-next (sizeRefusal (g .width) (g .height)) (canvasRefusal (g .width) (g .height) (g .reference)) (p .size) ∙ p .canvas) in
       let wide : g .reference .stride / 16 ≡ cols g = omega (arith, fit .stride) in
       let high : g .reference .rows / 16 ≡ rows g = omega (arith, fit .rows) in
       record {
@@ -208,8 +203,8 @@ module _ (g : Given) (t : Task) (ok : Listable g t) where
         let y : take (4 * count g) vy ≡ replicate (4 * count g) 0 = ap (take (4 * count g)) (f .vectors-y) ∙ zeros-taken _ _ few in
         rw (sizes .blocks-are, samples, x, y)
 
-    module _ (r : WriteEnd) (out' recon' vx' vy' stated : List ℕ) (p : PlaneStated g t out 0 lent held (endOf r) out' recon' vx' vy' stated) where
-      own : PlaneStated g t (replicate outputBytes 0) 0 (noSlices g) held (endOf r) out' recon' vx' vy' stated
+    module _ (r : WriteEnd) (out' : List ℕ) (s' : Slices) (stated : List ℕ) (p : PlaneStated g t out 0 lent held (endOf r) out' s' stated) where
+      own : PlaneStated g t (replicate outputBytes 0) 0 (noSlices g) held (endOf r) out' s' stated
       own = rw (← f .output, ← lent-are) p
 
       room : 3 * count g ≤ length held
@@ -218,10 +213,10 @@ module _ (g : Given) (t : Task) (ok : Listable g t) where
       pub plane-ended : length stated ≡ length held → Ended (g .reference .stride / 16) stated r
       plane-ended e = record {
         wide = omega (arith, sizes .cols-are, sizes .some-cols);
-        few = omega (arith, done-most g t (replicate outputBytes 0) (ok .passes) r out' recon' vx' vy' (own .written), sizes .few-blocks);
+        few = omega (arith, done-most g t (replicate outputBytes 0) (ok .passes) r out' s' (own .written), sizes .few-blocks);
         numbers = e ∙ f .numbers;
       }
 
       pub plane-text : endText (g .reference .stride / 16) stated r ≡ planeText g t
       unfolding planeText
-      plane-text = rw (sizes .cols-are, own .stated) (end-text g t (replicate outputBytes 0) (ok .passes) r out' recon' vx' vy' (own .written) held room)
+      plane-text = rw (sizes .cols-are, own .stated) (end-text g t (replicate outputBytes 0) (ok .passes) r out' s' (own .written) held room)

@@ -4,12 +4,12 @@ use mathlib.Core.List.{List, [], _∷_, _++_}
 use mathlib.Core.Option.{Option, none, some}
 use lib.Dec.{eqb}
 use lib.ListN.{length, replicate}
-use Rattle.bits.specs.Basics.{pick, orElse, unless}
+use Rattle.bits.specs.Basics.{pick, firstOf, unless}
 use Rattle.bits.specs.Bits.{bitsOf}
 use Rattle.book.specs.Book.{codebookBytes}
 use Rattle.text.specs.Text.{decimal, lineOf}
 use Rattle.book_file.specs.BookFile.{fileRefusal, fileBook}
-use Rattle.canvas.specs.Canvas.{padded16, sizeRefusal, canvasRefusal}
+use Rattle.canvas.specs.Canvas.{Canvas, padded16, sourceLinks}
 use Rattle.macroblock.specs.declared.svq1_enc_inter.Svq1MbMode.{Svq1MbMode}
 use Rattle.macroblock.specs.declared.svq1_enc_inter.Svq1MbMode.the-variants.{Inter, Inter4Mv, Intra, Skip}
 use Rattle.macroblock.specs.Macroblock.{Given, cols}
@@ -17,7 +17,6 @@ use Rattle.macroblock.specs.Limit.{unlimited}
 use Rattle.macroblock.specs.Choice.{Task}
 use Rattle.macroblock.specs.Slices.{Slices}
 use Rattle.plane.specs.Plane.{count, Writing, stepStated, writePlane, writingAt}
-use Rattle.plane.specs.Calls.{sourceRefusal}
 use Rattle.listing_job.specs.Job.{Job, jobIn}
 
 -- the five files; one that cannot be opened reads as empty
@@ -41,14 +40,13 @@ givenOf f j = record {
 abbrev pub taskOf : Files → Job → Task
 taskOf f j = record { source = f .source; settings = record { lambda = j .lambda; radius = j .radius; four = j .allowFour }; limit = unlimited }
 
--- lowest number first; 0 for none
-unfoldable pub filesRefusal : Files → Job → ℕ
-filesRefusal f j =
-    let g = givenOf f j in
-    orElse (sizeRefusal (j .width) (j .height))
-    (orElse (sourceRefusal g (taskOf f j))
-    (orElse (canvasRefusal (j .width) (j .height) (g .reference))
-    (orElse (unless (eqb (length (f .codebook)) codebookBytes) 5) (fileRefusal (f .book)))))
+-- the chain of its refusals, lowest number first, by the lengths of the source and the codebook; 0 for none
+unfoldable pub filesRefusalBy : ℕ → ℕ → Canvas → ℕ → ℕ → List ℕ → ℕ
+filesRefusalBy w h reference source codebook file =
+    firstOf (sourceLinks w h source reference ++ (unless (eqb codebook codebookBytes) 5 ∷ fileRefusal file ∷ []))
+
+abbrev pub filesRefusal : Files → Job → ℕ
+filesRefusal f j = filesRefusalBy (j .width) (j .height) (givenOf f j .reference) (length (f .source)) (length (f .codebook)) (f .book)
 
 -- the output that the program writes into, from bit 0, and its result slices
 abbrev pub outputBytes : ℕ

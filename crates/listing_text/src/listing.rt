@@ -10,13 +10,13 @@ ghost use Rattle.macroblock.specs.Inner.{givenBy};
 ghost use Rattle.listing_job.specs.Job.{mostWidth, mostHeight};
 ghost use Rattle.listing_job.specs.JobReading.{jobBy};
 ghost use Rattle.listing_text.specs.Lines.{Put};
-ghost use Rattle.listing_text.specs.Listing.{planeText, jobText};
-ghost use Rattle.listing_text.specs.Listed.{listingRoom, Listed, filesBy, canvasOf, filesRefusalBy, FilesChecked, Listable, Fresh, Ended, endText};
+ghost use Rattle.listing_text.specs.Listing.{filesRefusalBy, planeText, jobText};
+ghost use Rattle.listing_text.specs.Listed.{listingRoom, Listed, filesBy, canvasOf, FilesChecked, Listable, Fresh, Ended, endText};
 use super::inner::lines::put_lines;
 use super::inner::lines::put_refused;
 use super::inner::lines::put_total_line;
 use canvas::svq1_plane::Svq1PlaneCanvas;
-use canvas::svq1_plane::plane_refusal;
+use canvas::svq1_plane::source_refusal;
 use listing_job::JobRead;
 use listing_job::ListingJob;
 use listing_job::read_job;
@@ -49,15 +49,7 @@ fn files_refusal(
     requires { ⌜ length (now book) ≡ bookBytes ⌝ }
     ensures { λ r. ⌜ FilesChecked (filesRefusalBy (canvas .width) (canvas .height) (record { samples = now (reference .entry); stride = canvas .stride; rows = canvas .rows }) source codebook (now (file .entry))) (now (file .entry)) r (now (book .exit)) ⌝ }
 {
-    let width = canvas.width;
-    let height = canvas.height;
-    let plane = plane_refusal(reference, width, height, canvas.stride, canvas.rows);
-    if plane == 1 {
-        return 1;
-    }
-    if source != width * height {
-        return 2;
-    }
+    let plane = source_refusal(canvas, source, reference);
     if plane != 0 {
         return plane;
     }

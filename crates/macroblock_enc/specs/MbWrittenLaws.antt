@@ -25,7 +25,7 @@ use Rattle.macroblock.specs.MacroblockLaws.{Fine, Good, tried-good, Codables, p
 use Rattle.macroblock.specs.LimitLaws.{skip-fits}
 use Rattle.macroblock.specs.Choice.{Task, planningFor, motionsTried, tried, weightOf}
 use Rattle.macroblock.specs.Motions.{motionOf}
-use Rattle.macroblock.specs.Slices.{Slices, slicesBy, near}
+use Rattle.macroblock.specs.Slices.{Slices, slicesBy, xSlice, ySlice, near}
 use Rattle.macroblock.specs.Inner.{givenBy}
 use Rattle.macroblock.specs.InnerLaws.{fits, book-passes, stands, vectors-held, recon-held}
 use Rattle.macroblock_choice.specs.Candidates.{skips, choiceOf, codedFor}
@@ -55,7 +55,7 @@ module _ (g : Given) (raised source : List ℕ) (k bytes at : ℕ) (s : Slices) 
   sourced = record { ok = ready .ok; number = ready .number; samples = ready .samples }
 
   pub near-around : Around (near g s k)
-  near-around = around (cols g) (rows g) k (s .vx) (s .vy) (ready .ranged-x) (ready .ranged-y)
+  near-around = around (cols g) (rows g) k (s .vx) (s .vy) (ready .ranged xSlice) (ready .ranged ySlice)
 
   few-blocks : rows g * cols g ≤ 4294967296
   few-blocks =

@@ -23,7 +23,7 @@ use Rattle.canvas.specs.declared.svq1_plane.Svq1PlaneCanvas.{Svq1PlaneCanvas}
 use Rattle.macroblock.specs.Macroblock.{Given, cols, rows, Motion, Choice, skipped, coded, modeOf, halfOf, vectorsOf, motionBits, choiceBits}
 use Rattle.macroblock.specs.MacroblockLaws.{Codables}
 use Rattle.macroblock.specs.Choice.{Task, weightOf, chosen}
-use Rattle.macroblock.specs.Slices.{Slices, slicesBy, near, laid}
+use Rattle.macroblock.specs.Slices.{Slices, slicesBy, BlockSlice, blocksIn, near, laid}
 use Rattle.macroblock.specs.Inner.{givenBy, Accepted, Held, byBook}
 use Rattle.macroblock.specs.Laying.{ShowingIf, Laying}
 use Rattle.macroblock.specs.Motions.{motionOf, Differs}
@@ -102,8 +102,7 @@ pub record MbReady (g : Given) (raised source : List ℕ) (k bytes at : ℕ) (s 
   pub number : k < rows g * cols g
   pub samples : length source ≡ g .width * g .height
   pub start : Fits bytes at 0
-  pub ranged-x : Ranged (cols g) k (s .vx)
-  pub ranged-y : Ranged (cols g) k (s .vy)
+  pub ranged : (b : BlockSlice) → Ranged (cols g) k (blocksIn b s)
 
 -- what is written for macroblock k with so many bits spent before it, and what it weighs
 abbrev pub mbChoice : Given → Task → ℕ → ℕ → Slices → Choice

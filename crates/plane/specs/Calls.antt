@@ -1,46 +1,16 @@
--- The plane calls: their refusals in order, their answers, and every byte they leave (document 01, "Refused for what came in", "Refused for the state met").
-use Prim.Native.Nat.{ℕ, _*_}
-use mathlib.Core.Bool.{_&&_}
+-- The plane calls: their answers, and every byte they leave (document 01, "Files as they stay", "Refused for the state met").
+use Prim.Native.Nat.{ℕ}
 use mathlib.Core.List.{List}
 use mathlib.Core.Path.{_≡_}
-use lib.Dec.{eqb, leb}
-use lib.ListN.{length}
-use Rattle.bits.specs.Basics.{pick, orElse, unless}
+use lib.Dec.{eqb}
+use Rattle.bits.specs.Basics.{pick}
 use Rattle.bits.specs.Bits.{bitsOf}
-use Rattle.bits.specs.Calls.{startRefusal}
-use Rattle.book.specs.Book.{dataRefusal}
-use Rattle.canvas.specs.Canvas.{sizeRefusal, canvasRefusal}
 use Rattle.macroblock.specs.Macroblock.{Given}
 use Rattle.macroblock.specs.Choice.{Task}
 use Rattle.plane.specs.Run.{End}
 use Rattle.macroblock.specs.Slices.{Slices}
-use Rattle.plane.specs.Plane.{count, Writing, writePlane, ReadingState, readPlane}
-
--- 2: source length not width × height
-abbrev pub sourceRefusal : Given → Task → ℕ
-sourceRefusal g t = unless (eqb (length (t .source)) (g .width * g .height)) 2
-
--- 20: either vector slice shorter than four a macroblock, or reconstruction length not stride × rows
-unfoldable pub slicesRefusal : Given → Slices → ℕ
-slicesRefusal g s =
-    unless ((leb (4 * count g) (length (s .vx)) && leb (4 * count g) (length (s .vy))) && eqb (length (s .recon)) (g .reference .stride * g .reference .rows)) 20
-
--- of the writer, lowest number first, 20 and 21 (the bit string above 2^28 bytes, or the start bit beyond it) behind 1 to 9; 0 for none
-unfoldable pub writeRefusal : Given → Task → List ℕ → ℕ → Slices → ℕ
-writeRefusal g t out start s =
-    orElse (sizeRefusal (g .width) (g .height))
-    (orElse (sourceRefusal g t)
-    (orElse (canvasRefusal (g .width) (g .height) (g .reference))
-    (orElse (dataRefusal (g .book) (g .codebook))
-    (orElse (slicesRefusal g s) (startRefusal (length out) start)))))
-
--- of the reader
-unfoldable pub readRefusal : Given → List ℕ → ℕ → Slices → ℕ
-readRefusal g bytes start s =
-    orElse (sizeRefusal (g .width) (g .height))
-    (orElse (canvasRefusal (g .width) (g .height) (g .reference))
-    (orElse (dataRefusal (g .book) (g .codebook))
-    (orElse (slicesRefusal g s) (startRefusal (length bytes) start))))
+use Rattle.plane.specs.Plane.{Writing, writePlane, ReadingState, readPlane}
+use Rattle.plane.specs.Refusals.{writeRefusal, readRefusal}
 
 -- what a plane call answers: the refusal, 0 for none; the macroblocks done, which with 10, 11, 22 and 24 is the index of the one refused; the next bit; and the writer's totals, which are 0 in the reader
 pub record PlaneAnswer : Type 0 where
@@ -73,13 +43,11 @@ writeOut g t out start s =
 unfoldable pub writeSlices : Given → Task → List ℕ → ℕ → Slices → Slices
 writeSlices g t out start s = pick (eqb (writeRefusal g t out start s) 0) (writePlane g t (bitsOf out) start s .state .slices) s
 
--- what a call of the writer meets: r is its answer, out', recon', vx' and vy' what it leaves
-pub record PlaneWritten (g : Given) (t : Task) (out : List ℕ) (start : ℕ) (s : Slices) (r : PlaneAnswer) (out' recon' vx' vy' : List ℕ) : Type 0 where
+-- what a call of the writer meets: r is its answer, out' and s' what it leaves
+pub record PlaneWritten (g : Given) (t : Task) (out : List ℕ) (start : ℕ) (s : Slices) (r : PlaneAnswer) (out' : List ℕ) (s' : Slices) : Type 0 where
   pub answer : r ≡ writeAnswer g t out start s
   pub left-out : bitsOf out' ≡ writeOut g t out start s
-  pub left-recon : recon' ≡ writeSlices g t out start s .recon
-  pub left-vx : vx' ≡ writeSlices g t out start s .vx
-  pub left-vy : vy' ≡ writeSlices g t out start s .vy
+  pub left-slices : s' ≡ writeSlices g t out start s
 
 -- ---- the reader as a call
 unfoldable pub readPlaneAnswer : Given → List ℕ → ℕ → Slices → PlaneAnswer
@@ -90,8 +58,6 @@ readPlaneAnswer g bytes start s =
 unfoldable pub readSlices : Given → List ℕ → ℕ → Slices → Slices
 readSlices g bytes start s = pick (eqb (readRefusal g bytes start s) 0) (readPlane g (bitsOf bytes) start s .state .slices) s
 
-pub record PlaneRead (g : Given) (bytes : List ℕ) (start : ℕ) (s : Slices) (r : PlaneAnswer) (recon' vx' vy' : List ℕ) : Type 0 where
+pub record PlaneRead (g : Given) (bytes : List ℕ) (start : ℕ) (s : Slices) (r : PlaneAnswer) (s' : Slices) : Type 0 where
   pub answer : r ≡ readPlaneAnswer g bytes start s
-  pub left-recon : recon' ≡ readSlices g bytes start s .recon
-  pub left-vx : vx' ≡ readSlices g bytes start s .vx
-  pub left-vy : vy' ≡ readSlices g bytes start s .vy
+  pub left-slices : s' ≡ readSlices g bytes start s

@@ -2,9 +2,10 @@
 pub mod Run
 pub mod RunLaws
 pub mod Plane
+pub mod Refusals
 pub mod Calls
-pub mod Reader
+pub mod PlaneNeeds
+pub mod RefusalsLaws
 pub mod SlicesLaws
-pub mod ReaderLaws
 pub mod LimitLaws
 pub mod AloneLaws

@@ -1,10 +1,11 @@
 -- Laws of a run: one whose steps all go on, one that stopped, and a loop's steps.
 -- Assumes nothing.
-use mathlib.Core.Path.{_≡_, refl, subst}
+use mathlib.Core.Path.{_≡_, refl, sym, _∙_, subst}
 use Prim.Native.Nat.{ℕ, zero, suc, _+_, _-_, _≤_, _<_}
 use native.Mathlib.Omega.{arith}
 use native.Mathlib.Decide.{ℕ-discrete}
 use native.Mathlib.Nat.{add-zero, add-suc, suc-add}
+use native.Mathlib.Numerals.{add-one}
 use mathlib.Core.Bool.{Bool, true, false}
 use Rattle.bits.specs.Basics.{pick}
 use Rattle.plane.specs.Run.{Step, on, stop, End, goOn, run, after}
@@ -56,6 +57,26 @@ unfolding run
 ended f n k s h =
     let q : n - k ≡ 0 = omega arith in
     rw q
+
+-- a loop over n macroblocks on its way from the state s₀: before macroblock k, in the state s, what is left of the run gives the whole
+pub record Midway {S : Type 0} (f : ℕ → S → Step S) (n : ℕ) (s₀ : S) (k : ℕ) (s : S) : Type 0 where
+  pub most : k ≤ n
+  pub whole : run f (n - k) k s ≡ run f n 0 s₀
+
+pub set-out : {S : Type 0} (f : ℕ → S → Step S) (n : ℕ) (s₀ : S) → Midway f n s₀ 0 s₀
+set-out f n s₀ =
+    let z : n - 0 ≡ n = omega arith in
+    record { most = omega arith; whole = rw z }
+
+module _ {S : Type 0} (f : ℕ → S → Step S) (n : ℕ) (s₀ : S) (k : ℕ) (s : S) (m : Midway f n s₀ k s) where
+  pub gone-on : (u : S) → k < n → f k s ≡ on u → Midway f n s₀ (k + 1) u
+  gone-on u h e = record { most = omega arith; whole = rw (add-one k) (sym (turned f n k s u h e) ∙ m .whole) }
+
+  pub ends-early : (c : ℕ) → k < n → f k s ≡ stop c → run f n 0 s₀ ≡ record { refusal = c; done = k; state = s }
+  ends-early c h e = sym (m .whole) ∙ stopped f n k c s h e
+
+  pub ends-last : n ≤ k → run f n 0 s₀ ≡ record { refusal = 0; done = k; state = s }
+  ends-last h = sym (m .whole) ∙ ended f n k s h
 
 -- ended early or not, the state is the one before the macroblock at which the run ended, and that one did not fit
 pub record Stands {S : Type 0} (c : ℕ) (fits : ℕ → S → Bool) (g : ℕ → S → S) (s : S) (last : ℕ) (u : End S) : Type 0 where

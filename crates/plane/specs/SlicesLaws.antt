@@ -1,67 +1,71 @@
--- Laws of the result slices: what laying a macroblock leaves, and slices that agree on the macroblocks before one.
+-- Laws of the result slices: what laying a macroblock leaves, slices whose lengths stay, and slices that agree on the macroblocks before one.
 -- Assumes nothing.
-use mathlib.Core.Path.{_≡_, _∙_}
+use mathlib.Core.Path.{_≡_, refl, _∙_}
 use Prim.Native.Nat.{ℕ, suc, _*_, _≤_, _<_}
 use native.Mathlib.Omega.{arith}
-use mathlib.Core.List.{List, map}
+use mathlib.Core.List.{List}
 use lib.ListN.{length, drop}
-use Rattle.bits.specs.Basics.{signedByte}
-use Rattle.mv_cache.specs.GridLaws.{Agree, Holds, agree-put, length-put, in-owner, put-past}
-use Rattle.mv_cache.specs.NeighboursLaws.{near-same}
+use Rattle.bits.specs.Basics.{All}
+use Rattle.vectors.specs.VectorsLaws.{Inside}
+use Rattle.mv_cache.specs.GridLaws.{Agree, Holds, agree-put, in-owner, put-past}
+use Rattle.mv_cache.specs.NeighboursLaws.{near-same, Ranged, ranged-put}
 use Rattle.macroblock.specs.Macroblock.{Given, cols, rows, Choice, vectorsOf, shown}
-use Rattle.macroblock.specs.Slices.{Slices, near, laid}
+use Rattle.macroblock.specs.Slices.{Slices, BlockSlice, xSlice, ySlice, blocksIn, storedIn, near, laid}
+use Rattle.macroblock.specs.Inner.{Held}
 use Rattle.macroblock.specs.InnerLaws.{four-each}
+use Rattle.macroblock.specs.LayLaws.{laid-recon, laid-blocks, recon-kept, blocks-kept, stored-ranged}
 use Rattle.plane.specs.Plane.{count}
+use Rattle.plane.specs.PlaneNeeds.{SameLengths}
 
--- slices that pass refusal 20
+-- ---- lengths that stay
+pub same-at-first : (u : Slices) → SameLengths u u
+same-at-first u = record { recon = refl; blocks = λ b. refl }
+
+pub laid-same : (g : Given) (k : ℕ) (c : Choice) (u₀ u : Slices) → SameLengths u₀ u → SameLengths u₀ (laid g k c u)
+laid-same g k c u₀ u l = record { recon = recon-kept g k c u ∙ l .recon; blocks = λ b. blocks-kept b g k c u ∙ l .blocks b }
+
+pub same-held : (g : Given) (u₀ u : Slices) → SameLengths u₀ u → Held g u₀ → Held g u
+same-held g u₀ u l h = record { recon-whole = l .recon ∙ h .recon-whole; blocks-long = λ b. rw (l .blocks b) (h .blocks-long b) }
+
+-- ---- slices that pass refusal 20, by the plane's macroblocks
 pub record Sized (g : Given) (s : Slices) : Type 0 where
   pub recon : length (s .recon) ≡ rows g * 16 * (16 * cols g)
-  pub vx : 4 * count g ≤ length (s .vx)
-  pub vy : 4 * count g ≤ length (s .vy)
+  pub blocks : (b : BlockSlice) → 4 * count g ≤ length (blocksIn b s)
 
 module _ (g : Given) (wide : 0 < cols g) where
   pub holds-recon : (p : Slices) (k : ℕ) → k ≤ count g → Sized g p → Holds 16 (cols g) k (p .recon)
   holds-recon p k h z j l = rw (z .recon) (in-owner 16 (cols g) (omega arith) wide (rows g) j (omega arith))
 
-  pub holds-vectors : (vs : List ℕ) (k : ℕ) → k ≤ count g → 4 * count g ≤ length vs → Holds 2 (cols g) k vs
-  holds-vectors vs k h z j l = omega (arith, in-owner 2 (cols g) (omega arith) wide (rows g) j (omega arith), four-each (rows g) (cols g))
-
-  pub holds-vx : (p : Slices) (k : ℕ) → k ≤ count g → Sized g p → Holds 2 (cols g) k (p .vx)
-  holds-vx p k h z = holds-vectors (p .vx) k h (z .vx)
-
-  pub holds-vy : (p : Slices) (k : ℕ) → k ≤ count g → Sized g p → Holds 2 (cols g) k (p .vy)
-  holds-vy p k h z = holds-vectors (p .vy) k h (z .vy)
+  pub holds-blocks : (vs : List ℕ) (k : ℕ) → k ≤ count g → 4 * count g ≤ length vs → Holds 2 (cols g) k vs
+  holds-blocks vs k h z j l = omega (arith, in-owner 2 (cols g) (omega arith) wide (rows g) j (omega arith), four-each (rows g) (cols g))
 
   pub laid-sized : (k : ℕ) (c : Choice) (p : Slices) → Sized g p → Sized g (laid g k c p)
-  unfolding laid
-  laid-sized k c p z = record {
-    recon = length-put 16 (cols g) k (shown g k c) (p .recon) ∙ z .recon;
-    vx = rw length-put (z .vx);
-    vy = rw length-put (z .vy);
-  }
+  laid-sized k c p z = record { recon = recon-kept g k c p ∙ z .recon; blocks = λ b. rw (blocks-kept b g k c p) (z .blocks b) }
+
+  -- vectors in -32..31 stay so when those of macroblock k are laid behind them
+  pub ranged-laid : (b : BlockSlice) (k : ℕ) (c : Choice) (p : Slices) → k < count g → All Inside (vectorsOf c) → 4 * count g ≤ length (blocksIn b p)
+      → Ranged (cols g) k (blocksIn b p) → Ranged (cols g) (suc k) (blocksIn b (laid g k c p))
+  ranged-laid b k c p h inside z r =
+      rw (laid-blocks b g k c p) (ranged-put (cols g) k (storedIn b c) (blocksIn b p) (holds-blocks (blocksIn b p) (suc k) h z) r (stored-ranged b c inside))
 
   -- two sets of slices agree on the macroblocks before k
   pub record Alike (k : ℕ) (p q : Slices) : Type 0 where
     pub recon : Agree 16 (cols g) k (p .recon) (q .recon)
-    pub vx : Agree 2 (cols g) k (p .vx) (q .vx)
-    pub vy : Agree 2 (cols g) k (p .vy) (q .vy)
+    pub blocks : (b : BlockSlice) → Agree 2 (cols g) k (blocksIn b p) (blocksIn b q)
 
   pub alike-laid : (k : ℕ) (c : Choice) (p q : Slices) → k < count g → Sized g p → Sized g q → Alike k p q
       → Alike (suc k) (laid g k c p) (laid g k c q)
-  unfolding laid
   alike-laid k c p q h zp zq x = record {
-    recon = agree-put 16 (cols g) k (shown g k c) (p .recon) (q .recon) (holds-recon p (suc k) h zp) (holds-recon q (suc k) h zq) (x .recon);
-    vx = agree-put 2 (cols g) k (map (λ v. signedByte (v .x)) (vectorsOf c)) (p .vx) (q .vx) (holds-vx p (suc k) h zp) (holds-vx q (suc k) h zq) (x .vx);
-    vy = agree-put 2 (cols g) k (map (λ v. signedByte (v .y)) (vectorsOf c)) (p .vy) (q .vy) (holds-vy p (suc k) h zp) (holds-vy q (suc k) h zq) (x .vy);
+    recon = rw (laid-recon g k c p, laid-recon g k c q)
+        (agree-put 16 (cols g) k (shown g k c) (p .recon) (q .recon) (holds-recon p (suc k) h zp) (holds-recon q (suc k) h zq) (x .recon));
+    blocks = λ b.
+        rw (laid-blocks b g k c p, laid-blocks b g k c q)
+        (agree-put 2 (cols g) k (storedIn b c) (blocksIn b p) (blocksIn b q) (holds-blocks (blocksIn b p) (suc k) h (zp .blocks b)) (holds-blocks (blocksIn b q) (suc k) h (zq .blocks b)) (x .blocks b));
   }
 
   pub alike-near : (k : ℕ) (p q : Slices) → Alike k p q → near g p k ≡ near g q k
-  alike-near k p q x = near-same (cols g) (rows g) k (p .vx) (p .vy) (q .vx) (q .vy) (x .vx) (x .vy)
+  alike-near k p q x = near-same (cols g) (rows g) k (p .vx) (p .vy) (q .vx) (q .vy) (x .blocks xSlice) (x .blocks ySlice)
 
-  pub laid-past-vx : (k : ℕ) (c : Choice) (p : Slices) → k < count g → drop (4 * count g) (laid g k c p .vx) ≡ drop (4 * count g) (p .vx)
-  unfolding laid
-  laid-past-vx k c p h = put-past 2 (cols g) (omega arith) wide (rows g) k (4 * count g) (map (λ v. signedByte (v .x)) (vectorsOf c)) (p .vx) h (four-each (rows g) (cols g))
-
-  pub laid-past-vy : (k : ℕ) (c : Choice) (p : Slices) → k < count g → drop (4 * count g) (laid g k c p .vy) ≡ drop (4 * count g) (p .vy)
-  unfolding laid
-  laid-past-vy k c p h = put-past 2 (cols g) (omega arith) wide (rows g) k (4 * count g) (map (λ v. signedByte (v .y)) (vectorsOf c)) (p .vy) h (four-each (rows g) (cols g))
+  -- what lies behind the blocks stays
+  pub laid-past : (b : BlockSlice) (k : ℕ) (c : Choice) (p : Slices) → k < count g → drop (4 * count g) (blocksIn b (laid g k c p)) ≡ drop (4 * count g) (blocksIn b p)
+  laid-past b k c p h = rw (laid-blocks b g k c p) (put-past 2 (cols g) (omega arith) wide (rows g) k (4 * count g) (storedIn b c) (blocksIn b p) h (four-each (rows g) (cols g)))

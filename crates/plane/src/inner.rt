@@ -1,181 +1,57 @@
 // Functions that only the crates of this repository call. Most have a `requires`: the caller, proved too, meets it.
+ghost use mathlib.Core.List.{List};
 ghost use mathlib.Core.Path.{_≡_};
-ghost use Prim.Native.Nat.{_*_, _≤_};
-ghost use lib.ListN.{length};
-ghost use Rattle.book.specs.Book.{codebookBytes};
-ghost use Rattle.canvas.specs.Canvas.{largestSide, blocksAlong};
+ghost use Prim.Native.Nat.{ℕ};
+ghost use Rattle.bits.specs.Basics.{firstOf};
 ghost use Rattle.macroblock.specs.Inner.{givenBy};
-ghost use Rattle.plane.specs.Reader.{lengthsRefusal, readRefusalBy, PlaneReady, PlaneAccepted, ReadThrough};
-ghost use Rattle.macroblock.specs.Slices.{slicesBy};
-use super::svq1_plane::ReadEnd;
+ghost use Rattle.plane.specs.Refusals.{lengthsRefusal, lentLinks};
+ghost use Rattle.plane.specs.PlaneNeeds.{Padded};
 use canvas::svq1_plane::Svq1PlaneCanvas;
-use canvas::svq1_plane::plane_refusal;
-use codebook::inner::raise_codebook;
-use macroblock_dec::inner::reading::read_macroblock;
 
-// 20 of a plane of cols x rows macroblocks and `size` samples, by the lengths of its result slices; 0 for none.
-pub fn slices_refusal(
-    cols: usize,
-    rows: usize,
-    size: usize,
-    recon: usize,
-    vx: usize,
-    vy: usize,
-) -> u8
-    requires { ⌜ (cols ≤ blocksAlong largestSide) × (rows ≤ blocksAlong largestSide) ⌝ }
-    ensures { λ r. ⌜ r ≡ lengthsRefusal (rows * cols) size recon vx vy ⌝ }
+// The lengths of a plane call's result slices.
+pub struct SliceLengths {
+    pub recon: usize,
+    pub vx: usize,
+    pub vy: usize,
+}
+
+// 20 of a plane, by the lengths of its result slices; 0 for none.
+fn slices_refusal(canvas: Svq1PlaneCanvas, slices: SliceLengths) -> u8
+    requires { ⌜ Padded canvas ⌝ }
+    ensures { λ r. ⌜ ((reference book codebook : List ℕ) → r ≡ lengthsRefusal (givenBy canvas reference book codebook) slices) ⌝ }
 {
-    let vectors = 4 * (rows * cols);
-    if vx < vectors {
+    let blocks = 4 * (canvas.rows / 16 * (canvas.stride / 16));
+    if slices.vx < blocks {
         return 20;
     }
-    if vy < vectors {
+    if slices.vy < blocks {
         return 20;
     }
-    if recon != size {
+    if slices.recon != canvas.stride * canvas.rows {
         return 20;
     }
     0
 }
 
-// The refusals of the reader, lowest number first, 20 and 21 behind the others; 0 for none. The result slices are given by their lengths.
-pub fn read_refusal(
+// What the writer and the reader of a plane test last: 5, 6, 7, 20 and 21; 0 for none. The bit string and the result slices are given by their lengths.
+pub fn lent_refusal(
     canvas: Svq1PlaneCanvas,
-    reference: &[u8],
     book: &[u8],
     codebook: &[u8],
     bytes: usize,
     start: usize,
-    recon: usize,
-    vx: usize,
-    vy: usize,
+    slices: SliceLengths,
 ) -> u8
-    ensures { λ r. ⌜ r ≡ readRefusalBy (givenBy canvas (now (reference .entry)) (now (book .entry)) (now (codebook .entry))) bytes start recon vx vy ⌝ }
+    requires { ⌜ Padded canvas ⌝ }
+    ensures { λ r. ⌜ ((reference : List ℕ) → r ≡ firstOf (lentLinks (givenBy canvas reference (now (book .entry)) (now (codebook .entry))) bytes start slices)) ⌝ }
 {
-    let stride = canvas.stride;
-    let rows = canvas.rows;
-    let plane = plane_refusal(reference, canvas.width, canvas.height, stride, rows);
-    if plane != 0 {
-        return plane;
-    }
     let data = book_check::data_refusal(book, codebook);
     if data != 0 {
         return data;
     }
-    let slices = slices_refusal(stride / 16, rows / 16, stride * rows, recon, vx, vy);
-    if slices != 0 {
-        return slices;
+    let held = slices_refusal(canvas, slices);
+    if held != 0 {
+        return held;
     }
     bits::inner::start_refusal(bytes, start)
-}
-
-// A plane that no refusal meets, read from bit `start` on, macroblock by macroblock. `raised` is the raised codebook.
-fn read_blocks(
-    canvas: Svq1PlaneCanvas,
-    reference: &[u8],
-    book: &[u8],
-    codebook: &[u8],
-    raised: &[u8],
-    bytes: &[u8],
-    start: usize,
-    recon: &mut [u8],
-    vx: &mut [u8],
-    vy: &mut [u8],
-) -> ReadEnd
-    requires { ⌜ PlaneReady (givenBy canvas (now reference) (now book) (now codebook)) (now raised) (slicesBy (now recon) (now vx) (now vy)) (length (now bytes)) start ⌝ }
-    ensures { λ r. ⌜ ReadThrough (givenBy canvas (now (reference .entry)) (now (book .entry)) (now (codebook .entry))) (now (bytes .entry)) start (slicesBy (now (recon .entry)) (now (vx .entry)) (now (vy .entry))) r (slicesBy (now (recon .exit)) (now (vx .exit)) (now (vy .exit))) ⌝ }
-{
-    let count = canvas.rows / 16 * (canvas.stride / 16);
-    let mut k = 0;
-    let mut at = start;
-    while k < count {
-        let r = read_macroblock(
-            canvas,
-            reference,
-            book,
-            codebook,
-            raised,
-            bytes,
-            at,
-            k,
-            recon,
-            vx,
-            vy,
-        );
-        if r.refused != 0 {
-            return ReadEnd {
-                refused: r.refused,
-                done: k,
-                next: at,
-            };
-        }
-        at = r.next;
-        k += 1;
-    }
-    ReadEnd {
-        refused: 0,
-        done: k,
-        next: at,
-    }
-}
-
-// The same; the codebook is raised into `raised` first.
-fn read_raised(
-    canvas: Svq1PlaneCanvas,
-    reference: &[u8],
-    book: &[u8],
-    codebook: &[u8],
-    bytes: &[u8],
-    start: usize,
-    recon: &mut [u8],
-    vx: &mut [u8],
-    vy: &mut [u8],
-    raised: &mut [u8],
-) -> ReadEnd
-    requires { ⌜ PlaneAccepted (givenBy canvas (now reference) (now book) (now codebook)) (slicesBy (now recon) (now vx) (now vy)) (length (now bytes)) start × (length (now raised) ≡ codebookBytes) ⌝ }
-    ensures { λ r. ⌜ ReadThrough (givenBy canvas (now (reference .entry)) (now (book .entry)) (now (codebook .entry))) (now (bytes .entry)) start (slicesBy (now (recon .entry)) (now (vx .entry)) (now (vy .entry))) r (slicesBy (now (recon .exit)) (now (vx .exit)) (now (vy .exit))) ⌝ }
-{
-    raise_codebook(codebook, raised);
-    read_blocks(
-        canvas,
-        reference,
-        book,
-        codebook,
-        raised,
-        bytes,
-        start,
-        recon,
-        vx,
-        vy,
-    )
-}
-
-// The same with room of its own for the raised codebook.
-pub fn read_accepted(
-    canvas: Svq1PlaneCanvas,
-    reference: &[u8],
-    book: &[u8],
-    codebook: &[u8],
-    bytes: &[u8],
-    start: usize,
-    recon: &mut [u8],
-    vx: &mut [u8],
-    vy: &mut [u8],
-) -> ReadEnd
-    requires { ⌜ PlaneAccepted (givenBy canvas (now reference) (now book) (now codebook)) (slicesBy (now recon) (now vx) (now vy)) (length (now bytes)) start ⌝ }
-    ensures { λ r. ⌜ ReadThrough (givenBy canvas (now (reference .entry)) (now (book .entry)) (now (codebook .entry))) (now (bytes .entry)) start (slicesBy (now (recon .entry)) (now (vx .entry)) (now (vy .entry))) r (slicesBy (now (recon .exit)) (now (vx .exit)) (now (vy .exit))) ⌝ }
-{
-    let mut raised = [0u8; 23040];
-    read_raised(
-        canvas,
-        reference,
-        book,
-        codebook,
-        bytes,
-        start,
-        recon,
-        vx,
-        vy,
-        &mut raised,
-    )
 }

@@ -45,6 +45,6 @@ pub record ToldThrough (g : Given) (t : Task) (out : List ℕ) (start : ℕ) (s 
   pub stated : l ≡ statedIn g t (bitsOf out) start s held (r .done)
 
 -- what a call of the writer that tells meets: what the writer alone does, and stated', what it leaves of held
-pub record PlaneStated (g : Given) (t : Task) (out : List ℕ) (start : ℕ) (s : Slices) (held : List ℕ) (r : PlaneAnswer) (out' recon' vx' vy' stated' : List ℕ) : Type 0 where
-  pub written : PlaneWritten g t out start s r out' recon' vx' vy'
+pub record PlaneStated (g : Given) (t : Task) (out : List ℕ) (start : ℕ) (s : Slices) (held : List ℕ) (r : PlaneAnswer) (out' : List ℕ) (s' : Slices) (stated' : List ℕ) : Type 0 where
+  pub written : PlaneWritten g t out start s r out' s'
   pub stated : stated' ≡ statedIn g t (bitsOf out) start s held (r .done)

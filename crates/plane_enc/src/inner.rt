@@ -7,23 +7,24 @@ ghost use Rattle.book.specs.Book.{codebookBytes};
 ghost use Rattle.macroblock_choice.specs.Chosen.{taskIn};
 ghost use Rattle.macroblock.specs.Inner.{givenBy};
 ghost use Rattle.macroblock.specs.Mode.{modePosition};
-ghost use Rattle.plane.specs.Reader.{PlaneReady, PlaneAccepted};
+ghost use Rattle.plane.specs.Refusals.{writeRefusalBy};
+ghost use Rattle.plane.specs.PlaneNeeds.{PlaneReady, PlaneAccepted};
 ghost use Rattle.macroblock_enc.specs.Limits.{limitOf, Spends};
 ghost use Rattle.plane_enc.specs.Stated.{told, ToldThrough};
-ghost use Rattle.plane_enc.specs.Writer.{writeRefusalBy};
 ghost use Rattle.macroblock.specs.Slices.{slicesBy};
 use super::svq1_enc_inter::WriteEnd;
 use canvas::svq1_plane::Svq1PlaneCanvas;
-use canvas::svq1_plane::plane_refusal;
+use canvas::svq1_plane::source_refusal;
 use codebook::inner::raise_codebook;
 use macroblock::svq1_enc_inter::Settings;
 use macroblock::svq1_enc_inter::Svq1MbMode;
 use macroblock_enc::inner::limit::BitLimit;
 use macroblock_enc::inner::writing::write_macroblock;
-use plane::inner::read_refusal;
+use plane::inner::SliceLengths;
+use plane::inner::lent_refusal;
 
-// The refusals of the writer: the reader's, and 2 for a source of another size behind 1; 0 for none. The source, the output and the result slices are
-// given by their lengths.
+// The refusals of the writer, lowest number first, 20 and 21 behind the others; 0 for none. The source, the output and the result slices are given by
+// their lengths.
 pub fn write_refusal(
     canvas: Svq1PlaneCanvas,
     source: usize,
@@ -32,32 +33,15 @@ pub fn write_refusal(
     codebook: &[u8],
     bytes: usize,
     start: usize,
-    recon: usize,
-    vx: usize,
-    vy: usize,
+    slices: SliceLengths,
 ) -> u8
-    ensures { λ r. ⌜ r ≡ writeRefusalBy (givenBy canvas (now (reference .entry)) (now (book .entry)) (now (codebook .entry))) source bytes start recon vx vy ⌝ }
+    ensures { λ r. ⌜ r ≡ writeRefusalBy (givenBy canvas (now (reference .entry)) (now (book .entry)) (now (codebook .entry))) source bytes start slices ⌝ }
 {
-    let width = canvas.width;
-    let height = canvas.height;
-    let plane = plane_refusal(reference, width, height, canvas.stride, canvas.rows);
-    if plane == 1 {
-        return 1;
+    let plane = source_refusal(canvas, source, reference);
+    if plane != 0 {
+        return plane;
     }
-    if source != width * height {
-        return 2;
-    }
-    read_refusal(
-        canvas,
-        reference,
-        book,
-        codebook,
-        bytes,
-        start,
-        recon,
-        vx,
-        vy,
-    )
+    lent_refusal(canvas, book, codebook, bytes, start, slices)
 }
 
 // A macroblock's mode, bits and error at its place, where the slice has room for all three.

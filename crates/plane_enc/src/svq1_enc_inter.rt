@@ -10,6 +10,7 @@ use super::inner::write_refusal;
 use canvas::svq1_plane::Svq1PlaneCanvas;
 use macroblock::svq1_enc_inter::Settings;
 use macroblock_enc::inner::limit::BitLimit;
+use plane::inner::SliceLengths;
 
 // What writing a plane answers: the number of a refusal, or 0; the macroblocks done, which with 22 is the index of the one that does not fit;
 // the next bit; and the bits and the squared error of the macroblocks done.
@@ -37,7 +38,7 @@ pub fn encode_inter_plane(
     vx: &mut [u8],
     vy: &mut [u8],
 ) -> WriteEnd
-    ensures { λ r. ⌜ PlaneWritten (givenBy canvas (now (reference .entry)) (now (book .entry)) (now (codebook .entry))) (taskBy (now (source .entry)) settings) (now (out .entry)) start (slicesBy (now (recon .entry)) (now (vx .entry)) (now (vy .entry))) (endOf r) (now (out .exit)) (now (recon .exit)) (now (vx .exit)) (now (vy .exit)) ⌝ }
+    ensures { λ r. ⌜ PlaneWritten (givenBy canvas (now (reference .entry)) (now (book .entry)) (now (codebook .entry))) (taskBy (now (source .entry)) settings) (now (out .entry)) start (slicesBy (now (recon .entry)) (now (vx .entry)) (now (vy .entry))) (endOf r) (now (out .exit)) (slicesBy (now (recon .exit)) (now (vx .exit)) (now (vy .exit))) ⌝ }
 {
     let mut none = [0u32; 1];
     encode_inter_plane_stated(
@@ -72,8 +73,13 @@ pub fn encode_inter_plane_stated(
     vy: &mut [u8],
     stated: &mut [u32],
 ) -> WriteEnd
-    ensures { λ r. ⌜ PlaneStated (givenBy canvas (now (reference .entry)) (now (book .entry)) (now (codebook .entry))) (taskBy (now (source .entry)) settings) (now (out .entry)) start (slicesBy (now (recon .entry)) (now (vx .entry)) (now (vy .entry))) (now (stated .entry)) (endOf r) (now (out .exit)) (now (recon .exit)) (now (vx .exit)) (now (vy .exit)) (now (stated .exit)) ⌝ }
+    ensures { λ r. ⌜ PlaneStated (givenBy canvas (now (reference .entry)) (now (book .entry)) (now (codebook .entry))) (taskBy (now (source .entry)) settings) (now (out .entry)) start (slicesBy (now (recon .entry)) (now (vx .entry)) (now (vy .entry))) (now (stated .entry)) (endOf r) (now (out .exit)) (slicesBy (now (recon .exit)) (now (vx .exit)) (now (vy .exit))) (now (stated .exit)) ⌝ }
 {
+    let slices = SliceLengths {
+        recon: recon.len(),
+        vx: vx.len(),
+        vy: vy.len(),
+    };
     let refused = write_refusal(
         canvas,
         source.len(),
@@ -82,9 +88,7 @@ pub fn encode_inter_plane_stated(
         codebook,
         out.len(),
         start,
-        recon.len(),
-        vx.len(),
-        vy.len(),
+        slices,
     );
     if refused != 0 {
         return WriteEnd {

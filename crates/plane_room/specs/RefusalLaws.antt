@@ -2,20 +2,19 @@
 -- Assumes nothing.
 use Prim.Native.Nat.{ℕ, _*_, _^_, _≤_}
 use mathlib.Core.Bool.{Bool, true, false, _&&_}
-use mathlib.Core.List.{List}
+use mathlib.Core.List.{List, [], _∷_, _++_}
 use native.Mathlib.Omega.{arith}
 use lib.Dec.{eqb, leb}
 use lib.ListN.{length}
-use Rattle.bits.specs.Basics.{pick, orElse, unless}
-use Rattle.bits.specs.Calls.{startRefusal}
+use Rattle.bits.specs.Basics.{pick, All, orElse, firstOf, unless}
 use Rattle.book.specs.Book.{codebookBytes, bookBytes, codeTableSizes, eachPrefixFree, codesRefusal, bookRefusal, dataRefusal}
 use Rattle.code_tables.specs.Codes.{goodTable}
-use Rattle.canvas.specs.Canvas.{Canvas, sideOk, padded16, sizeRefusal, canvasRefusal}
+use Rattle.canvas.specs.Canvas.{Canvas, sideOk, padded16, canvasRefusal, sourceLinks}
 use Rattle.macroblock.specs.Macroblock.{Given}
 use Rattle.macroblock.specs.Choice.{Task}
 use Rattle.macroblock.specs.Slices.{Slices}
 use Rattle.plane.specs.Plane.{count}
-use Rattle.plane.specs.Calls.{sourceRefusal, slicesRefusal, writeRefusal}
+use Rattle.plane.specs.Refusals.{lengthsRefusal, lentLinks, lengthsOf, slicesRefusal, writeRefusalBy, writeRefusal}
 
 unless-most : (b : Bool) (n : ℕ) → n ≤ 21 → unless b n ≤ 21
 unless-most true n h = omega arith
@@ -46,20 +45,25 @@ data-most book codebook =
     (or-most (unless good 6) (unless free 7) (unless-most good 6 (omega arith)) (unless-most free 7 (omega arith))))
 
 slices-most : (g : Given) (s : Slices) → slicesRefusal g s ≤ 21
-unfolding slicesRefusal
+unfolding lengthsRefusal
 slices-most g s =
     unless-most ((leb (4 * count g) (length (s .vx)) && leb (4 * count g) (length (s .vy))) && eqb (length (s .recon)) (g .reference .stride * g .reference .rows)) 20 (omega arith)
 
+-- a chain is at most what its links are
+first-most : (ns : List ℕ) → All (λ n. n ≤ 21) ns → firstOf ns ≤ 21
+unfolding firstOf
+first-most [] h = omega arith
+first-most (n ∷ ns) h = or-most n (firstOf ns) (h .0) (first-most ns (h .1))
+
 pub refusal-most : (g : Given) (t : Task) (out : List ℕ) (start : ℕ) (s : Slices) → writeRefusal g t out start s ≤ 21
-unfolding writeRefusal
+unfolding writeRefusalBy
 refusal-most g t out start s =
-    let start21 = startRefusal (length out) start in
-    let r5 = orElse (slicesRefusal g s) start21 in
-    let r4 = orElse (dataRefusal (g .book) (g .codebook)) r5 in
-    let r3 = orElse (canvasRefusal (g .width) (g .height) (g .reference)) r4 in
-    let r2 = orElse (sourceRefusal g t) r3 in
-    or-most (sizeRefusal (g .width) (g .height)) r2 (unless-most (sideOk (g .width) && sideOk (g .height)) 1 (omega arith))
-    (or-most (sourceRefusal g t) r3 (unless-most (eqb (length (t .source)) (g .width * g .height)) 2 (omega arith))
-    (or-most (canvasRefusal (g .width) (g .height) (g .reference)) r4 (canvas-most (g .width) (g .height) (g .reference))
-    (or-most (dataRefusal (g .book) (g .codebook)) r5 (data-most (g .book) (g .codebook))
-    (or-most (slicesRefusal g s) start21 (slices-most g s) (unless-most (leb (length out) (2 ^ 28) && leb start (8 * length out)) 21 (omega arith))))))
+    first-most (sourceLinks (g .width) (g .height) (length (t .source)) (g .reference) ++ lentLinks g (length out) start (lengthsOf s)) (
+      unless-most (sideOk (g .width) && sideOk (g .height)) 1 (omega arith),
+      unless-most (eqb (length (t .source)) (g .width * g .height)) 2 (omega arith),
+      canvas-most (g .width) (g .height) (g .reference),
+      data-most (g .book) (g .codebook),
+      slices-most g s,
+      unless-most (leb (length out) (2 ^ 28) && leb start (8 * length out)) 21 (omega arith),
+      tt,
+    )

@@ -10,7 +10,8 @@ use Rattle.macroblock.specs.Macroblock.{Given}
 use Rattle.macroblock.specs.Choice.{Task}
 use Rattle.macroblock.specs.Slices.{Slices}
 use Rattle.plane.specs.Plane.{count, writePlane}
-use Rattle.plane.specs.Calls.{writeRefusal, writeAnswer}
+use Rattle.plane.specs.Refusals.{writeRefusal}
+use Rattle.plane.specs.Calls.{writeAnswer}
 use Rattle.claim.specs.Claim.{InMemory}
 
 -- the length of a table's longest code, 0 where it has none; an entry is three bytes, the last of them the length

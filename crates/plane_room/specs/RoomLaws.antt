@@ -20,7 +20,8 @@ use Rattle.macroblock.specs.Slices.{Slices, near}
 use Rattle.plane.specs.Run.{after}
 use Rattle.plane.specs.RunLaws.{testing, run-on}
 use Rattle.plane.specs.Plane.{count, Writing, wroteWeight, wroteBits, fits, written, writePlane, writingAt}
-use Rattle.plane.specs.Calls.{writeRefusal, writeAnswer}
+use Rattle.plane.specs.Refusals.{writeRefusal}
+use Rattle.plane.specs.Calls.{writeAnswer}
 use Rattle.claim.specs.Claim.{InMemory}
 use Rattle.claim.specs.AcceptedLaws.{accepted}
 use Rattle.plane_room.specs.Room.{bookBits, anyBits, roomBytes, WrittenWhole, HasRoom, Suffices, OfSize, OfSizeUnder}

@@ -1,7 +1,7 @@
 // The cards of a plane of 16 x 16 samples of 100 over a reference of 0.
 ghost use Prim.Native.Nat.{_≤_};
 ghost use Rattle.plane_enc.specs.Writer.{endOf as writeEnd};
-ghost use Rattle.plane.specs.Reader.{endOf as readEnd};
+ghost use Rattle.plane_dec.specs.Reader.{endOf as readEnd};
 ghost use Rattle.cards.specs.Planes.{smallGiven, smallTask, smallSlices, freshSlices, Wrote, ReadOff};
 use super::line::print_line;
 use super::line::put_number;
@@ -15,8 +15,8 @@ use super::plane_text::put_written;
 use super::sums::count_of;
 use canvas::svq1_plane::Svq1PlaneCanvas;
 use macroblock::svq1_enc_inter::Settings;
-use plane::svq1_plane::ReadEnd;
-use plane::svq1_plane::decode_inter_plane;
+use plane_dec::svq1_plane::ReadEnd;
+use plane_dec::svq1_plane::decode_inter_plane;
 use plane_enc::svq1_enc_inter::WriteEnd;
 use plane_enc::svq1_enc_inter::encode_inter_plane;
 use text::put_text;

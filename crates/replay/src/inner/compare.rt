@@ -10,7 +10,7 @@ use super::file::Job;
 use super::file::bytes_for;
 use super::file::number_at;
 use super::file::part;
-use plane::svq1_plane::ReadEnd;
+use plane_dec::svq1_plane::ReadEnd;
 use plane_enc::svq1_enc_inter::WriteEnd;
 use text::same;
 

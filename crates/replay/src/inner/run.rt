@@ -13,8 +13,8 @@ use super::file::part;
 use super::tally::Tally;
 use super::tally::job_tally;
 use macroblock::svq1_enc_inter::Settings;
-use plane::svq1_plane::ReadEnd;
-use plane::svq1_plane::decode_inter_plane;
+use plane_dec::svq1_plane::ReadEnd;
+use plane_dec::svq1_plane::decode_inter_plane;
 use plane_enc::svq1_enc_inter::WriteEnd;
 use plane_enc::svq1_enc_inter::encode_inter_plane_stated;
 

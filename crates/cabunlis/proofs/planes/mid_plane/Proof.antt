@@ -1,5 +1,5 @@
 -- Number by number. Assumes nothing.
-use Rattle.cabunlis.specs.HostLaws.{mid-10, mid-11, mid-22, mid-24}
+use Rattle.plane.specs.RefusalsLaws.{mid-10, mid-11, mid-22, mid-24}
 use Rattle.cabunlis.proofs.planes.mid_plane.Statement.{statement}
 use Rattle.cabunlis.proofs.planes.mid_plane.Tie as tie
 

@@ -5,7 +5,7 @@ use Rattle.listing_job.specs.Job.{Job}
 use Rattle.listing_job.specs.JobReading.{jobBy}
 use Rattle.listing_text.specs.Listing.{Files, filesRefusal}
 use Rattle.listing_text.specs.Listed.{filesBy}
-use Rattle.listing_text.specs.FilesLaws.{files-by, files-listable, put-job-refused, text-plane}
+use Rattle.listing_text.specs.FilesLaws.{files-listable, put-job-refused, text-plane}
 use borrow.Author.Needs.{needs}
 use Rattle.listing_text.proofs.listing.list_job.Statement.{statement}
 use Rattle.listing_text.proofs.listing.list_job.Tie as tie
@@ -33,7 +33,7 @@ returns c =
     let j : Job = jobBy (a .job) in
     let v = c .before .before .before .before .before .before .before .before .canvas-of .ensures in
     let k = c .before .before .before .before .before .before .files-refusal in
-    let n : k .result ≡ filesRefusal f j = rw v at (k .ensures .refused) ∙ sym (files-by f j) in
+    let n : k .result ≡ filesRefusal f j = rw v at (k .ensures .refused) in
     put-job-refused f j _ n (c .before .before .before .before .if1 .taken) (a .text .now) _ _ (c .before .before .put-refused .ensures)
 
 slice-aggregate-list-plane : tie.Need-slice-aggregate-list-plane
@@ -47,7 +47,7 @@ list-plane-requires c κs =
     let j : Job = jobBy (a .job) in
     let v = c .before .before .before .before .before .before .canvas-of .ensures in
     let k = c .before .before .before .before .files-refusal in
-    let n : k .result ≡ filesRefusal f j = rw v at (k .ensures .refused) ∙ sym (files-by f j) in
+    let n : k .result ≡ filesRefusal f j = rw v at (k .ensures .refused) in
     let none = c .before .before .if1 .left in
     (rw (v, k .ensures .held none) (files-listable f j (s .pre .0) (s .pre .1) (sym n ∙ none)), s .pre .2)
 
@@ -62,7 +62,7 @@ returns-2 c =
     let j : Job = jobBy (a .job) in
     let v = c .before .before .before .before .before .before .before .before .before .canvas-of .ensures in
     let k = c .before .before .before .before .before .before .before .files-refusal in
-    let n : k .result ≡ filesRefusal f j = rw v at (k .ensures .refused) ∙ sym (files-by f j) in
+    let n : k .result ≡ filesRefusal f j = rw v at (k .ensures .refused) in
     let none = c .before .before .before .before .before .if1 .left in
     rw (text-plane f j (sym n ∙ none)) (rw (v, k .ensures .held none) at (c .before .before .list-plane .ensures))
 

@@ -6,10 +6,10 @@ use Rattle.bits.specs.Bits.{bitsOf}
 use Rattle.macroblock.specs.Macroblock.{Given}
 use Rattle.macroblock.specs.Choice.{Task}
 use Rattle.macroblock_choice.specs.Chosen.{taskIn}
-use Rattle.macroblock.specs.Slices.{Slices, slicesBy}
+use Rattle.macroblock.specs.Slices.{Slices, slicesBy, xSlice, ySlice}
 use Rattle.macroblock.specs.Inner.{givenBy}
 use Rattle.plane.specs.Plane.{count}
-use Rattle.plane.specs.ReaderLaws.{count-by, count-most}
+use Rattle.plane.specs.RefusalsLaws.{count-by, count-most}
 use Rattle.macroblock_enc.specs.Limits.{limitOf}
 use Rattle.plane_enc.specs.Stated.{Telling}
 use Rattle.plane_enc.specs.StatedLaws.{length-in, telling-begun, telling-turn}
@@ -21,12 +21,12 @@ use Rattle.plane_enc.proofs.inner.write_blocks.Statement.{statement}
 use Rattle.plane_enc.proofs.inner.write_blocks.Tie as tie
 
 abbrev Inv-loop : tie.InvT-loop
-Inv-loop canvas source reference book codebook raised lambda radius four limit out₀ start recon₀ vx₀ vy₀ stated₀ count k₀ at₀ bits₀ error₀ out recon vx vy stated k at bits error =
-    Underway (givenBy canvas reference book codebook) (taskIn source lambda radius four (limitOf limit)) out₀ start (slicesBy recon₀ vx₀ vy₀) out (slicesBy recon vx vy) k at bits error
-    × Telling (givenBy canvas reference book codebook) (taskIn source lambda radius four (limitOf limit)) (bitsOf out₀) start (slicesBy recon₀ vx₀ vy₀) stated₀ (slicesBy recon vx vy) stated k bits
+Inv-loop canvas source reference book codebook raised settings limit out₀ start recon₀ vx₀ vy₀ stated₀ count k₀ at₀ bits₀ error₀ out recon vx vy stated k at bits error =
+    Underway (givenBy canvas reference book codebook) (taskIn source settings (limitOf limit)) out₀ start (slicesBy recon₀ vx₀ vy₀) out (slicesBy recon vx vy) k at bits error
+    × Telling (givenBy canvas reference book codebook) (taskIn source settings (limitOf limit)) (bitsOf out₀) start (slicesBy recon₀ vx₀ vy₀) stated₀ (slicesBy recon vx vy) stated k bits
 
 abbrev μ-loop : tie.MeasureT-loop
-μ-loop canvas source reference book codebook raised lambda radius four limit out₀ start recon₀ vx₀ vy₀ stated₀ count k₀ at₀ bits₀ error₀ out recon vx vy stated k at bits error = count - k
+μ-loop canvas source reference book codebook raised settings limit out₀ start recon₀ vx₀ vy₀ stated₀ count k₀ at₀ bits₀ error₀ out recon vx vy stated k at bits error = count - k
 
 mul-count : tie.Need-mul-count Inv-loop μ-loop
 mul-count c =
@@ -60,13 +60,13 @@ same-length : tie.Need-same-length Inv-loop μ-loop
 same-length c = c .before .before .before .before .before .before .before .before .before .before .write-macroblock .kept .1 .1 .1 .1 .1 .1 .1 .1 .1 .1 .1 .0 ∙ c .before .before .before .before .before .before .before .before .before .before .before .before .before .before .before .before .loop .inv .0 .out-same
 
 same-length-2 : tie.Need-same-length-2 Inv-loop μ-loop
-same-length-2 c = c .before .before .before .before .before .before .before .before .before .before .write-macroblock .kept .1 .1 .1 .1 .1 .1 .1 .1 .1 .1 .1 .1 .1 .1 .0 ∙ c .before .before .before .before .before .before .before .before .before .before .before .before .before .before .before .before .loop .inv .0 .recon-same
+same-length-2 c = c .before .before .before .before .before .before .before .before .before .before .write-macroblock .kept .1 .1 .1 .1 .1 .1 .1 .1 .1 .1 .1 .1 .1 .1 .0 ∙ c .before .before .before .before .before .before .before .before .before .before .before .before .before .before .before .before .loop .inv .0 .same .recon
 
 same-length-3 : tie.Need-same-length-3 Inv-loop μ-loop
-same-length-3 c = c .before .before .before .before .before .before .before .before .before .before .write-macroblock .kept .1 .1 .1 .1 .1 .1 .1 .1 .1 .1 .1 .1 .1 .1 .1 .0 ∙ c .before .before .before .before .before .before .before .before .before .before .before .before .before .before .before .before .loop .inv .0 .vx-same
+same-length-3 c = c .before .before .before .before .before .before .before .before .before .before .write-macroblock .kept .1 .1 .1 .1 .1 .1 .1 .1 .1 .1 .1 .1 .1 .1 .1 .0 ∙ c .before .before .before .before .before .before .before .before .before .before .before .before .before .before .before .before .loop .inv .0 .same .blocks xSlice
 
 same-length-4 : tie.Need-same-length-4 Inv-loop μ-loop
-same-length-4 c = c .before .before .before .before .before .before .before .before .before .before .write-macroblock .kept .1 .1 .1 .1 .1 .1 .1 .1 .1 .1 .1 .1 .1 .1 .1 .1 .0 ∙ c .before .before .before .before .before .before .before .before .before .before .before .before .before .before .before .before .loop .inv .0 .vy-same
+same-length-4 c = c .before .before .before .before .before .before .before .before .before .before .write-macroblock .kept .1 .1 .1 .1 .1 .1 .1 .1 .1 .1 .1 .1 .1 .1 .1 .1 .0 ∙ c .before .before .before .before .before .before .before .before .before .before .before .before .before .before .before .before .loop .inv .0 .same .blocks ySlice
 
 same-length-5 : tie.Need-same-length-5 Inv-loop μ-loop
 same-length-5 c = ap length (c .before .before .before .before .before .before .before .before .before .before .before .before .before .before .before .before .loop .inv .1 .stated) ∙ length-in _ _ _ _ _ _ _
@@ -144,13 +144,13 @@ same-length-6 : tie.Need-same-length-6 Inv-loop μ-loop
 same-length-6 c = c .before .loop .inv .0 .out-same
 
 same-length-7 : tie.Need-same-length-7 Inv-loop μ-loop
-same-length-7 c = c .before .loop .inv .0 .recon-same
+same-length-7 c = c .before .loop .inv .0 .same .recon
 
 same-length-8 : tie.Need-same-length-8 Inv-loop μ-loop
-same-length-8 c = c .before .loop .inv .0 .vx-same
+same-length-8 c = c .before .loop .inv .0 .same .blocks xSlice
 
 same-length-9 : tie.Need-same-length-9 Inv-loop μ-loop
-same-length-9 c = c .before .loop .inv .0 .vy-same
+same-length-9 c = c .before .loop .inv .0 .same .blocks ySlice
 
 same-length-10 : tie.Need-same-length-10 Inv-loop μ-loop
 same-length-10 c = ap length (c .before .loop .inv .1 .stated) ∙ length-in _ _ _ _ _ _ _

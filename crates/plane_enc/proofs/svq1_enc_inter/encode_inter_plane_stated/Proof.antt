@@ -7,8 +7,9 @@ use Rattle.macroblock.specs.Choice.{Task}
 use Rattle.macroblock_choice.specs.Chosen.{taskBy}
 use Rattle.macroblock.specs.Slices.{Slices, slicesBy}
 use Rattle.macroblock.specs.Inner.{givenBy}
+use Rattle.plane.specs.RefusalsLaws.{write-accepted}
 use Rattle.plane_enc.specs.StatedLaws.{in-none}
-use Rattle.plane_enc.specs.WriterLaws.{refusal-is, write-accepted, call-refused, call-written}
+use Rattle.plane_enc.specs.WriterLaws.{call-refused, call-written}
 use borrow.Author.Needs.{needs}
 use Rattle.plane_enc.proofs.svq1_enc_inter.encode_inter_plane_stated.Statement.{statement}
 use Rattle.plane_enc.proofs.svq1_enc_inter.encode_inter_plane_stated.Tie as tie
@@ -23,7 +24,7 @@ returns c =
     let t : Task = taskBy (a .source .now) (a .settings) in
     let u : Slices = slicesBy (a .recon .now) (a .vx .now) (a .vy .now) in
     record {
-      written = call-refused g t (a .out .now) (a .start) u _ (c .before .write-refusal .ensures ∙ refusal-is g t (a .out .now) (a .start) u) (c .if1 .taken);
+      written = call-refused g t (a .out .now) (a .start) u _ (c .before .write-refusal .ensures) (c .if1 .taken);
       stated = sym (in-none g t (bitsOf (a .out .now)) (a .start) u (a .stated .now));
     }
 
@@ -33,7 +34,7 @@ write-accepted-requires c κs =
     let g : Given = givenBy (a .canvas) (a .reference .now) (a .book .now) (a .codebook .now) in
     let t : Task = taskBy (a .source .now) (a .settings) in
     let u : Slices = slicesBy (a .recon .now) (a .vx .now) (a .vy .now) in
-    let w = write-accepted g t (a .out .now) (a .start) u (sym (c .before .before .before .before .before .before .write-refusal .ensures ∙ refusal-is g t (a .out .now) (a .start) u) ∙ c .before .before .before .before .before .if1 .left) in
+    let w = write-accepted g u _ (a .start) _ (sym (c .before .before .before .before .before .before .write-refusal .ensures) ∙ c .before .before .before .before .before .if1 .left) in
     (w .0, w .1, record { skips-rest = refl; few = omega arith })
 
 same-length : tie.Need-same-length
@@ -58,7 +59,7 @@ returns-2 c =
     let t : Task = taskBy (a .source .now) (a .settings) in
     let u : Slices = slicesBy (a .recon .now) (a .vx .now) (a .vy .now) in
     record {
-      written = call-written g t (a .out .now) (a .start) u _ _ _ (sym (c .before .before .before .before .before .before .before .before .before .before .before .before .before .before .before .before .before .write-refusal .ensures ∙ refusal-is g t (a .out .now) (a .start) u) ∙ c .before .before .before .before .before .before .before .before .before .before .before .before .before .before .before .before .if1 .left) (c .before .before .before .before .before .before .before .before .before .before .write-accepted .ensures .written);
+      written = call-written g t (a .out .now) (a .start) u _ _ _ (sym (c .before .before .before .before .before .before .before .before .before .before .before .before .before .before .before .before .before .write-refusal .ensures) ∙ c .before .before .before .before .before .before .before .before .before .before .before .before .before .before .before .before .if1 .left) (c .before .before .before .before .before .before .before .before .before .before .write-accepted .ensures .written);
       stated = c .before .before .before .before .before .before .before .before .before .before .write-accepted .ensures .stated;
     }
 

@@ -1,5 +1,7 @@
 -- The reader's answer and samples. Assumes nothing.
+use mathlib.Core.Path.{ap}
 use borrow.Author.Needs.{needs}
+use Rattle.macroblock.specs.Slices.{Slices}
 use Rattle.cards.specs.Planes.{smallGiven}
 use Rattle.cards.proofs.inner.small_planes.read_plane.Statement.{statement}
 use Rattle.cards.proofs.inner.small_planes.read_plane.Tie as tie
@@ -23,7 +25,7 @@ returns : tie.Need-returns
 unfolding smallGiven
 returns c =
     let e = c .before .before .before .before .decode-inter-plane .ensures in
-    record { answer = e .answer; left = e .left-recon }
+    record { answer = e .answer; left = ap (λ (s : Slices). s .recon) (e .left-slices) }
 
 pub read-plane-spec : {M : Type 1} → statement M
 read-plane-spec =

@@ -3,10 +3,11 @@ use mathlib.Core.Path.{sym, _∙_}
 use Rattle.macroblock.specs.Macroblock.{Given}
 use Rattle.macroblock.specs.Slices.{Slices, slicesBy}
 use Rattle.macroblock.specs.Inner.{givenBy}
-use Rattle.plane.specs.ReaderLaws.{refusal-is, accepted, call-refused, call-read}
+use Rattle.plane.specs.RefusalsLaws.{read-accepted}
+use Rattle.plane_dec.specs.ReaderLaws.{call-refused, call-read}
 use borrow.Author.Needs.{needs}
-use Rattle.plane.proofs.svq1_plane.decode_inter_plane.Statement.{statement}
-use Rattle.plane.proofs.svq1_plane.decode_inter_plane.Tie as tie
+use Rattle.plane_dec.proofs.svq1_plane.decode_inter_plane.Statement.{statement}
+use Rattle.plane_dec.proofs.svq1_plane.decode_inter_plane.Tie as tie
 
 read-refusal-requires : tie.Need-read-refusal-requires
 read-refusal-requires c κs = search needs
@@ -16,14 +17,14 @@ returns c =
     let a = c .before .before .before .before .before .before .before .before .before .args in
     let g : Given = givenBy (a .canvas) (a .reference .now) (a .book .now) (a .codebook .now) in
     let u : Slices = slicesBy (a .recon .now) (a .vx .now) (a .vy .now) in
-    call-refused g (a .bytes .now) (a .start) u _ (c .before .read-refusal .ensures ∙ refusal-is g (a .bytes .now) (a .start) u) (c .if1 .taken)
+    call-refused g (a .bytes .now) (a .start) u _ (c .before .read-refusal .ensures) (c .if1 .taken)
 
 read-accepted-requires : tie.Need-read-accepted-requires
 read-accepted-requires c κs =
     let a = c .before .before .before .before .before .before .before .before .before .before .before .before .args in
     let g : Given = givenBy (a .canvas) (a .reference .now) (a .book .now) (a .codebook .now) in
     let u : Slices = slicesBy (a .recon .now) (a .vx .now) (a .vy .now) in
-    accepted g (a .bytes .now) (a .start) u (sym (c .before .before .before .before .read-refusal .ensures ∙ refusal-is g (a .bytes .now) (a .start) u) ∙ c .before .before .before .if1 .left)
+    read-accepted g u _ (a .start) (sym (c .before .before .before .before .read-refusal .ensures) ∙ c .before .before .before .if1 .left)
 
 same-length : tie.Need-same-length
 same-length c = search needs
@@ -39,7 +40,7 @@ returns-2 c =
     let a = c .before .before .before .before .before .before .before .before .before .before .before .before .before .before .before .before .before .before .before .args in
     let g : Given = givenBy (a .canvas) (a .reference .now) (a .book .now) (a .codebook .now) in
     let u : Slices = slicesBy (a .recon .now) (a .vx .now) (a .vy .now) in
-    call-read g (a .bytes .now) (a .start) u _ _ (sym (c .before .before .before .before .before .before .before .before .before .before .before .read-refusal .ensures ∙ refusal-is g (a .bytes .now) (a .start) u) ∙ c .before .before .before .before .before .before .before .before .before .before .if1 .left) (c .before .before .before .before .before .before .read-accepted .ensures)
+    call-read g (a .bytes .now) (a .start) u _ _ (sym (c .before .before .before .before .before .before .before .before .before .before .before .read-refusal .ensures) ∙ c .before .before .before .before .before .before .before .before .before .before .if1 .left) (c .before .before .before .before .before .before .read-accepted .ensures)
 
 pub decode-inter-plane-spec : {M : Type 1} → statement M
 decode-inter-plane-spec =

@@ -2,14 +2,15 @@
 use mathlib.Core.Path.{_∙_}
 use Prim.Native.Nat.{_-_, _<_}
 use Rattle.macroblock.specs.Macroblock.{Given}
-use Rattle.macroblock.specs.Slices.{Slices, slicesBy}
+use Rattle.macroblock.specs.Slices.{Slices, slicesBy, xSlice, ySlice}
 use Rattle.macroblock.specs.Inner.{givenBy}
 use Rattle.plane.specs.Plane.{count}
-use Rattle.plane.specs.Reader.{Going}
-use Rattle.plane.specs.ReaderLaws.{count-by, count-most, begun, ready, turn, stop-early, stop-last}
+use Rattle.plane.specs.RefusalsLaws.{count-by, count-most}
+use Rattle.plane_dec.specs.Reader.{Going}
+use Rattle.plane_dec.specs.ReaderLaws.{begun, ready, turn, stop-early, stop-last}
 use native.Mathlib.Omega.{arith}
-use Rattle.plane.proofs.inner.read_blocks.Statement.{statement}
-use Rattle.plane.proofs.inner.read_blocks.Tie as tie
+use Rattle.plane_dec.proofs.inner.read_blocks.Statement.{statement}
+use Rattle.plane_dec.proofs.inner.read_blocks.Tie as tie
 
 abbrev Inv-loop : tie.InvT-loop
 Inv-loop canvas reference book codebook raised bytes start recon₀ vx₀ vy₀ count k₀ at₀ recon vx vy k at = Going (givenBy canvas reference book codebook) bytes start (slicesBy recon₀ vx₀ vy₀) (slicesBy recon vx vy) k at
@@ -42,13 +43,13 @@ read-macroblock-requires c κs =
     ready g (a .raised .now) (a .bytes .now) (a .start) u (s .pre) _ (l .k) (l .at) (l .inv) (rw (count-by g (a .raised .now) (s .pre .ok)) at (c .before .before .before .loop-test .taken))
 
 same-length : tie.Need-same-length Inv-loop μ-loop
-same-length c = c .before .before .before .before .before .before .before .before .read-macroblock .kept .1 .1 .1 .1 .1 .1 .1 .1 .0 ∙ c .before .before .before .before .before .before .before .before .before .before .before .before .before .loop .inv .recon-same
+same-length c = c .before .before .before .before .before .before .before .before .read-macroblock .kept .1 .1 .1 .1 .1 .1 .1 .1 .0 ∙ c .before .before .before .before .before .before .before .before .before .before .before .before .before .loop .inv .same .recon
 
 same-length-2 : tie.Need-same-length-2 Inv-loop μ-loop
-same-length-2 c = c .before .before .before .before .before .before .before .before .read-macroblock .kept .1 .1 .1 .1 .1 .1 .1 .1 .1 .0 ∙ c .before .before .before .before .before .before .before .before .before .before .before .before .before .loop .inv .vx-same
+same-length-2 c = c .before .before .before .before .before .before .before .before .read-macroblock .kept .1 .1 .1 .1 .1 .1 .1 .1 .1 .0 ∙ c .before .before .before .before .before .before .before .before .before .before .before .before .before .loop .inv .same .blocks xSlice
 
 same-length-3 : tie.Need-same-length-3 Inv-loop μ-loop
-same-length-3 c = c .before .before .before .before .before .before .before .before .read-macroblock .kept .1 .1 .1 .1 .1 .1 .1 .1 .1 .1 .0 ∙ c .before .before .before .before .before .before .before .before .before .before .before .before .before .loop .inv .vy-same
+same-length-3 c = c .before .before .before .before .before .before .before .before .read-macroblock .kept .1 .1 .1 .1 .1 .1 .1 .1 .1 .1 .0 ∙ c .before .before .before .before .before .before .before .before .before .before .before .before .before .loop .inv .same .blocks ySlice
 
 returns : tie.Need-returns Inv-loop μ-loop
 returns c =
@@ -81,13 +82,13 @@ loop-again c =
     turn g (a .raised .now) (a .bytes .now) (a .start) u (s .pre) _ (l .k) (l .at) (l .inv) _ _ h (c .before .before .before .before .before .before .before .before .read-macroblock .ensures) (c .if1 .left)
 
 same-length-4 : tie.Need-same-length-4 Inv-loop μ-loop
-same-length-4 c = c .before .loop .inv .recon-same
+same-length-4 c = c .before .loop .inv .same .recon
 
 same-length-5 : tie.Need-same-length-5 Inv-loop μ-loop
-same-length-5 c = c .before .loop .inv .vx-same
+same-length-5 c = c .before .loop .inv .same .blocks xSlice
 
 same-length-6 : tie.Need-same-length-6 Inv-loop μ-loop
-same-length-6 c = c .before .loop .inv .vy-same
+same-length-6 c = c .before .loop .inv .same .blocks ySlice
 
 returns-2 : tie.Need-returns-2 Inv-loop μ-loop
 returns-2 c =

@@ -1,11 +1,12 @@
 // The plane reader.
 ghost use Rattle.macroblock.specs.Inner.{givenBy};
-ghost use Rattle.plane.specs.Calls.{PlaneRead};
-ghost use Rattle.plane.specs.Reader.{endOf};
 ghost use Rattle.macroblock.specs.Slices.{slicesBy};
+ghost use Rattle.plane.specs.Calls.{PlaneRead};
+ghost use Rattle.plane_dec.specs.Reader.{endOf};
 use super::inner::read_accepted;
 use super::inner::read_refusal;
 use canvas::svq1_plane::Svq1PlaneCanvas;
+use plane::inner::SliceLengths;
 
 // What reading a plane answers: the number of a refusal, or 0; the macroblocks done, which with 10, 11 and 24 is the index of the one refused;
 // and the next bit.
@@ -28,8 +29,13 @@ pub fn decode_inter_plane(
     vx: &mut [u8],
     vy: &mut [u8],
 ) -> ReadEnd
-    ensures { λ r. ⌜ PlaneRead (givenBy canvas (now (reference .entry)) (now (book .entry)) (now (codebook .entry))) (now (bytes .entry)) start (slicesBy (now (recon .entry)) (now (vx .entry)) (now (vy .entry))) (endOf r) (now (recon .exit)) (now (vx .exit)) (now (vy .exit)) ⌝ }
+    ensures { λ r. ⌜ PlaneRead (givenBy canvas (now (reference .entry)) (now (book .entry)) (now (codebook .entry))) (now (bytes .entry)) start (slicesBy (now (recon .entry)) (now (vx .entry)) (now (vy .entry))) (endOf r) (slicesBy (now (recon .exit)) (now (vx .exit)) (now (vy .exit))) ⌝ }
 {
+    let slices = SliceLengths {
+        recon: recon.len(),
+        vx: vx.len(),
+        vy: vy.len(),
+    };
     let refused = read_refusal(
         canvas,
         reference,
@@ -37,9 +43,7 @@ pub fn decode_inter_plane(
         codebook,
         bytes.len(),
         start,
-        recon.len(),
-        vx.len(),
-        vy.len(),
+        slices,
     );
     if refused != 0 {
         return ReadEnd {

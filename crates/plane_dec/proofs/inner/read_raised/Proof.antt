@@ -1,8 +1,8 @@
 -- The codebook raised, and then read with. Assumes nothing.
 use Rattle.book.specs.BookLaws.{data-passes}
 use borrow.Author.Needs.{needs}
-use Rattle.plane.proofs.inner.read_raised.Statement.{statement}
-use Rattle.plane.proofs.inner.read_raised.Tie as tie
+use Rattle.plane_dec.proofs.inner.read_raised.Statement.{statement}
+use Rattle.plane_dec.proofs.inner.read_raised.Tie as tie
 
 raise-codebook-requires : tie.Need-raise-codebook-requires
 raise-codebook-requires c κs = let s = c .before .before .before .before .before .before .before .before .before in (data-passes _ _ (s .pre .0 .tables) .0, s .pre .1)
