@@ -4,6 +4,7 @@ use mathlib.Core.Bool.{true}
 use mathlib.Core.List.{List}
 use mathlib.Core.Path.{_≡_}
 use lib.ListN.{length}
+use Rattle.bits.specs.Basics.{Bytes}
 use Rattle.bits.specs.Bits.{bitsOf}
 use Rattle.mv_cache.specs.NeighboursLaws.{Ranged}
 use Rattle.macroblock.specs.Macroblock.{Given, cols}
@@ -14,7 +15,7 @@ use Rattle.plane_enc.specs.declared.svq1_enc_inter.WriteEnd.{WriteEnd}
 use Rattle.plane.specs.RunLaws.{Midway}
 use Rattle.plane.specs.Plane.{count, toWrite, writeStep, writePlane}
 use Rattle.plane.specs.Calls.{PlaneAnswer}
-use Rattle.plane.specs.PlaneNeeds.{SameLengths}
+use Rattle.plane.specs.PlaneNeeds.{PlaneReady, SameLengths}
 
 -- the answer of the writer
 abbrev pub endOf : WriteEnd → PlaneAnswer
@@ -25,6 +26,13 @@ abbrev pub WrittenThrough : Given → Task → List ℕ → ℕ → Slices → W
 WrittenThrough g t out start u r left laid =
     writePlane g t (bitsOf out) start u
     ≡ record { refusal = r .refused; done = r .done; state = record { out = bitsOf left; next = r .next; slices = laid; bits = r .bits; error = r .error } }
+
+-- what a plane that no refusal meets is written from: what passes, with the codebook's raised copy, and a source and a reference of bytes
+pub record Writes (g : Given) (raised : List ℕ) (t : Task) (out : List ℕ) (start : ℕ) (u : Slices) : Type 0 where
+  pub ready : PlaneReady g raised u (length out) start
+  pub samples : length (t .source) ≡ g .width * g .height
+  pub source-bytes : Bytes (t .source)
+  pub reference-bytes : Bytes (g .reference .samples)
 
 -- before macroblock k: the run is on its way, the lengths are what they were, the vectors stored are in -32..31, the totals are far from overflowing, and a SKIP
 -- code is left for each macroblock to come

@@ -9,7 +9,7 @@ use native.Mathlib.Numerals.{add-one}
 use lib.Dec.{eqb}
 use lib.ListN.{length}
 use borrow.Author.Tests.{eq-eqb, ne-eqb, leb-true}
-use Rattle.bits.specs.Basics.{Bytes, unless, firstOf}
+use Rattle.bits.specs.Basics.{unless, firstOf}
 use Rattle.bits.specs.BasicsLaws.{unless-none, chain-met, chain-passed}
 use Rattle.bits.specs.Bits.{bitsOf, putBits}
 use Rattle.bits.specs.BitsLaws.{length-bitsOf}
@@ -32,9 +32,8 @@ use Rattle.plane.specs.RunLaws.{set-out, gone-on, ends-early, ends-last}
 use Rattle.plane.specs.Plane.{count, Writing, fits, written, toWrite, writeStep, writePlane}
 use Rattle.plane.specs.Refusals.{lentLinks, writeRefusalBy, writeRefusal}
 use Rattle.plane.specs.Calls.{PlaneWritten, writeAnswer, writeOut, writeSlices}
-use Rattle.plane.specs.PlaneNeeds.{PlaneReady}
 use Rattle.plane.specs.SlicesLaws.{same-at-first, laid-same, same-held, ranged-laid}
-use Rattle.plane_enc.specs.Writer.{endOf, WrittenThrough, Underway}
+use Rattle.plane_enc.specs.Writer.{endOf, WrittenThrough, Writes, Underway}
 
 -- ---- one macroblock is one step
 module _ (g : Given) (t : Task) (k : ℕ) (out : List ℕ) (at : ℕ) (u : Slices) (bits error : ℕ) (r : WrittenMb) (left : List ℕ) (v : Slices) (m : MbWritten g t k bits out at u r left v) where
@@ -81,16 +80,15 @@ module _ (g : Given) (t : Task) (k : ℕ) (out : List ℕ) (at : ℕ) (u : Slice
       (rw f at (m .output), rw f at (m .slices))
 
 -- ---- the loop
-module _ (g : Given) (raised : List ℕ) (t : Task) (source-bytes : Bytes (t .source)) (reference-bytes : Bytes (g .reference .samples)) (out₀ : List ℕ) (start : ℕ) (u₀ : Slices)
-    (p : PlaneReady g raised u₀ (length out₀) start) (samples : length (t .source) ≡ g .width * g .height) where
+module _ {g : Given} {raised : List ℕ} {t : Task} {out₀ : List ℕ} {start : ℕ} {u₀ : Slices} (w : Writes g raised t out₀ start u₀) where
   ok : Fine g t
-  ok = record { book = book-passes g raised (p .ok); source-bytes = source-bytes; reference-bytes = reference-bytes }
+  ok = record { book = book-passes g raised (w .ready .ok); source-bytes = w .source-bytes; reference-bytes = w .reference-bytes }
 
   pub begun : canSkipRest (t .limit) g 0 0 ≡ true → Underway g t out₀ start u₀ out₀ u₀ 0 start 0 0
   begun enough = record {
     out-same = refl;
     same = same-at-first u₀;
-    within = omega (arith, p .from .bits-fit);
+    within = omega (arith, w .ready .from .bits-fit);
     ranged = λ b j l. absurd (omega arith);
     few-bits = omega arith;
     low-error = omega arith;
@@ -98,21 +96,21 @@ module _ (g : Given) (raised : List ℕ) (t : Task) (source-bytes : Bytes (t .so
     loop = set-out (writeStep g t) (count g) (toWrite (bitsOf out₀) start u₀);
   }
 
-  module _ (out : List ℕ) (u : Slices) (k at bits error : ℕ) (i : Underway g t out₀ start u₀ out u k at bits error) where
+  module _ {out : List ℕ} {u : Slices} {k at bits error : ℕ} (i : Underway g t out₀ start u₀ out u k at bits error) where
     held : Held g u
-    held = same-held g u₀ u (i .same) (p .held)
+    held = same-held g u₀ u (i .same) (w .ready .held)
 
     pub ready : k < count g → MbReady g raised (t .source) k (length out) at u
     ready h = record {
-      ok = p .ok;
+      ok = w .ready .ok;
       held = held;
       number = h;
-      samples = samples;
-      start = record { bytes-fit = rw (i .out-same) (p .from .bytes-fit); bits-fit = omega (arith, i .within) };
+      samples = w .samples;
+      start = record { bytes-fit = rw (i .out-same) (w .ready .from .bytes-fit); bits-fit = omega (arith, i .within) };
       ranged = i .ranged;
     }
 
-    module _ (r : WrittenMb) (left : List ℕ) (v : Slices) (h : k < count g) (m : MbWritten g t k bits out at u r left v) where
+    module _ {r : WrittenMb} {left : List ℕ} {v : Slices} (h : k < count g) (m : MbWritten g t k bits out at u r left v) where
       good : Good g t ok k (near g u k) (mbChoice g t k bits u)
       good = chosen-good g t ok k (near g u k) bits
 
@@ -134,7 +132,7 @@ module _ (g : Given) (raised : List ℕ) (t : Task) (source-bytes : Bytes (t .so
             out-same = l ∙ i .out-same;
             same = rw s (laid-same g k (mbChoice g t k bits u) u₀ u (i .same));
             within = omega (arith, n, room, l);
-            ranged = λ b. rw (s, add-one k) (ranged-laid g (wide g raised (p .ok)) b k (mbChoice g t k bits u) u h (good .inside) (held .blocks-long b) (i .ranged b));
+            ranged = λ b. rw (s, add-one k) (ranged-laid g (wide g raised (w .ready .ok)) b k (mbChoice g t k bits u) u h (good .inside) (held .blocks-long b) (i .ranged b));
             few-bits = omega (arith, few, i .few-bits);
             low-error = omega (arith, low, i .low-error);
             skips-rest = rw (add-one k, m .bits) (chosen-fits g t k (near g u k) bits (skip-fits g t k (near g u k) bits h (i .skips-rest)));

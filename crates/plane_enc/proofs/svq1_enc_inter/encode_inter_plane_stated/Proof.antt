@@ -32,7 +32,6 @@ write-accepted-requires : tie.Need-write-accepted-requires
 write-accepted-requires c κs =
     let a = c .before .before .before .before .before .before .before .before .before .before .before .before .before .before .before .before .args in
     let g : Given = givenBy (a .canvas) (a .reference .now) (a .book .now) (a .codebook .now) in
-    let t : Task = taskBy (a .source .now) (a .settings) in
     let u : Slices = slicesBy (a .recon .now) (a .vx .now) (a .vy .now) in
     let w = write-accepted g u _ (a .start) _ (sym (c .before .before .before .before .before .before .write-refusal .ensures) ∙ c .before .before .before .before .before .if1 .left) in
     (w .0, w .1, record { skips-rest = refl; few = omega arith })
@@ -58,9 +57,10 @@ returns-2 c =
     let g : Given = givenBy (a .canvas) (a .reference .now) (a .book .now) (a .codebook .now) in
     let t : Task = taskBy (a .source .now) (a .settings) in
     let u : Slices = slicesBy (a .recon .now) (a .vx .now) (a .vy .now) in
+    let w = c .before .before .before .before .before .before .before .before .before .before .write-accepted in
     record {
-      written = call-written g t (a .out .now) (a .start) u _ _ _ (sym (c .before .before .before .before .before .before .before .before .before .before .before .before .before .before .before .before .before .write-refusal .ensures) ∙ c .before .before .before .before .before .before .before .before .before .before .before .before .before .before .before .before .if1 .left) (c .before .before .before .before .before .before .before .before .before .before .write-accepted .ensures .written);
-      stated = c .before .before .before .before .before .before .before .before .before .before .write-accepted .ensures .stated;
+      written = call-written g t (a .out .now) (a .start) u _ _ _ (sym (c .before .before .before .before .before .before .before .before .before .before .before .before .before .before .before .before .before .write-refusal .ensures) ∙ c .before .before .before .before .before .before .before .before .before .before .before .before .before .before .before .before .if1 .left) (w .ensures .written);
+      stated = w .ensures .stated;
     }
 
 pub encode-inter-plane-stated-spec : {M : Type 1} → statement M
