@@ -54,7 +54,7 @@ returns c =
     let w = wrote .encode-inter-plane-stated in
     let r = read .decode-inter-plane in
     tripped g t (a .out .now) (a .start) (slicesBy (a .recon .now) (a .vx .now) (a .vy .now)) (a .stated .now) (slicesBy (a .back .now) (a .backx .now) (a .backy .now)) _ _ _
-    (slicesBy (w .last .1 .1 .1 .1 .1 .1 .1 .1 .1 .1 .0) (w .last .1 .1 .1 .1 .1 .1 .1 .1 .1 .1 .1 .0) (w .last .1 .1 .1 .1 .1 .1 .1 .1 .1 .1 .1 .1 .0)) _
+    (slicesBy (w .last .1 .1 .1 .1 .1 .1 .1 .1 .0) (w .last .1 .1 .1 .1 .1 .1 .1 .1 .1 .0) (w .last .1 .1 .1 .1 .1 .1 .1 .1 .1 .1 .0)) _
     (slicesBy (r .last .1 .1 .1 .1 .1 .1 .0) (r .last .1 .1 .1 .1 .1 .1 .1 .0) (r .last .1 .1 .1 .1 .1 .1 .1 .1 .0))
     refl (record { source = source; reference = reference }) (w .ensures) (r .ensures)
 
