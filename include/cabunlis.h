@@ -7,16 +7,16 @@
  *
  * For x86-64 Linux (ELF, System V calls). The library calls memcpy, memmove and memset, nothing else; it may stand in a program or
  * in a shared object, position-independent or not. C99 and later, C++98 and later. Link:
- *     cc program.c $(pkg-config --cflags --libs cabunlis)          (installed: ./install)
- *     cc program.c -Iinclude target/staticlib/libcabunlis.a       (in the repository: rt staticlib cabunlis)
+ *     cc program.c $(pkg-config --cflags --libs cabunlis)      (where it is installed: ./install)
+ *     cc program.c -Iinclude target/staticlib/libcabunlis.a    (in the repository, behind host/build-library)
  *
  * What every entry has in common
  *
  * - A slice is a pointer and a length in elements. The caller sees to it that the pointer is valid for so many elements and is not
  *   NULL, not even that of a slice of length 0. Nothing can check that: it is what the proofs assume of a caller.
- * - The same holds of this: a slice that an entry writes (out, recon, vx, vy, stated, book, codebook) overlaps no other slice of the
- *   same call, and nobody else reads or writes it during the call. Slices that are only read may overlap each other; nobody writes
- *   them during the call.
+ * - The same holds of this: a slice that an entry writes (out, recon, vx, vy, stated; book and codebook where they are filled)
+ *   overlaps no other slice of the same call, and nobody else reads or writes it during the call. Slices that are only read may
+ *   overlap each other; nobody writes them during the call.
  * - Nothing is kept between calls and nothing is allocated. Calls on slices of their own may run on any number of threads at once.
  * - Every call ends, touches nothing outside the slices, and refuses what it cannot take by a number (below). A refused call
  *   leaves every slice as it was, except where the number says that it came in the middle of a plane.
@@ -27,7 +27,8 @@
  *
  * Words
  *
- * A source is width x height samples, row by row, packed: the first sample of a row comes directly behind the last of the row above.
+ * A source is width x height samples, row by row, packed: the first sample of a row comes directly behind the last one of the row
+ * above.
  *
  * A plane of width x height samples is written against a reference: a canvas of stride x rows samples, row by row, where stride
  * and rows are width and height rounded up to a multiple of 16. The first `width` samples of its first `height` rows are the
@@ -49,11 +50,11 @@
  *   change nothing.
  * - How do several planes stand in one string? Each starts at the `next` of the one before. Their rooms add up: planes that follow
  *   each other from bit 0 all fit into the sum of their rooms.
- * - How to start without a key picture? Lend both sides the same first reference, such as a canvas of 128 everywhere. The first
- *   plane then codes most of the picture anew. After a loss, both sides start so again.
+ * - How to start without a key picture? Lend both sides the same first reference, whatever it holds, such as a canvas of 128
+ *   everywhere. The first plane then codes most of the picture anew. After a loss, both sides start so again.
  * - What to put into `recon` before reading? A plane that is cut or damaged ends at a macroblock, and the samples behind it stay as
- *   they were. Copy the reference into `recon` (stride x rows bytes) before the call, and set vx and vy to 0: what was not read then
- *   shows the picture before, as if skipped, and no stale samples.
+ *   they were. Copy the reference into `recon` (stride x rows bytes) before the call, and set vx and vy to 0: what was not read
+ *   then shows the picture before, as if it were skipped, and no stale samples.
  *
  * A plane of 176 x 144 written, and read back
  *
@@ -146,11 +147,11 @@ extern "C" {
 /* The longest bit string, in bytes. */
 #define CABUNLIS_MOST_BYTES ((size_t)1 << 28)
 
-/* Stack that a call may take, in bytes. Measured: writer 44,704, reader 44,096, a book file 8,104, a room under a book 4,296, the others
- * next to nothing. */
+/* Stack that a call may take, in bytes. Measured: writer 44,704, reader 44,096, a book file 8,104, a room under a book 4,296, the
+ * others next to nothing. */
 #define CABUNLIS_STACK_BYTES 49152
 
-/* The refusals that a C host can meet. */
+/* The refusals that a C host can meet; no other number comes. */
 enum cabunlis_refusal {
     CABUNLIS_OK = 0,
     /* width or height 0 or above 1,024 */
@@ -171,7 +172,7 @@ enum cabunlis_refusal {
     CABUNLIS_ERR_NO_CODE = 10,
     /* reader: an intra leaf that skips, or stages at level 4 or 5 */
     CABUNLIS_ERR_LEAF = 11,
-    /* vx or vy shorter than four bytes a macroblock (longer is fine, the rest stays), or recon length not stride x rows */
+    /* vx or vy shorter than four entries a macroblock (longer is fine, the rest stays), or recon length not stride x rows */
     CABUNLIS_ERR_RESULTS = 20,
     /* bit string longer than CABUNLIS_MOST_BYTES, or start bit beyond its end: above 8 x its length */
     CABUNLIS_ERR_BITS = 21,
@@ -182,9 +183,10 @@ enum cabunlis_refusal {
 };
 
 /*
- * What a plane call answers. Where refusal is 10, 11, 22 or 24 the call came to the macroblock of index `macroblock`: those before
- * it are done, with their bits, samples and vectors, the rest is untouched, and `next` is where it begins. With any other refusal
- * nothing is done and every other field is 0. The lowest number that applies is answered, 20 and 21 behind 1 to 7.
+ * What a plane call answers. Where refusal is 0 the plane is whole. Where it is 10, 11, 22 or 24 the call came to the macroblock of
+ * index `macroblock`: those before it are done, with their bits, samples and vectors, the rest is untouched, and `next` is where it
+ * begins. With any other refusal nothing is done and every other field is 0. The lowest number that applies is answered, 20 and 21
+ * behind 1 to 7.
  */
 struct cabunlis_answer {
     uint32_t refusal;
@@ -200,11 +202,11 @@ struct cabunlis_answer {
  *
  * lambda weighs bits against squared error: a macroblock is coded in the way of least error + lambda x bits, at equal cost the one
  * of fewest bits, then the first of SKIP, INTER, INTRA and INTER_4MV. Any 64-bit number is taken; 0 buys every gain, 32 is a fair
- * start. Costs are counted to 2^64 - 1 and no further: up to a lambda of 2^48 none comes to that, above it several may, and are then
- * equal. radius is the search's, any number from 0 to 255: the zero vector is tried, then
- * those that lie up to so many whole samples to each side of the vector predicted from the neighbours, then the half samples around
- * the best; so a vector may be longer than the radius, and one above 31 finds nothing more. Four vectors a macroblock are tried
- * unless `four` is 0. Time grows with the number of macroblocks, and a little with the radius.
+ * start. Costs are counted to 2^64 - 1 and no further: up to a lambda of 2^48 none comes to that, above it several may, and are
+ * then equal. radius is the search's, any number from 0 to 255: the zero vector is tried, then those that lie up to so many whole
+ * samples to each side of the vector predicted from the neighbours, then the half samples around the best; so a vector may be
+ * longer than the radius, and a radius above 31 finds nothing more. Four vectors a macroblock are tried unless `four` is 0. Time
+ * grows with the number of macroblocks, and a little with the radius.
  *
  * Leaves: in `out` the bits of the macroblocks done, zeros behind them to the end of their last byte, everything else as it was,
  * the bits before `start` too (where none is done, every byte); in `recon` their samples as a reader shows them; in `vx` and `vy`
@@ -234,8 +236,8 @@ enum cabunlis_mode {
 
 /*
  * The same, and in `stated` three numbers for each macroblock done, as far as it has room for all three: its mode (enum
- * cabunlis_mode), its bits, its squared error. What lies behind them stays. `stated` is aligned as a uint32_t is, to four bytes; its
- * length is in numbers, not in bytes, and may be 0.
+ * cabunlis_mode), its bits, its squared error. What lies behind them stays. `stated` is aligned as a uint32_t is, to four bytes;
+ * its length is in numbers, not in bytes, and may be 0.
  */
 struct cabunlis_answer cabunlis_encode_inter_plane_stated(
     size_t width, size_t height, size_t stride, size_t rows,
@@ -273,8 +275,9 @@ struct cabunlis_room {
 };
 
 /*
- * How many bytes a plane of this size takes at most under any good book. With that many bytes behind its start bit (start + 8 *
- * bytes <= 8 * out_length) a plane that is not refused is written to its last macroblock: 22 cannot come. Refusal: 1.
+ * How many bytes a plane of this size takes at most under any book that 5, 6 and 7 do not refuse. With that many bytes behind its
+ * start bit (start + 8 * bytes <= 8 * out_length) a plane that is not refused is written to its last macroblock: 22 cannot come.
+ * Refusal: 1.
  */
 struct cabunlis_room cabunlis_plane_room(size_t width, size_t height);
 
@@ -294,10 +297,10 @@ uint32_t cabunlis_house_book(uint8_t *book, size_t book_length);
 uint32_t cabunlis_house_codebook(uint8_t *codebook, size_t codebook_length);
 
 /*
- * The short calls: the plane entries with their arguments gathered in structs. They are C and not proved; each passes every field on
- * to the argument of its name and does nothing else. A struct is all zeros before it is filled in (static, memset, {0} in C, {} in C++),
- * or is filled in by braces, which set what they leave out to zero: a later version may append fields, and zero will mean what was
- * before.
+ * The short calls: the plane entries with their arguments gathered in structs. They are C and not proved; each passes every field
+ * on to the argument of its name and does nothing else. A struct has to be all zeros before it is filled in (static, memset, {0} in
+ * C, {} in C++), or is filled in by braces, which set what they leave out to zero: a later version may append fields, and zero will
+ * mean what was before.
  */
 
 /* A plane's size, its canvas, and its slices; lengths in elements. */
