@@ -55,6 +55,11 @@ void guarded_free(struct guarded *g)
     munmap(g->pages, g->length);
 }
 
+int8_t *guarded_vectors(const struct guarded *g)
+{
+    return (int8_t *)g->bytes;
+}
+
 /* Codes 0, 1, 2, .. of `length` bits. */
 static size_t plain_table(uint8_t *book, size_t at, unsigned entries, unsigned length)
 {

@@ -23,6 +23,7 @@ enum guard_side { GUARD_BEHIND, GUARD_BEFORE };
 struct guarded { uint8_t *bytes; void *pages; size_t length; };
 struct guarded guarded_of(size_t bytes, enum guard_side side);
 void guarded_free(struct guarded *g);
+int8_t *guarded_vectors(const struct guarded *g);
 
 /* The built-in book and codebook, and a book of codes that all have one length in their table. */
 struct tables { uint8_t book[CABUNLIS_BOOK_BYTES], plain[CABUNLIS_BOOK_BYTES], codebook[CABUNLIS_CODEBOOK_BYTES]; };
@@ -41,6 +42,7 @@ void test_round_trips(void);
 void test_damaged(void);
 void test_rooms(void);
 void test_books(void);
+void test_short(void);
 void test_threads(void);
 
 #endif

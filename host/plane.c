@@ -43,18 +43,41 @@ void plane_free(struct plane *p)
     free(p->out);
 }
 
+struct cabunlis_plane plane_lent(const struct plane *p)
+{
+    struct cabunlis_plane lent = {0};
+    lent.width = p->width;
+    lent.height = p->height;
+    lent.stride = p->stride;
+    lent.rows = p->rows;
+    lent.source = p->source;
+    lent.source_length = p->width * p->height;
+    lent.reference = p->reference;
+    lent.reference_length = p->stride * p->rows;
+    lent.recon = p->recon;
+    lent.recon_length = p->stride * p->rows;
+    lent.vx = p->vx;
+    lent.vx_length = 4 * p->macroblocks;
+    lent.vy = p->vy;
+    lent.vy_length = 4 * p->macroblocks;
+    lent.stated = p->stated;
+    lent.stated_length = 3 * p->macroblocks;
+    return lent;
+}
+
 struct cabunlis_answer plane_write(struct plane *p, const uint8_t *book, const uint8_t *codebook, uint64_t lambda, uint8_t radius, uint8_t four, size_t start)
 {
-    return cabunlis_encode_inter_plane_stated(
-        p->width, p->height, p->stride, p->rows,
-        p->source, p->width * p->height,
-        p->reference, p->stride * p->rows,
-        book, CABUNLIS_BOOK_BYTES,
-        codebook, CABUNLIS_CODEBOOK_BYTES,
-        lambda, radius, four,
-        p->out, p->room, start,
-        p->recon, p->stride * p->rows,
-        p->vx, 4 * p->macroblocks,
-        p->vy, 4 * p->macroblocks,
-        p->stated, 3 * p->macroblocks);
+    struct cabunlis_plane lent = plane_lent(p);
+    struct cabunlis_tables tables = {book, CABUNLIS_BOOK_BYTES, codebook, CABUNLIS_CODEBOOK_BYTES};
+    struct cabunlis_settings settings = {lambda, radius, four};
+    struct cabunlis_output output = {p->out, p->room, start};
+    return cabunlis_write(&lent, &tables, &settings, &output);
+}
+
+struct cabunlis_answer plane_read(struct plane *p, const uint8_t *book, const uint8_t *codebook, const uint8_t *bytes, size_t length, size_t start)
+{
+    struct cabunlis_plane lent = plane_lent(p);
+    struct cabunlis_tables tables = {book, CABUNLIS_BOOK_BYTES, codebook, CABUNLIS_CODEBOOK_BYTES};
+    struct cabunlis_input input = {bytes, length, start};
+    return cabunlis_read(&lent, &tables, &input);
 }

@@ -13,7 +13,7 @@ struct plane {
     uint8_t *source;    /* width x height */
     uint8_t *reference; /* stride x rows */
     uint8_t *recon;     /* stride x rows */
-    uint8_t *vx, *vy;   /* four bytes a macroblock */
+    int8_t *vx, *vy;    /* four a macroblock */
     uint32_t *stated;   /* three numbers a macroblock */
     uint8_t *out;       /* room for any plane of this size */
     size_t room;
@@ -25,6 +25,10 @@ void *host_memory(size_t bytes);
 struct plane plane_of(size_t width, size_t height);
 void plane_free(struct plane *p);
 
+/* All of it as the short calls take it: the source, the reference, and the slices that are written. */
+struct cabunlis_plane plane_lent(const struct plane *p);
+
 struct cabunlis_answer plane_write(struct plane *p, const uint8_t *book, const uint8_t *codebook, uint64_t lambda, uint8_t radius, uint8_t four, size_t start);
+struct cabunlis_answer plane_read(struct plane *p, const uint8_t *book, const uint8_t *codebook, const uint8_t *bytes, size_t length, size_t start);
 
 #endif

@@ -83,7 +83,7 @@ void scene_draw(uint8_t *samples, size_t width, size_t height, enum scene_plane 
     double over = eye == SCENE_STILL ? 0.0 : 0.1 * sin(picture * 0.16), down = eye == SCENE_STILL ? 0.0 : 0.04 * sin(picture * 0.11);
     for (size_t row = 0; row < height; row++)
         for (size_t column = 0; column < width; column++) {
-            double x = (column + 0.5) / (double)width + over, y = (row + 0.5) / (double)height + down;
+            double x = ((double)column + 0.5) / (double)width + over, y = ((double)row + 0.5) / (double)height + down;
             struct colour k = colour_at(x, y, &c);
             int v = k.part[plane] + noise((unsigned)column, (unsigned)row, plane, picture);
             if (plane == SCENE_LUMA)

@@ -33,7 +33,7 @@ static void built_in(void)
     for (unsigned i = 0; i < CABUNLIS_CODEBOOK_BYTES; i++)
         CHECK(tables()->codebook[i] == (uint8_t)((37 * i + i / 16) % 61 - 30));
     uint8_t small[3] = {1, 2, 3};
-    CHECK(cabunlis_house_book(small, 3) == CABUNLIS_TABLES && cabunlis_house_codebook(small, 3) == CABUNLIS_TABLES);
+    CHECK(cabunlis_house_book(small, 3) == CABUNLIS_ERR_TABLES && cabunlis_house_codebook(small, 3) == CABUNLIS_ERR_TABLES);
     CHECK(small[0] == 1 && small[1] == 2 && small[2] == 3);
 }
 
@@ -57,18 +57,18 @@ static void files(void)
         CHECK(memcmp(book, tables()->book, sizeof book) == 0);
     }
     size_t n = book_file_of(file, tables()->book, 0, 932, 0, 0);
-    CHECK(cabunlis_read_book_file((const uint8_t *)file, n, book, sizeof book - 1) == CABUNLIS_TABLES);
-    refused_file(file, 0, CABUNLIS_TABLES);
-    refused_file(file, n - 1, CABUNLIS_TABLES); /* the last line is not ended */
+    CHECK(cabunlis_read_book_file((const uint8_t *)file, n, book, sizeof book - 1) == CABUNLIS_ERR_TABLES);
+    refused_file(file, 0, CABUNLIS_ERR_TABLES);
+    refused_file(file, n - 1, CABUNLIS_ERR_TABLES); /* the last line is not ended */
     file[n] = '\n';
-    refused_file(file, n + 1, CABUNLIS_TABLES); /* an empty line */
+    refused_file(file, n + 1, CABUNLIS_ERR_TABLES); /* an empty line */
     file[0] = 'M';
-    refused_file(file, n, CABUNLIS_TABLES); /* no such table */
-    refused_file(file, book_file_of(file, tables()->book, 0, 7, 3, 65536), CABUNLIS_TABLES);
-    refused_file(file, book_file_of(file, tables()->book, 0, 7, 0, 0), CABUNLIS_CODE);
-    refused_file(file, book_file_of(file, tables()->book, 0, 7, 33, 1), CABUNLIS_CODE);
-    refused_file(file, book_file_of(file, tables()->book, 0, 7, 3, 8), CABUNLIS_CODE);
-    refused_file(file, book_file_of(file, tables()->book, 0, 0, 1, 1), CABUNLIS_PREFIX); /* INTER gets the code of SKIP */
+    refused_file(file, n, CABUNLIS_ERR_TABLES); /* no such table */
+    refused_file(file, book_file_of(file, tables()->book, 0, 7, 3, 65536), CABUNLIS_ERR_TABLES);
+    refused_file(file, book_file_of(file, tables()->book, 0, 7, 0, 0), CABUNLIS_ERR_CODE);
+    refused_file(file, book_file_of(file, tables()->book, 0, 7, 33, 1), CABUNLIS_ERR_CODE);
+    refused_file(file, book_file_of(file, tables()->book, 0, 7, 3, 8), CABUNLIS_ERR_CODE);
+    refused_file(file, book_file_of(file, tables()->book, 0, 0, 1, 1), CABUNLIS_ERR_PREFIX); /* INTER gets the code of SKIP */
     free(file);
 }
 

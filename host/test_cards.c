@@ -46,7 +46,7 @@ static void last_room(void)
     memset(p.out, 0xa5, 3);
     memset(p.recon, 0x5a, 256);
     a = plane_write(&p, tables()->book, tables()->codebook, 32, 8, 1, 3);
-    CHECK(a.refusal == CABUNLIS_FULL && a.macroblock == 0 && a.done == 0 && a.next == 3 && a.bits == 0 && a.error == 0);
+    CHECK(a.refusal == CABUNLIS_ERR_FULL && a.macroblock == 0 && a.done == 0 && a.next == 3 && a.bits == 0 && a.error == 0);
     CHECK(p.out[0] == 0xa5 && p.out[1] == 0xa5 && p.out[2] == 0xa5 && p.recon[0] == 0x5a && p.recon[255] == 0x5a);
     plane_free(&p);
 }
@@ -54,13 +54,13 @@ static void last_room(void)
 static void widths(void)
 {
     CHECK(cabunlis_plane_room(1024, 1).refusal == 0);
-    CHECK(cabunlis_plane_room(1025, 1).refusal == CABUNLIS_SIZE);
+    CHECK(cabunlis_plane_room(1025, 1).refusal == CABUNLIS_ERR_SIZE);
     struct plane p = plane_of(1024, 1);
     struct cabunlis_answer a = plane_write(&p, tables()->book, tables()->codebook, 32, 0, 0, 0);
     CHECK(a.refusal == 0 && a.done == 64);
     p.width = 1025;
     a = plane_write(&p, tables()->book, tables()->codebook, 32, 0, 0, 0);
-    CHECK(a.refusal == CABUNLIS_SIZE);
+    CHECK(a.refusal == CABUNLIS_ERR_SIZE);
     p.width = 1024;
     plane_free(&p);
 }

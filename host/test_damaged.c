@@ -27,8 +27,8 @@ static void read_damaged(const uint8_t *bytes, size_t length, size_t start, cons
     memset(vx.bytes, 0x66, 4 * BLOCKS);
     struct cabunlis_answer a = cabunlis_decode_inter_plane(
         W, H, STRIDE, ROWS, reference, STRIDE * ROWS, book, CABUNLIS_BOOK_BYTES, tables()->codebook, CABUNLIS_CODEBOOK_BYTES,
-        string.bytes, length, start, recon.bytes, STRIDE * ROWS, vx.bytes, 4 * BLOCKS, vy.bytes, 4 * BLOCKS);
-    CHECK(a.refusal == 0 || a.refusal == CABUNLIS_NO_CODE || a.refusal == CABUNLIS_LEAF || a.refusal == CABUNLIS_CUT);
+        string.bytes, length, start, recon.bytes, STRIDE * ROWS, guarded_vectors(&vx), 4 * BLOCKS, guarded_vectors(&vy), 4 * BLOCKS);
+    CHECK(a.refusal == 0 || a.refusal == CABUNLIS_ERR_NO_CODE || a.refusal == CABUNLIS_ERR_LEAF || a.refusal == CABUNLIS_ERR_CUT);
     CHECK(a.refusal == 0 ? a.done == BLOCKS && a.macroblock == 0 : a.done < BLOCKS && a.macroblock == a.done);
     CHECK(start <= a.next && a.next <= 8 * length);
     CHECK(memcmp(string.bytes, bytes, length) == 0);
@@ -71,6 +71,6 @@ void test_damaged(void)
         }
         free(bytes);
     }
-    CHECK(refusals[CABUNLIS_NO_CODE] && refusals[CABUNLIS_LEAF] && refusals[CABUNLIS_CUT]);
+    CHECK(refusals[CABUNLIS_ERR_NO_CODE] && refusals[CABUNLIS_ERR_LEAF] && refusals[CABUNLIS_ERR_CUT]);
     plane_free(&p);
 }

@@ -19,7 +19,8 @@ struct call {
 };
 
 static uint8_t source[SIDE * SIDE + 1], reference[CANVAS * CANVAS + 1], book[CABUNLIS_BOOK_BYTES + 3];
-static uint8_t codebook[CABUNLIS_CODEBOOK_BYTES + 1], out[OUT], recon[CANVAS * CANVAS + 1], vx[4 * MACROBLOCKS], vy[4 * MACROBLOCKS];
+static uint8_t codebook[CABUNLIS_CODEBOOK_BYTES + 1], out[OUT], recon[CANVAS * CANVAS + 1];
+static int8_t vx[4 * MACROBLOCKS], vy[4 * MACROBLOCKS];
 static uint32_t stated[3 * MACROBLOCKS];
 
 static struct call good(void)
@@ -111,24 +112,24 @@ static void sizes(void)
     for (size_t k = 0; k < sizeof SIDES / sizeof *SIDES; k++) {
         struct call c = good();
         c.width = SIDES[k];
-        refused(&c, CABUNLIS_SIZE, 0);
+        refused(&c, CABUNLIS_ERR_SIZE, 0);
         c = good();
         c.height = SIDES[k];
-        refused(&c, CABUNLIS_SIZE, 0);
+        refused(&c, CABUNLIS_ERR_SIZE, 0);
     }
     for (int more = -1; more <= 1; more += 2) {
         struct call c = good();
         c.source += (size_t)more;
-        refused(&c, CABUNLIS_SOURCE, 1);
+        refused(&c, CABUNLIS_ERR_SOURCE, 1);
         c = good();
         c.stride += (size_t)more;
-        refused(&c, CABUNLIS_STRIDE, 0);
+        refused(&c, CABUNLIS_ERR_STRIDE, 0);
         c = good();
         c.rows += 16 * (size_t)more;
-        refused(&c, CABUNLIS_STRIDE, 0);
+        refused(&c, CABUNLIS_ERR_STRIDE, 0);
         c = good();
         c.reference += (size_t)more;
-        refused(&c, CABUNLIS_REFERENCE, 0);
+        refused(&c, CABUNLIS_ERR_REFERENCE, 0);
     }
 }
 
@@ -136,28 +137,28 @@ static void books(void)
 {
     struct call c = good();
     c.book -= 3;
-    refused(&c, CABUNLIS_TABLES, 0);
+    refused(&c, CABUNLIS_ERR_TABLES, 0);
     c = good();
     c.book += 3;
-    refused(&c, CABUNLIS_TABLES, 0);
+    refused(&c, CABUNLIS_ERR_TABLES, 0);
     c = good();
     c.codebook -= 1;
-    refused(&c, CABUNLIS_TABLES, 0);
+    refused(&c, CABUNLIS_ERR_TABLES, 0);
     c = good();
     c.codebook += 1;
-    refused(&c, CABUNLIS_TABLES, 0);
+    refused(&c, CABUNLIS_ERR_TABLES, 0);
     /* the length 0, the length 33, a value of 2 bits in a code of one */
     static const uint8_t ENTRIES[][3] = {{0, 0, 0}, {0, 1, 33}, {0, 2, 1}};
     for (size_t k = 0; k < 3; k++) {
         c = good();
         memcpy(book + 3 * 931, ENTRIES[k], 3);
-        refused(&c, CABUNLIS_CODE, 0);
+        refused(&c, CABUNLIS_ERR_CODE, 0);
     }
     memcpy(book, tables()->book, CABUNLIS_BOOK_BYTES);
     /* the second mode's code like the first's */
     c = good();
     memcpy(book + 3, book, 3);
-    refused(&c, CABUNLIS_PREFIX, 0);
+    refused(&c, CABUNLIS_ERR_PREFIX, 0);
     memcpy(book, tables()->book, CABUNLIS_BOOK_BYTES);
 }
 
@@ -165,19 +166,19 @@ static void results(void)
 {
     struct call c = good();
     c.recon -= 1;
-    refused(&c, CABUNLIS_RESULTS, 0);
+    refused(&c, CABUNLIS_ERR_RESULTS, 0);
     c = good();
     c.recon += 1;
-    refused(&c, CABUNLIS_RESULTS, 0);
+    refused(&c, CABUNLIS_ERR_RESULTS, 0);
     c = good();
     c.vx -= 1;
-    refused(&c, CABUNLIS_RESULTS, 0);
+    refused(&c, CABUNLIS_ERR_RESULTS, 0);
     c = good();
     c.vy -= 1;
-    refused(&c, CABUNLIS_RESULTS, 0);
+    refused(&c, CABUNLIS_ERR_RESULTS, 0);
     c = good();
     c.start = 8 * OUT + 1;
-    refused(&c, CABUNLIS_BITS, 0);
+    refused(&c, CABUNLIS_ERR_BITS, 0);
     /* a string of one byte too many; nothing of it is touched, so nothing of it is in memory */
     size_t most = CABUNLIS_MOST_BYTES + 1;
     c = good();
@@ -187,7 +188,7 @@ static void results(void)
         exit(1);
     }
     c.out = most;
-    refused(&c, CABUNLIS_BITS, 0);
+    refused(&c, CABUNLIS_ERR_BITS, 0);
     munmap(c.string, most);
 }
 
@@ -197,17 +198,17 @@ static void order(void)
     struct call c = good();
     c.recon = 0;
     c.start = SIZE_MAX;
-    refused(&c, CABUNLIS_RESULTS, 0);
+    refused(&c, CABUNLIS_ERR_RESULTS, 0);
     c.book = 0;
-    refused(&c, CABUNLIS_TABLES, 0);
+    refused(&c, CABUNLIS_ERR_TABLES, 0);
     c.reference = 0;
-    refused(&c, CABUNLIS_REFERENCE, 0);
+    refused(&c, CABUNLIS_ERR_REFERENCE, 0);
     c.stride = 0;
-    refused(&c, CABUNLIS_STRIDE, 0);
+    refused(&c, CABUNLIS_ERR_STRIDE, 0);
     c.source = 0;
-    refused(&c, CABUNLIS_SOURCE, 1);
+    refused(&c, CABUNLIS_ERR_SOURCE, 1);
     c.width = 0;
-    refused(&c, CABUNLIS_SIZE, 0);
+    refused(&c, CABUNLIS_ERR_SIZE, 0);
 }
 
 /* 22 with the index of the macroblock that does not fit, the ones before it kept. */
@@ -227,12 +228,12 @@ static void full(void)
         c.out = (room + 7) / 8;
         c.start = 8 * c.out - room;
         struct cabunlis_answer a = wrote(&c);
-        CHECK(a.refusal == CABUNLIS_FULL && a.macroblock == k && a.done == k && a.bits == bits && a.next == c.start + bits);
+        CHECK(a.refusal == CABUNLIS_ERR_FULL && a.macroblock == k && a.done == k && a.bits == bits && a.next == c.start + bits);
         CHECK(all_are(stated + 3 * k, (MACROBLOCKS - k) * 12, 0x33));
         CHECK(memcmp(stated, said, 12 * k) == 0);
         CHECK(all_are(out + c.out, OUT - c.out, 0xc3));
         struct cabunlis_answer b = wrote_plain(&c);
-        CHECK(b.refusal == CABUNLIS_FULL && b.macroblock == k && b.done == k && b.bits == bits && b.next == a.next && b.error == a.error);
+        CHECK(b.refusal == CABUNLIS_ERR_FULL && b.macroblock == k && b.done == k && b.bits == bits && b.next == a.next && b.error == a.error);
         bits += said[3 * k + 1];
     }
     fill();
@@ -242,14 +243,14 @@ static void full(void)
 static void streams(void)
 {
     static const struct { uint8_t bytes[3]; size_t length; uint32_t refusal; size_t macroblock; } CASES[] = {
-        {{0x28, 0, 0}, 3, CABUNLIS_NO_CODE, 0},     /* 00101: no mode begins so */
-        {{0x94, 0, 0}, 3, CABUNLIS_NO_CODE, 1},     /* SKIP, then 00101 */
-        {{0x22, 0, 0}, 3, CABUNLIS_LEAF, 0},        /* INTRA, a leaf at level 5 that skips */
-        {{0x21, 0x80, 0}, 3, CABUNLIS_LEAF, 0},     /* INTRA, a leaf at level 5 with a stage */
-        {{0xc8, 0x60, 0}, 3, CABUNLIS_LEAF, 2},     /* SKIP twice, then that */
-        {{0x21, 0x01, 0x94}, 2, CABUNLIS_CUT, 0},   /* the first card without its last byte */
-        {{0xe4, 0, 0}, 1, CABUNLIS_CUT, 3},         /* SKIP three times, INTRA, and no more */
-        {{0xff, 0, 0}, 0, CABUNLIS_CUT, 0},         /* nothing at all */
+        {{0x28, 0, 0}, 3, CABUNLIS_ERR_NO_CODE, 0},     /* 00101: no mode begins so */
+        {{0x94, 0, 0}, 3, CABUNLIS_ERR_NO_CODE, 1},     /* SKIP, then 00101 */
+        {{0x22, 0, 0}, 3, CABUNLIS_ERR_LEAF, 0},        /* INTRA, a leaf at level 5 that skips */
+        {{0x21, 0x80, 0}, 3, CABUNLIS_ERR_LEAF, 0},     /* INTRA, a leaf at level 5 with a stage */
+        {{0xc8, 0x60, 0}, 3, CABUNLIS_ERR_LEAF, 2},     /* SKIP twice, then that */
+        {{0x21, 0x01, 0x94}, 2, CABUNLIS_ERR_CUT, 0},   /* the first card without its last byte */
+        {{0xe4, 0, 0}, 1, CABUNLIS_ERR_CUT, 3},         /* SKIP three times, INTRA, and no more */
+        {{0xff, 0, 0}, 0, CABUNLIS_ERR_CUT, 0},         /* nothing at all */
     };
     for (size_t k = 0; k < sizeof CASES / sizeof *CASES; k++) {
         uint8_t bytes[3];

@@ -28,18 +28,18 @@ void test_rooms(void)
     /* 3,135 bits a macroblock */
     CHECK(cabunlis_plane_room(16, 16).bytes == 392 && cabunlis_plane_room(17, 16).bytes == 784);
     CHECK(cabunlis_plane_room(1024, 1024).bytes == (4096u * 3135u + 7) / 8);
-    CHECK(cabunlis_plane_room(0, 1).refusal == CABUNLIS_SIZE && cabunlis_plane_room(1, 1025).refusal == CABUNLIS_SIZE);
+    CHECK(cabunlis_plane_room(0, 1).refusal == CABUNLIS_ERR_SIZE && cabunlis_plane_room(1, 1025).refusal == CABUNLIS_ERR_SIZE);
     CHECK(cabunlis_plane_room(0, 1).bytes == 0);
     /* one length a table: 2 + 8 * 6 + 31 + 32 * (3 + 9 + 24) bits */
     CHECK(cabunlis_plane_room_under(16, 16, tables()->plain, CABUNLIS_BOOK_BYTES).bytes == (2 + 48 + 31 + 32 * 36 + 7) / 8);
-    CHECK(cabunlis_plane_room_under(0, 16, tables()->plain, CABUNLIS_BOOK_BYTES).refusal == CABUNLIS_SIZE);
-    CHECK(cabunlis_plane_room_under(16, 16, tables()->plain, CABUNLIS_BOOK_BYTES - 3).refusal == CABUNLIS_TABLES);
+    CHECK(cabunlis_plane_room_under(0, 16, tables()->plain, CABUNLIS_BOOK_BYTES).refusal == CABUNLIS_ERR_SIZE);
+    CHECK(cabunlis_plane_room_under(16, 16, tables()->plain, CABUNLIS_BOOK_BYTES - 3).refusal == CABUNLIS_ERR_TABLES);
     memcpy(bad, tables()->plain, sizeof bad);
     bad[2] = 33;
-    CHECK(cabunlis_plane_room_under(16, 16, bad, sizeof bad).refusal == CABUNLIS_CODE);
+    CHECK(cabunlis_plane_room_under(16, 16, bad, sizeof bad).refusal == CABUNLIS_ERR_CODE);
     memcpy(bad, tables()->plain, sizeof bad);
     bad[1] = bad[4];
-    CHECK(cabunlis_plane_room_under(16, 16, bad, sizeof bad).refusal == CABUNLIS_PREFIX);
+    CHECK(cabunlis_plane_room_under(16, 16, bad, sizeof bad).refusal == CABUNLIS_ERR_PREFIX);
     suffices(tables()->book, 33, 20, 0);
     suffices(tables()->plain, 20, 33, 13);
 }

@@ -37,7 +37,7 @@ static void draw(uint8_t *source, uint8_t *reference, size_t w, size_t h, size_t
         for (size_t x = 0; x < w; x++) {
             size_t fx = x + dx < stride ? x + dx : stride - 1, fy = y + dy < rows ? y + dy : rows - 1;
             uint8_t moved = reference[fy * stride + fx];
-            source[y * w + x] = kind == 0 ? (uint8_t)random_next(state) : kind == 1 ? moved : (uint8_t)(moved + random_next(state) % grain);
+            source[y * w + x] = (uint8_t)(kind == 0 ? random_next(state) : kind == 1 ? moved : moved + random_next(state) % grain);
         }
 }
 
@@ -58,7 +58,7 @@ static void one(uint64_t *state, enum guard_side side)
     size_t w = random_next(state) % 40 + 1, h = random_next(state) % 40 + 1;
     size_t stride = (w + 15) / 16 * 16, rows = (h + 15) / 16 * 16, canvas = stride * rows, blocks = canvas / 256;
     int plain = random_next(state) % 2 == 0;
-    uint64_t lambda = random_next(state) >> (random_next(state) % 64);
+    uint64_t any = random_next(state), lambda = any >> (random_next(state) % 64);
     size_t start = random_next(state) % 70;
     uint8_t radius = (uint8_t)(random_next(state) % 6), four = (uint8_t)(random_next(state) % 2);
     size_t room = cabunlis_plane_room(w, h).bytes + (start + 7) / 8;
@@ -72,14 +72,14 @@ static void one(uint64_t *state, enum guard_side side)
     struct cabunlis_answer a = cabunlis_encode_inter_plane_stated(
         w, h, stride, rows, l.g[SOURCE].bytes, w * h, l.g[REFERENCE].bytes, canvas, l.g[BOOK].bytes, CABUNLIS_BOOK_BYTES,
         l.g[CODEBOOK].bytes, CABUNLIS_CODEBOOK_BYTES, lambda, radius, four,
-        out, room, start, l.g[RECON].bytes, canvas, l.g[VX].bytes, 4 * blocks, l.g[VY].bytes, 4 * blocks, stated, 3 * blocks);
+        out, room, start, l.g[RECON].bytes, canvas, guarded_vectors(&l.g[VX]), 4 * blocks, guarded_vectors(&l.g[VY]), 4 * blocks, stated, 3 * blocks);
     /* the entry without `stated` answers and leaves the same */
     uint8_t *again = host_memory(room);
     memset(again, 0xb7, room);
     struct cabunlis_answer b = cabunlis_encode_inter_plane(
         w, h, stride, rows, l.g[SOURCE].bytes, w * h, l.g[REFERENCE].bytes, canvas, l.g[BOOK].bytes, CABUNLIS_BOOK_BYTES,
         l.g[CODEBOOK].bytes, CABUNLIS_CODEBOOK_BYTES, lambda, radius, four,
-        again, room, start, l.g[RECON2].bytes, canvas, l.g[VX2].bytes, 4 * blocks, l.g[VY2].bytes, 4 * blocks);
+        again, room, start, l.g[RECON2].bytes, canvas, guarded_vectors(&l.g[VX2]), 4 * blocks, guarded_vectors(&l.g[VY2]), 4 * blocks);
     CHECK(a.refusal == b.refusal && a.macroblock == b.macroblock && a.done == b.done && a.next == b.next && a.bits == b.bits && a.error == b.error);
     CHECK(memcmp(out, again, room) == 0 && memcmp(l.g[RECON].bytes, l.g[RECON2].bytes, canvas) == 0);
     CHECK(memcmp(l.g[VX].bytes, l.g[VX2].bytes, 4 * blocks) == 0 && memcmp(l.g[VY].bytes, l.g[VY2].bytes, 4 * blocks) == 0);
@@ -104,7 +104,7 @@ static void one(uint64_t *state, enum guard_side side)
         CHECK(out[k] == 0xb7);
     struct cabunlis_answer r = cabunlis_decode_inter_plane(
         w, h, stride, rows, l.g[REFERENCE].bytes, canvas, l.g[BOOK].bytes, CABUNLIS_BOOK_BYTES, l.g[CODEBOOK].bytes, CABUNLIS_CODEBOOK_BYTES,
-        out, (a.next + 7) / 8, start, l.g[RECON2].bytes, canvas, l.g[VX2].bytes, 4 * blocks, l.g[VY2].bytes, 4 * blocks);
+        out, (a.next + 7) / 8, start, l.g[RECON2].bytes, canvas, guarded_vectors(&l.g[VX2]), 4 * blocks, guarded_vectors(&l.g[VY2]), 4 * blocks);
     CHECK(r.refusal == 0 && r.macroblock == 0 && r.done == blocks && r.next == a.next && r.bits == 0 && r.error == 0);
     CHECK(memcmp(l.g[RECON].bytes, l.g[RECON2].bytes, canvas) == 0);
     CHECK(memcmp(l.g[VX].bytes, l.g[VX2].bytes, 4 * blocks) == 0);

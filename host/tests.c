@@ -11,6 +11,7 @@ static const struct { const char *name; void (*run)(void); } GROUPS[] = {
     {"round trips", test_round_trips},
     {"damaged", test_damaged},
     {"rooms", test_rooms},
+    {"short calls", test_short},
     {"threads", test_threads},
 };
 

@@ -1,51 +1,88 @@
 /*
- * Cabunlis: SVQ1 inter planes, written and read back.
+ * Cabunlis: inter planes of SVQ1 (Sorenson Video 1), written and read back.
  *
- * Link: rt staticlib cabunlis, then
- *     cc program.c -Iinclude target/staticlib/libcabunlis.a
- * The library is for x86-64 (ELF) and calls memcpy, memmove and memset, nothing else. C99 and later, C++98 and later.
+ * The built-in ("house") book and codebook stand in for the format's own tables and are not them: what is written under them plays
+ * in this library alone. Any other book and codebook can be lent in their place; the format's own are not part of this library.
+ * Picture headers and key pictures are not written here either: a plane's bits are all that there is.
  *
- * What every function here has in common
+ * For x86-64 Linux (ELF, System V calls). The library calls memcpy, memmove and memset, nothing else; it may stand in a program or
+ * in a shared object, position-independent or not. C99 and later, C++98 and later. Link:
+ *     cc program.c $(pkg-config --cflags --libs cabunlis)      (where it is installed: ./install)
+ *     cc program.c -Iinclude target/staticlib/libcabunlis.a    (in the repository, behind host/build-library)
  *
- * - A slice is a pointer and a length in elements. A pointer is never NULL, not even that of a slice of length 0.
- * - A slice that a function writes (out, recon, vx, vy, stated, book, codebook) overlaps no other slice of the same call, and
- *   nobody else reads or writes it during the call. Slices that are only read may overlap each other.
+ * What every entry has in common
+ *
+ * - A slice is a pointer and a length in elements. The caller sees to it that the pointer is valid for so many elements and is not
+ *   NULL, not even that of a slice of length 0. Nothing can check that: it is what the proofs assume of a caller.
+ * - The same holds of this: a slice that an entry writes (out, recon, vx, vy, stated; book and codebook where they are filled)
+ *   overlaps no other slice of the same call, and nobody else reads or writes it during the call. Slices that are only read may
+ *   overlap each other; nobody writes them during the call.
  * - Nothing is kept between calls and nothing is allocated. Calls on slices of their own may run on any number of threads at once.
  * - Every call ends, touches nothing outside the slices, and refuses what it cannot take by a number (below). A refused call
  *   leaves every slice as it was, except where the number says that it came in the middle of a plane.
  * - Stack: at most CABUNLIS_STACK_BYTES a call.
  *
+ * What an entry answers, and every byte that it leaves, is proved. That this header says the same as the library, and the stack,
+ * are tested and not proved; so are the short calls at the end of the header, which are C.
+ *
  * Words
+ *
+ * A source is width x height samples, row by row, packed: the first sample of a row comes directly behind the last one of the row
+ * above.
  *
  * A plane of width x height samples is written against a reference: a canvas of stride x rows samples, row by row, where stride
  * and rows are width and height rounded up to a multiple of 16. The first `width` samples of its first `height` rows are the
  * plane's; the others may hold anything, but they are predicted from like the rest, so the reader has to be lent the same
- * reference as the writer. What a call leaves in `recon` is such a canvas, and serves as it is as the reference of the next plane.
+ * reference as the writer. What a call leaves in `recon` is such a canvas, and serves as it is as the reference of the next plane:
+ * keep two canvases and let them change places.
  *
  * The canvas is divided into 16 x 16 macroblocks, row by row, so there are (stride / 16) * (rows / 16). An 8 x 8 block (row r,
- * column c) has its motion vector, in half samples and from -32 to 31 on each axis, at r * (stride / 8) + c of vx and vy, a two's
- * complement byte each: four a macroblock, the same one four times where it has one, zeros where it is skipped or intra. Samples
- * that a vector reads outside the canvas are the nearest ones at its edge.
+ * column c) has its motion vector, in half samples and from -32 to 31 on each axis, at r * (stride / 8) + c of vx and vy: four a
+ * macroblock, the same one four times where it has one, zeros where it is skipped or intra. Samples that a vector reads outside the
+ * canvas are the nearest ones at its edge.
  *
  * A bit string is bytes, the highest bit of a byte first. Bits are counted from the first of the slice, whatever the start bit.
+ *
+ * Questions
+ *
+ * - Does a stream tell its length? No. It carries neither its length nor the plane's size, tables or settings: the host has to send
+ *   what the reader has to be lent. A plane ends with its last macroblock; the answer's `next` says where, and bits behind it
+ *   change nothing.
+ * - How do several planes stand in one string? Each starts at the `next` of the one before. Their rooms add up: planes that follow
+ *   each other from bit 0 all fit into the sum of their rooms.
+ * - How to start without a key picture? Lend both sides the same first reference, whatever it holds, such as a canvas of 128
+ *   everywhere. The first plane then codes most of the picture anew. After a loss, both sides start so again.
+ * - What to put into `recon` before reading? A plane that is cut or damaged ends at a macroblock, and the samples behind it stay as
+ *   they were. Copy the reference into `recon` (stride x rows bytes) before the call, and set vx and vy to 0: what was not read
+ *   then shows the picture before, as if it were skipped, and no stale samples.
  *
  * A plane of 176 x 144 written, and read back
  *
  *     enum { W = 176, H = 144, BLOCKS = (W / 16) * (H / 16) };
  *     static uint8_t book[CABUNLIS_BOOK_BYTES], codebook[CABUNLIS_CODEBOOK_BYTES];
- *     static uint8_t source[W * H], reference[W * H], recon[W * H], vx[4 * BLOCKS], vy[4 * BLOCKS];
+ *     static uint8_t source[W * H], reference[W * H], recon[W * H];
+ *     static int8_t vx[4 * BLOCKS], vy[4 * BLOCKS];
+ *     static struct cabunlis_plane plane; // static, so all zeros before it is filled
+ *     static struct cabunlis_settings settings;
  *
  *     cabunlis_house_book(book, sizeof book);
  *     cabunlis_house_codebook(codebook, sizeof codebook);
+ *     struct cabunlis_tables tables = {book, sizeof book, codebook, sizeof codebook};
  *     size_t room = cabunlis_plane_room_under(W, H, book, sizeof book).bytes;
- *     uint8_t *out = malloc(room);
- *     struct cabunlis_answer a = cabunlis_encode_inter_plane(
- *         W, H, W, H, source, sizeof source, reference, sizeof reference, book, sizeof book, codebook, sizeof codebook,
- *         32, 8, 1, out, room, 0, recon, sizeof recon, vx, sizeof vx, vy, sizeof vy);
+ *     struct cabunlis_output output = {(uint8_t *)malloc(room), room, 0};
+ *     plane.width = plane.stride = W; // 176 and 144 are multiples of 16
+ *     plane.height = plane.rows = H;
+ *     plane.source = source, plane.source_length = sizeof source;
+ *     plane.reference = reference, plane.reference_length = sizeof reference;
+ *     plane.recon = recon, plane.recon_length = sizeof recon;
+ *     plane.vx = vx, plane.vx_length = sizeof vx;
+ *     plane.vy = vy, plane.vy_length = sizeof vy;
+ *     settings.lambda = 32, settings.radius = 8, settings.four = 1;
+ *
+ *     struct cabunlis_answer a = cabunlis_write(&plane, &tables, &settings, &output);
  *     // a.refusal is 0, a.done is BLOCKS, a.next is the plane's last bit + 1: send (a.next + 7) / 8 bytes
- *     struct cabunlis_answer b = cabunlis_decode_inter_plane(
- *         W, H, W, H, reference, sizeof reference, book, sizeof book, codebook, sizeof codebook,
- *         out, (a.next + 7) / 8, 0, recon, sizeof recon, vx, sizeof vx, vy, sizeof vy);
+ *     struct cabunlis_input input = {output.bytes, (a.next + 7) / 8, 0};
+ *     struct cabunlis_answer b = cabunlis_read(&plane, &tables, &input);
  *     // b.next is a.next, and recon, vx and vy are what the writer left
  */
 #ifndef CABUNLIS_H
@@ -53,6 +90,35 @@
 
 #include <stddef.h>
 #include <stdint.h>
+
+/*
+ * The version. MAJOR is the interface's number: it is raised with every change of an entry's arguments or of what it answers in C,
+ * and each entry's symbol in the library carries it. So a program that was compiled with another interface's header does not link,
+ * and never runs with its arguments shifted. MINOR is raised when something is added or answered otherwise, PATCH with the rest.
+ */
+#define CABUNLIS_VERSION_MAJOR 1
+#define CABUNLIS_VERSION_MINOR 0
+#define CABUNLIS_VERSION_PATCH 0
+
+/* One number that grows with the version, for #if (1.2.3 is 1002003), and text, as "1.2.3". */
+#define CABUNLIS_VERSION_NUMBER (CABUNLIS_VERSION_MAJOR * 1000000 + CABUNLIS_VERSION_MINOR * 1000 + CABUNLIS_VERSION_PATCH)
+#define CABUNLIS_VERSION \
+    CABUNLIS_TEXT(CABUNLIS_VERSION_MAJOR) "." CABUNLIS_TEXT(CABUNLIS_VERSION_MINOR) "." CABUNLIS_TEXT(CABUNLIS_VERSION_PATCH)
+#define CABUNLIS_TEXT(number) CABUNLIS_TEXT_OF(number)
+#define CABUNLIS_TEXT_OF(number) #number
+
+/* The entries' symbols: cabunlis1_encode_inter_plane and so on. Debuggers show these names. */
+#define CABUNLIS_ENTRY(name) CABUNLIS_ENTRY_OF(CABUNLIS_VERSION_MAJOR, name)
+#define CABUNLIS_ENTRY_OF(major, name) CABUNLIS_ENTRY_NAME(major, name)
+#define CABUNLIS_ENTRY_NAME(major, name) cabunlis##major##_##name
+#define cabunlis_encode_inter_plane CABUNLIS_ENTRY(encode_inter_plane)
+#define cabunlis_encode_inter_plane_stated CABUNLIS_ENTRY(encode_inter_plane_stated)
+#define cabunlis_decode_inter_plane CABUNLIS_ENTRY(decode_inter_plane)
+#define cabunlis_plane_room CABUNLIS_ENTRY(plane_room)
+#define cabunlis_plane_room_under CABUNLIS_ENTRY(plane_room_under)
+#define cabunlis_read_book_file CABUNLIS_ENTRY(read_book_file)
+#define cabunlis_house_book CABUNLIS_ENTRY(house_book)
+#define cabunlis_house_codebook CABUNLIS_ENTRY(house_codebook)
 
 #ifdef __cplusplus
 extern "C" {
@@ -81,45 +147,46 @@ extern "C" {
 /* The longest bit string, in bytes. */
 #define CABUNLIS_MOST_BYTES ((size_t)1 << 28)
 
-/* Stack that a call may take, in bytes. Measured on x86-64: writer 44,416, reader 44,096, a book file 8,104, a room under a book
- * 4,296, the others next to nothing. */
+/* Stack that a call may take, in bytes. Measured: writer 44,704, reader 44,096, a book file 8,104, a room under a book 4,296, the
+ * others next to nothing. */
 #define CABUNLIS_STACK_BYTES 49152
 
-/* The refusals that a C host can meet. */
+/* The refusals that a C host can meet; no other number comes. */
 enum cabunlis_refusal {
     CABUNLIS_OK = 0,
     /* width or height 0 or above 1,024 */
-    CABUNLIS_SIZE = 1,
+    CABUNLIS_ERR_SIZE = 1,
     /* source length not width x height */
-    CABUNLIS_SOURCE = 2,
+    CABUNLIS_ERR_SOURCE = 2,
     /* stride or rows not the size rounded up to 16 */
-    CABUNLIS_STRIDE = 3,
+    CABUNLIS_ERR_STRIDE = 3,
     /* reference length not stride x rows */
-    CABUNLIS_REFERENCE = 4,
+    CABUNLIS_ERR_REFERENCE = 4,
     /* book or codebook of another size; a line of a book file malformed, missing or doubled */
-    CABUNLIS_TABLES = 5,
+    CABUNLIS_ERR_TABLES = 5,
     /* a code's length outside 1 to 32, or its value not below 2^length */
-    CABUNLIS_CODE = 6,
+    CABUNLIS_ERR_CODE = 6,
     /* in one of the sixteen tables a code begins another or equals it */
-    CABUNLIS_PREFIX = 7,
+    CABUNLIS_ERR_PREFIX = 7,
     /* reader: the bits left neither begin with a code nor are the start of one */
-    CABUNLIS_NO_CODE = 10,
+    CABUNLIS_ERR_NO_CODE = 10,
     /* reader: an intra leaf that skips, or stages at level 4 or 5 */
-    CABUNLIS_LEAF = 11,
-    /* vx or vy shorter than four bytes a macroblock (longer is fine, the rest stays), or recon length not stride x rows */
-    CABUNLIS_RESULTS = 20,
+    CABUNLIS_ERR_LEAF = 11,
+    /* vx or vy shorter than four entries a macroblock (longer is fine, the rest stays), or recon length not stride x rows */
+    CABUNLIS_ERR_RESULTS = 20,
     /* bit string longer than CABUNLIS_MOST_BYTES, or start bit beyond its end: above 8 x its length */
-    CABUNLIS_BITS = 21,
+    CABUNLIS_ERR_BITS = 21,
     /* writer: the next macroblock does not fit */
-    CABUNLIS_FULL = 22,
+    CABUNLIS_ERR_FULL = 22,
     /* reader: the bits end before the last macroblock is whole */
-    CABUNLIS_CUT = 24
+    CABUNLIS_ERR_CUT = 24
 };
 
 /*
- * What a plane call answers. Where refusal is 10, 11, 22 or 24 the call came to the macroblock of index `macroblock`: those before
- * it are done, with their bits, samples and vectors, the rest is untouched, and `next` is where it begins. With any other refusal
- * nothing is done and every other field is 0. The lowest number that applies is answered, 20 and 21 behind 1 to 7.
+ * What a plane call answers. Where refusal is 0 the plane is whole. Where it is 10, 11, 22 or 24 the call came to the macroblock of
+ * index `macroblock`: those before it are done, with their bits, samples and vectors, the rest is untouched, and `next` is where it
+ * begins. With any other refusal nothing is done and every other field is 0. The lowest number that applies is answered, 20 and 21
+ * behind 1 to 7.
  */
 struct cabunlis_answer {
     uint32_t refusal;
@@ -135,11 +202,11 @@ struct cabunlis_answer {
  *
  * lambda weighs bits against squared error: a macroblock is coded in the way of least error + lambda x bits, at equal cost the one
  * of fewest bits, then the first of SKIP, INTER, INTRA and INTER_4MV. Any 64-bit number is taken; 0 buys every gain, 32 is a fair
- * start. Costs are counted to 2^64 - 1 and no further: up to a lambda of 2^48 none comes to that, above it several may, and are then
- * equal. radius is the search's, any number from 0 to 255: the zero vector is tried, then
- * those that lie up to so many whole samples to each side of the vector predicted from the neighbours, then the half samples around
- * the best; so a vector may be longer than the radius, and one above 31 finds nothing more. Four vectors a macroblock are tried
- * unless `four` is 0. Time grows with the number of macroblocks, and a little with the radius.
+ * start. Costs are counted to 2^64 - 1 and no further: up to a lambda of 2^48 none comes to that, above it several may, and are
+ * then equal. radius is the search's, any number from 0 to 255: the zero vector is tried, then those that lie up to so many whole
+ * samples to each side of the vector predicted from the neighbours, then the half samples around the best; so a vector may be
+ * longer than the radius, and a radius above 31 finds nothing more. Four vectors a macroblock are tried unless `four` is 0. Time
+ * grows with the number of macroblocks, and a little with the radius.
  *
  * Leaves: in `out` the bits of the macroblocks done, zeros behind them to the end of their last byte, everything else as it was,
  * the bits before `start` too (where none is done, every byte); in `recon` their samples as a reader shows them; in `vx` and `vy`
@@ -156,8 +223,8 @@ struct cabunlis_answer cabunlis_encode_inter_plane(
     uint64_t lambda, uint8_t radius, uint8_t four,
     uint8_t *out, size_t out_length, size_t start,
     uint8_t *recon, size_t recon_length,
-    uint8_t *vx, size_t vx_length,
-    uint8_t *vy, size_t vy_length);
+    int8_t *vx, size_t vx_length,
+    int8_t *vy, size_t vy_length);
 
 /* How a macroblock is coded. */
 enum cabunlis_mode {
@@ -169,8 +236,8 @@ enum cabunlis_mode {
 
 /*
  * The same, and in `stated` three numbers for each macroblock done, as far as it has room for all three: its mode (enum
- * cabunlis_mode), its bits, its squared error. What lies behind them stays. `stated` is aligned as a uint32_t is, to four bytes; its
- * length is in numbers, not in bytes, and may be 0.
+ * cabunlis_mode), its bits, its squared error. What lies behind them stays. `stated` is aligned as a uint32_t is, to four bytes;
+ * its length is in numbers, not in bytes, and may be 0.
  */
 struct cabunlis_answer cabunlis_encode_inter_plane_stated(
     size_t width, size_t height, size_t stride, size_t rows,
@@ -181,8 +248,8 @@ struct cabunlis_answer cabunlis_encode_inter_plane_stated(
     uint64_t lambda, uint8_t radius, uint8_t four,
     uint8_t *out, size_t out_length, size_t start,
     uint8_t *recon, size_t recon_length,
-    uint8_t *vx, size_t vx_length,
-    uint8_t *vy, size_t vy_length,
+    int8_t *vx, size_t vx_length,
+    int8_t *vy, size_t vy_length,
     uint32_t *stated, size_t stated_length);
 
 /*
@@ -198,8 +265,8 @@ struct cabunlis_answer cabunlis_decode_inter_plane(
     const uint8_t *codebook, size_t codebook_length,
     const uint8_t *bytes, size_t bytes_length, size_t start,
     uint8_t *recon, size_t recon_length,
-    uint8_t *vx, size_t vx_length,
-    uint8_t *vy, size_t vy_length);
+    int8_t *vx, size_t vx_length,
+    int8_t *vy, size_t vy_length);
 
 /* What a room call answers: 0 and the bytes, or a refusal and 0. */
 struct cabunlis_room {
@@ -208,8 +275,9 @@ struct cabunlis_room {
 };
 
 /*
- * How many bytes a plane of this size takes at most under any good book. With that many bytes behind its start bit (start + 8 *
- * bytes <= 8 * out_length) a plane that is not refused is written to its last macroblock: 22 cannot come. Refusal: 1.
+ * How many bytes a plane of this size takes at most under any book that 5, 6 and 7 do not refuse. With that many bytes behind its
+ * start bit (start + 8 * bytes <= 8 * out_length) a plane that is not refused is written to its last macroblock: 22 cannot come.
+ * Refusal: 1.
  */
 struct cabunlis_room cabunlis_plane_room(size_t width, size_t height);
 
@@ -227,6 +295,105 @@ uint32_t cabunlis_read_book_file(const uint8_t *file, size_t file_length, uint8_
 /* Fill `book` and `codebook` with the built-in ones. Answer 0, or 5 where the slice has another length. */
 uint32_t cabunlis_house_book(uint8_t *book, size_t book_length);
 uint32_t cabunlis_house_codebook(uint8_t *codebook, size_t codebook_length);
+
+/*
+ * The short calls: the plane entries with their arguments gathered in structs. They are C and not proved; each passes every field
+ * on to the argument of its name and does nothing else. A struct has to be all zeros before it is filled in (static, memset, {0} in
+ * C, {} in C++), or is filled in by braces, which set what they leave out to zero: a later version may append fields, and zero will
+ * mean what was before.
+ */
+
+/* A plane's size, its canvas, and its slices; lengths in elements. */
+struct cabunlis_plane {
+    size_t width, height;
+    size_t stride, rows;
+    const uint8_t *source; /* the reader does not look at it */
+    size_t source_length;
+    const uint8_t *reference;
+    size_t reference_length;
+    uint8_t *recon;
+    size_t recon_length;
+    int8_t *vx;
+    size_t vx_length;
+    int8_t *vy;
+    size_t vy_length;
+    uint32_t *stated; /* NULL where nothing is to be stated; the reader does not look at it */
+    size_t stated_length;
+};
+
+/* The book and the codebook. */
+struct cabunlis_tables {
+    const uint8_t *book;
+    size_t book_length;
+    const uint8_t *codebook;
+    size_t codebook_length;
+};
+
+/* How the writer chooses. */
+struct cabunlis_settings {
+    uint64_t lambda;
+    uint8_t radius;
+    uint8_t four;
+};
+
+/* The bits to be written, and to be read, from a start bit on. */
+struct cabunlis_output {
+    uint8_t *bytes;
+    size_t length;
+    size_t start;
+};
+
+struct cabunlis_input {
+    const uint8_t *bytes;
+    size_t length;
+    size_t start;
+};
+
+/* cabunlis_encode_inter_plane_stated, or cabunlis_encode_inter_plane where `stated` is NULL. */
+static inline struct cabunlis_answer cabunlis_write(
+    const struct cabunlis_plane *plane, const struct cabunlis_tables *tables, const struct cabunlis_settings *settings,
+    const struct cabunlis_output *output)
+{
+    if (plane->stated)
+        return cabunlis_encode_inter_plane_stated(
+            plane->width, plane->height, plane->stride, plane->rows,
+            plane->source, plane->source_length,
+            plane->reference, plane->reference_length,
+            tables->book, tables->book_length,
+            tables->codebook, tables->codebook_length,
+            settings->lambda, settings->radius, settings->four,
+            output->bytes, output->length, output->start,
+            plane->recon, plane->recon_length,
+            plane->vx, plane->vx_length,
+            plane->vy, plane->vy_length,
+            plane->stated, plane->stated_length);
+    return cabunlis_encode_inter_plane(
+        plane->width, plane->height, plane->stride, plane->rows,
+        plane->source, plane->source_length,
+        plane->reference, plane->reference_length,
+        tables->book, tables->book_length,
+        tables->codebook, tables->codebook_length,
+        settings->lambda, settings->radius, settings->four,
+        output->bytes, output->length, output->start,
+        plane->recon, plane->recon_length,
+        plane->vx, plane->vx_length,
+        plane->vy, plane->vy_length);
+}
+
+/* cabunlis_decode_inter_plane. */
+static inline struct cabunlis_answer cabunlis_read(
+    const struct cabunlis_plane *plane, const struct cabunlis_tables *tables, const struct cabunlis_input *input)
+{
+    return cabunlis_decode_inter_plane(
+        plane->width, plane->height, plane->stride, plane->rows,
+        plane->reference, plane->reference_length,
+        tables->book, tables->book_length,
+        tables->codebook, tables->codebook_length,
+        input->bytes, input->length, input->start,
+        plane->recon, plane->recon_length,
+        plane->vx, plane->vx_length,
+        plane->vy, plane->vy_length);
+}
 
 #ifdef __cplusplus
 }

@@ -8,10 +8,8 @@ include!("modules.rs");
 
 mod clock;
 mod entries;
-mod growth;
 mod library;
 mod pictures;
-mod reading;
 mod scenes;
 
 use std::process::ExitCode;
@@ -19,12 +17,9 @@ use std::process::ExitCode;
 const USAGE: &str = "usage:
   bench pictures [COUNTS]   both writers on each scene, in processor time; COUNTS
                             names a file of counted instructions
-  bench growth              the writer against macroblocks and against the radius
-  bench reading             the reader, and what the refusal checks of a call take
   bench one ours|original SCENE SIZE RADIUS
                             one luma plane and nothing else, for counting instructions
-  bench scenes              the words for SCENE, SIZE and RADIUS, one case a line
-  bench raw SCENE SIZE N    N pictures as planar samples (4:1:0) on standard output";
+  bench scenes              the words for SCENE, SIZE and RADIUS, one case a line";
 
 fn main() -> ExitCode {
     let arguments: Vec<String> = std::env::args().skip(1).collect();
@@ -33,11 +28,8 @@ fn main() -> ExitCode {
     let done = match *words {
         ["pictures"] => pictures::table(None),
         ["pictures", counts] => pictures::table(Some(counts)),
-        ["growth"] => growth::table(),
-        ["reading"] => reading::table(),
         ["one", whose, scene, size, radius] => pictures::one(whose, scene, size, radius),
         ["scenes"] => scenes::list(),
-        ["raw", scene, size, count] => scenes::raw(scene, size, count),
         _ => Err(USAGE.into()),
     };
     match done {

@@ -2,7 +2,7 @@
 
 use crate::book::{Book, house_codebook};
 pub use crate::entries::Answer;
-use crate::entries::{cabunlis_decode_inter_plane, cabunlis_encode_inter_plane, cabunlis_plane_room};
+use crate::entries::{cabunlis_encode_inter_plane, cabunlis_plane_room};
 use crate::job::Job;
 
 /// The built-in tables and all that a call of one size is lent to write.
@@ -53,35 +53,6 @@ impl Lent {
                 u8::from(job.four),
                 self.out.as_mut_ptr(),
                 self.out.len(),
-                0,
-                self.recon.as_mut_ptr(),
-                self.recon.len(),
-                self.vx.as_mut_ptr(),
-                self.vx.len(),
-                self.vy.as_mut_ptr(),
-                self.vy.len(),
-            )
-        }
-    }
-
-    /// Reads the first `bytes` bytes of what was written.
-    pub fn read(&mut self, job: &Job, bytes: usize) -> Answer {
-        assert!(bytes <= self.out.len());
-        // Safety: as above.
-        unsafe {
-            cabunlis_decode_inter_plane(
-                job.width,
-                job.height,
-                job.stride(),
-                job.rows(),
-                job.reference.as_ptr(),
-                job.reference.len(),
-                self.book.as_ptr(),
-                self.book.len(),
-                self.codebook.as_ptr(),
-                self.codebook.len(),
-                self.out.as_ptr(),
-                bytes,
                 0,
                 self.recon.as_mut_ptr(),
                 self.recon.len(),

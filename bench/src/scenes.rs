@@ -1,8 +1,6 @@
 //! The pictures: the C example's scene (`host/scene.c`), seen by an eye
 //! that stands still and by one that turns, in two sizes.
 
-use std::io::Write;
-
 use crate::job::Job;
 
 unsafe extern "C" {
@@ -109,20 +107,6 @@ pub fn find(scene: &str, size: &str, radius: &str) -> Result<Case, String> {
 pub fn list() -> Result<(), String> {
     for case in cases() {
         println!("{} {} {}", case.scene, case.size(), case.radius);
-    }
-    Ok(())
-}
-
-/// Pictures as planar samples, for another encoder.
-pub fn raw(scene: &str, size: &str, count: &str) -> Result<(), String> {
-    let case = find(scene, size, "8")?;
-    let count: u32 = count.parse().map_err(|_| format!("no number: {count}"))?;
-    let mut out = std::io::stdout().lock();
-    for picture in 0..count {
-        for plane in 0..PLANES {
-            out.write_all(&case.draw(plane, picture))
-                .map_err(|error| error.to_string())?;
-        }
     }
     Ok(())
 }

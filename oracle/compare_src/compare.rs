@@ -11,12 +11,16 @@ mod compare_plan;
 mod compare_plane;
 mod compare_search;
 mod entries;
+mod leaf_input;
 mod none;
 mod ours;
 mod ours_plane;
+mod plan_input;
 mod plane_refusals;
 mod plane_wanted;
 mod refusals;
+mod search_input;
+mod seed_tables;
 mod tally;
 
 use std::process::ExitCode;

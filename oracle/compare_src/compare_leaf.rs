@@ -1,10 +1,10 @@
 //! Leaf searches, field by field.
 
 use crate::book::house_codebook;
-use crate::calls::{SeedTables, load_tables};
-use crate::leaf_calls::{LeafInput, leaf_input};
+use crate::leaf_input::{LeafInput, leaf_input};
 use crate::ours::{Leaf, LeafCall, Node};
 use crate::random::Random;
+use crate::seed_tables::{SeedTables, load_tables};
 use crate::stream::unsigned;
 use crate::svq1_enc_leaf::{LeafChoice, LeafCode};
 use crate::tables;

@@ -1,12 +1,12 @@
 //! Plans of blocks of every level, field by field.
 
 use crate::book::house_codebook;
-use crate::calls::{SeedTables, load_tables};
 use crate::compare_leaf::leaf_node;
-use crate::leaf_calls::{HALVES, LEVELS};
+use crate::leaf_input::{HALVES, LEVELS};
 use crate::ours::{LeafCall, Node, Plan, PlanCall};
-use crate::plan_calls::{BlockInput, block_input, cut, dims};
+use crate::plan_input::{BlockInput, block_input, cut, dims};
 use crate::random::Random;
+use crate::seed_tables::{SeedTables, load_tables};
 use crate::stream::unsigned;
 use crate::svq1_enc::BitWriter;
 use crate::svq1_enc_leaf::search_leaf;

@@ -2,12 +2,12 @@
 
 use crate::answer::{Answer, MODES, answer};
 use crate::book::{Book, Table, house_codebook};
-use crate::calls::{SeedTables, load_tables};
 use crate::job::Job;
 use crate::make::{any_job, job_of_size};
 use crate::ours_plane::{Lent, PlaneCall};
 use crate::plane_wanted::{Wanted, number_at, pattern, put_bits};
 use crate::random::Random;
+use crate::seed_tables::{SeedTables, load_tables};
 use crate::stream::unsigned;
 use crate::tables;
 use crate::tally::Tally;

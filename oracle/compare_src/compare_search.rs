@@ -1,8 +1,8 @@
 //! Motion searches, vector by vector.
 
-use crate::motion_calls::{SearchInput, search_input};
 use crate::ours::{Vector, VectorCall};
 use crate::random::Random;
+use crate::search_input::{SearchInput, search_input};
 use crate::svq1_motion_predictor::Svq1Mv;
 use crate::tally::Tally;
 

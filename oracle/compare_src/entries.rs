@@ -1,4 +1,4 @@
-//! The entries of the static library of the crate `cabunlis`, as `include/cabunlis.h` has them; for the comparison and for the benchmark.
+//! The entries of the static library of the crate `cabunlis`, as `include/cabunlis.h` has them, with the interface's number in their symbols; for the comparison and for the benchmark.
 #![allow(dead_code)]
 
 /// What a plane call answers.
@@ -20,6 +20,7 @@ pub struct Room {
 }
 
 unsafe extern "C" {
+    #[link_name = "cabunlis1_encode_inter_plane"]
     pub fn cabunlis_encode_inter_plane(
         width: usize,
         height: usize,
@@ -47,6 +48,7 @@ unsafe extern "C" {
         vy_length: usize,
     ) -> Answer;
 
+    #[link_name = "cabunlis1_encode_inter_plane_stated"]
     pub fn cabunlis_encode_inter_plane_stated(
         width: usize,
         height: usize,
@@ -76,6 +78,7 @@ unsafe extern "C" {
         stated_length: usize,
     ) -> Answer;
 
+    #[link_name = "cabunlis1_decode_inter_plane"]
     pub fn cabunlis_decode_inter_plane(
         width: usize,
         height: usize,
@@ -98,5 +101,6 @@ unsafe extern "C" {
         vy_length: usize,
     ) -> Answer;
 
+    #[link_name = "cabunlis1_plane_room"]
     pub fn cabunlis_plane_room(width: usize, height: usize) -> Room;
 }

@@ -3,7 +3,7 @@
 
 use crate::compare_search::{call, expected};
 use crate::job::padded;
-use crate::motion_calls::{Canvas, SearchInput};
+use crate::search_input::{Canvas, SearchInput};
 use crate::svq1_motion_predictor::Svq1Mv;
 use crate::tally::Tally;
 

@@ -13,9 +13,6 @@ const USAGE: &str = "usage:
   svq1_oracle stream SEED N       N random jobs as a batch, to standard output
   svq1_oracle batch               a batch from standard input, answers to standard output
   svq1_oracle fixed               the fixed list, to standard output
-  svq1_oracle call NAME SEED N [text]
-                                  N random calls of one function, with answers
-  svq1_oracle read FOLDER         the original's decoder on a folder's out.bits
   svq1_oracle cards               document 01's bench cards
   svq1_oracle differences         the inputs of docs/DIFFERENCES.md";
 
@@ -41,14 +38,9 @@ fn dispatch(words: &[&str]) -> Result<(), String> {
         ["stream", seed, count] => stream::gen_stream(number(seed)?, number(count)?),
         ["batch"] => stream::batch(),
         ["fixed"] => fixed::fixed(),
-        ["read", folder] => stream::read(Path::new(folder)),
         ["cards"] => cards::cards(),
         ["differences"] => differences::differences(),
         ["difference", name] => differences::difference(name),
-        ["call", name, seed, count] => calls::calls(name, number(seed)?, number(count)?, false),
-        ["call", name, seed, count, "text"] => {
-            calls::calls(name, number(seed)?, number(count)?, true)
-        }
         _ => Err(USAGE.into()),
     }
 }

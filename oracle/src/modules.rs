@@ -3,16 +3,11 @@
 mod answer;
 mod book;
 mod bytes;
-mod calls;
 mod cards;
-mod case;
 mod differences;
 mod fixed;
 mod job;
-mod leaf_calls;
 mod make;
-mod motion_calls;
-mod plan_calls;
 mod random;
 mod stream;
 mod tables;

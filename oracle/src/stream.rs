@@ -4,7 +4,7 @@ use std::fs;
 use std::io::{Read, Write, stdin, stdout};
 use std::path::Path;
 
-use crate::answer::{answer, decode};
+use crate::answer::answer;
 use crate::book::{BOOK_BYTES, Book, CODEBOOK_BYTES, house_codebook};
 use crate::bytes::Source;
 use crate::job::{Job, read_bytes, read_text, write};
@@ -22,17 +22,6 @@ pub fn run(folder: &Path) -> Result<(), String> {
     write(&folder.join("out.mvy"), &answer.y)?;
     let listing = answer.listing(job.columns());
     write(&folder.join("out.txt"), listing.as_bytes())
-}
-
-/// Reads a folder's out.bits with the original's decoder and writes the
-/// samples to read.recon.
-pub fn read(folder: &Path) -> Result<(), String> {
-    let job = load_files(folder)?;
-    let bits = read_bytes(&folder.join("out.bits"))?;
-    let (samples, taken) =
-        decode(&job, &bits, 8 * bits.len()).map_err(|error| format!("{error:?}"))?;
-    println!("{taken} bits");
-    write(&folder.join("read.recon"), &samples)
 }
 
 /// Loads a folder's tables and gives its job.

@@ -9,7 +9,7 @@ use house::fill_house_codebook;
 
 // Reads a book file into a lent book; 0, or the refusal with the book as it was.
 #[no_mangle]
-pub extern "C" fn cabunlis_read_book_file(file: &[u8], book: &mut [u8]) -> u32
+pub extern "C" fn cabunlis1_read_book_file(file: &[u8], book: &mut [u8]) -> u32
     ensures { λ r. ⌜ BookFileRead (now (file .entry)) (now (book .entry)) r (now (book .exit)) ⌝ }
 {
     read_book_file(file, book) as u32
@@ -17,7 +17,7 @@ pub extern "C" fn cabunlis_read_book_file(file: &[u8], book: &mut [u8]) -> u32
 
 // Fills a lent book with the built-in one; 0, or 5 where it has another size.
 #[no_mangle]
-pub extern "C" fn cabunlis_house_book(book: &mut [u8]) -> u32
+pub extern "C" fn cabunlis1_house_book(book: &mut [u8]) -> u32
     ensures { λ r. ⌜ BookFilled (now (book .entry)) r (now (book .exit)) ⌝ }
 {
     fill_house_book(book) as u32
@@ -25,7 +25,7 @@ pub extern "C" fn cabunlis_house_book(book: &mut [u8]) -> u32
 
 // The same for the codebook.
 #[no_mangle]
-pub extern "C" fn cabunlis_house_codebook(codebook: &mut [u8]) -> u32
+pub extern "C" fn cabunlis1_house_codebook(codebook: &mut [u8]) -> u32
     ensures { λ r. ⌜ Filled codebookBytes houseCodebook (now (codebook .entry)) r (now (codebook .exit)) ⌝ }
 {
     fill_house_codebook(codebook) as u32

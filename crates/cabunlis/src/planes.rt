@@ -74,7 +74,7 @@ fn tries_four(four: u8) -> bool
 
 // Writes a plane; four vectors are tried unless `four` is 0.
 #[no_mangle]
-pub extern "C" fn cabunlis_encode_inter_plane(
+pub extern "C" fn cabunlis1_encode_inter_plane(
     width: usize,
     height: usize,
     stride: usize,
@@ -123,7 +123,7 @@ pub extern "C" fn cabunlis_encode_inter_plane(
 
 // The same, and each macroblock's mode, bits and error told in `stated`.
 #[no_mangle]
-pub extern "C" fn cabunlis_encode_inter_plane_stated(
+pub extern "C" fn cabunlis1_encode_inter_plane_stated(
     width: usize,
     height: usize,
     stride: usize,
@@ -174,7 +174,7 @@ pub extern "C" fn cabunlis_encode_inter_plane_stated(
 
 // Reads a plane.
 #[no_mangle]
-pub extern "C" fn cabunlis_decode_inter_plane(
+pub extern "C" fn cabunlis1_decode_inter_plane(
     width: usize,
     height: usize,
     stride: usize,

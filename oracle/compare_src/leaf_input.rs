@@ -1,11 +1,10 @@
-//! Calls of the leaf search on random inputs.
+//! Random inputs of the leaf search, and what the original answers.
 
 use crate::book::house_codebook;
-use crate::case::Case;
 use crate::make::clamp;
 use crate::random::Random;
 use crate::svq1_blocktree::Svq1Level;
-use crate::svq1_enc_leaf::{LeafChoice, LeafCode, search_leaf};
+use crate::svq1_enc_leaf::{LeafChoice, search_leaf};
 use crate::svq1_vlc::Svq1Half;
 
 pub const LEVELS: [Svq1Level; 6] = [
@@ -50,20 +49,6 @@ pub fn half_and_skip(random: &mut Random) -> (usize, bool) {
     random.pick(&[(0, false), (1, true), (1, false)])
 }
 
-/// Kind (2 skip, 3 coded), mean, stage count, six indices.
-pub fn leaf_fields(case: Case, code: &LeafCode) -> Case {
-    let (kind, mean, stages) = match code {
-        LeafCode::Skip => (2, 0, &[][..]),
-        LeafCode::Coded { mean, stages } => (3, *mean, &stages[..]),
-    };
-    let mut indices = [0; 6];
-    indices[..stages.len()].copy_from_slice(stages);
-    case.byte(kind)
-        .number(mean, 2)
-        .byte(stages.len())
-        .bytes(&indices)
-}
-
 /// What one leaf search is asked.
 pub struct LeafInput {
     pub level: usize,
@@ -102,23 +87,4 @@ impl LeafInput {
             self.skip,
         )
     }
-
-    pub fn case(&self) -> Case {
-        Case::default()
-            .byte(self.level)
-            .byte(self.half)
-            .byte(self.cap)
-            .byte(usize::from(self.skip))
-            .bytes(&self.target)
-            .bytes(&self.predictor)
-    }
-}
-
-pub fn leaf_case(random: &mut Random) -> Case {
-    let input = leaf_input(random);
-    let choice = input.ask();
-    leaf_fields(input.case(), &choice.code)
-        .number(choice.bits, 4)
-        .number(choice.sse, 4)
-        .bytes(&choice.recon)
 }

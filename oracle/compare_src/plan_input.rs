@@ -1,12 +1,8 @@
-//! Calls of the tree's plan on random inputs.
+//! Random inputs of the tree's plan, and what the original answers.
 
-use crate::case::Case;
-use crate::leaf_calls::{HALVES, LEVELS, block_pair, half_and_skip, leaf_fields};
+use crate::leaf_input::{HALVES, LEVELS, block_pair, half_and_skip};
 use crate::random::Random;
-use crate::svq1_enc::BitWriter;
-use crate::svq1_enc_tree::{
-    MbPlan, TreeNode, call_search_block, emit_macroblock, plan_macroblock, plan_reconstruction,
-};
+use crate::svq1_enc_tree::{MbPlan, call_search_block, plan_macroblock};
 
 /// What the plan of a macroblock is asked.
 pub struct PlanInput {
@@ -50,18 +46,6 @@ impl PlanInput {
             self.skip,
             self.lambda,
         )
-    }
-
-    fn case(&self) -> Case {
-        self.settings(Case::default())
-            .bytes(&self.target)
-            .bytes(&self.predictor)
-    }
-
-    fn settings(&self, case: Case) -> Case {
-        case.byte(self.half)
-            .byte(usize::from(self.skip))
-            .number(self.lambda, 8)
     }
 }
 
@@ -125,64 +109,9 @@ impl BlockInput {
     }
 }
 
-pub fn plan_case(random: &mut Random) -> Case {
-    let input = block_input(random);
-    let plan = input.ask();
-    let case = input.around.settings(Case::default().byte(input.level));
-    let mut case = case
-        .bytes(&input.target())
-        .bytes(&input.predictor())
-        .number(plan.bits, 4)
-        .number(plan.sse, 4);
-    for node in flat_tree(&plan.root, input.level) {
-        case = node_fields(case, node);
-    }
-    case
-}
-
 /// A block of a macroblock.
 pub fn cut(samples: &[u8; 256], left: usize, top: usize, width: usize, height: usize) -> Vec<u8> {
     (0..width * height)
         .map(|place| samples[(top + place / width) * 16 + left + place % width])
         .collect()
-}
-
-/// The tree's blocks, numbered level by level from the root: the parts of
-/// block i are 2i+1 and 2i+2; nothing where the tree does not reach.
-fn flat_tree(root: &TreeNode, level: usize) -> Vec<Option<&TreeNode>> {
-    let mut flat = vec![None; (2 << level) - 1];
-    flat[0] = Some(root);
-    for place in 0..flat.len() / 2 {
-        if let Some(TreeNode::Split(first, second)) = flat[place] {
-            flat[2 * place + 1] = Some(first);
-            flat[2 * place + 2] = Some(second);
-        }
-    }
-    flat
-}
-
-/// Ten bytes: kind (0 not reached, 1 split, 2 skip, 3 coded) and the leaf.
-fn node_fields(case: Case, node: Option<&TreeNode>) -> Case {
-    let without_leaf = |case: Case, kind| case.byte(kind).bytes(&[0; 9]);
-    match node {
-        None => without_leaf(case, 0),
-        Some(TreeNode::Split(..)) => without_leaf(case, 1),
-        Some(TreeNode::Leaf(choice)) => leaf_fields(case, &choice.code),
-    }
-}
-
-pub fn emit_case(random: &mut Random) -> Case {
-    let input = plan_input(random);
-    let mut writer = BitWriter::new();
-    emit_macroblock(&mut writer, &input.plan(), HALVES[input.half]);
-    let bit_count = writer.bits_written();
-    input
-        .case()
-        .number(bit_count as u32, 4)
-        .bytes(&writer.into_bytes())
-}
-
-pub fn reconstruction_case(random: &mut Random) -> Case {
-    let input = plan_input(random);
-    input.case().bytes(&plan_reconstruction(&input.plan()))
 }

@@ -1,8 +1,8 @@
 -- The contract of the writer that tells, its answer as the struct. Assumes nothing.
 use Rattle.cabunlis.specs.HostLaws.{host-stated}
 use borrow.Author.Needs.{needs}
-use Rattle.cabunlis.proofs.planes.cabunlis_encode_inter_plane_stated.Statement.{statement}
-use Rattle.cabunlis.proofs.planes.cabunlis_encode_inter_plane_stated.Tie as tie
+use Rattle.cabunlis.proofs.planes.cabunlis1_encode_inter_plane_stated.Statement.{statement}
+use Rattle.cabunlis.proofs.planes.cabunlis1_encode_inter_plane_stated.Tie as tie
 
 tries-four-requires : tie.Need-tries-four-requires
 tries-four-requires c κs = search needs
@@ -33,8 +33,8 @@ returns c =
     let e = c .before .before .before .before .before .before .before .before .before .before .before in
     host-stated _ _ _ _ _ _ _ _ _ _ _ _ _ (rw (e .before .before .before .before .before .before .tries-four .ensures) at (e .encode-inter-plane-stated .ensures)) (c .answer .ensures)
 
-pub cabunlis-encode-inter-plane-stated-spec : {M : Type 1} → statement M
-cabunlis-encode-inter-plane-stated-spec =
+pub cabunlis1-encode-inter-plane-stated-spec : {M : Type 1} → statement M
+cabunlis1-encode-inter-plane-stated-spec =
     tie.close
     (tie.spec
     tries-four-requires

@@ -1,11 +1,10 @@
-//! Calls of the motion functions on random inputs.
+//! Random inputs of the motion search, and what the original answers.
 
-use crate::case::Case;
 use crate::make::clamp;
 use crate::random::Random;
 use crate::svq1_enc_inter::{MvVisibleWindow, search_motion_vector};
 use crate::svq1_mc::{Svq1ReferencePlane, motion_compensate_block};
-use crate::svq1_motion_predictor::{Neighbours, Svq1Mv, final_motion_vector, predict};
+use crate::svq1_motion_predictor::Svq1Mv;
 
 fn any_vector(random: &mut Random) -> Svq1Mv {
     let reach = random.pick(&[3, 12, 31]);
@@ -14,30 +13,6 @@ fn any_vector(random: &mut Random) -> Svq1Mv {
         _ => random.between(-reach, reach) as i32,
     };
     Svq1Mv::new(component(random), component(random))
-}
-
-pub fn predict_case(random: &mut Random) -> Case {
-    let mut case = Case::default();
-    let mut neighbours = [None; 3];
-    for neighbour in &mut neighbours {
-        let vector = any_vector(random);
-        if random.one_in(3) {
-            case = case.byte(0).vector(Svq1Mv::ZERO);
-        } else {
-            *neighbour = Some(vector);
-            case = case.byte(1).vector(vector);
-        }
-    }
-    let [left, top, top_right] = neighbours;
-    case.vector(predict(Neighbours::new(left, top, top_right)))
-}
-
-pub fn final_case(random: &mut Random) -> Case {
-    let (predictor, difference) = (any_vector(random), any_vector(random));
-    Case::default()
-        .vector(predictor)
-        .vector(difference)
-        .vector(final_motion_vector(predictor, difference.x, difference.y))
 }
 
 pub struct Canvas {
@@ -140,24 +115,6 @@ impl SearchInput {
             MvVisibleWindow::for_block(left, top, side, self.width, self.height),
         )
     }
-
-    pub fn case(&self) -> Case {
-        Case::default()
-            .number(self.width as u32, 2)
-            .number(self.height as u32, 2)
-            .bytes(&self.canvas.samples)
-            .byte(self.side)
-            .number(self.left as u32, 2)
-            .number(self.top as u32, 2)
-            .vector(self.predictor)
-            .byte(usize::from(self.radius))
-            .bytes(&self.target)
-    }
-}
-
-pub fn search_case(random: &mut Random) -> Case {
-    let input = search_input(random);
-    input.case().vector(input.ask())
 }
 
 /// A size that rounds up to `padded`.
@@ -167,19 +124,4 @@ fn visible(random: &mut Random, padded: usize) -> usize {
     } else {
         padded
     }
-}
-
-pub fn compensate_case(random: &mut Random) -> Case {
-    let canvas = any_canvas(random);
-    let left = 8 * random.below(canvas.stride / 8);
-    let top = 8 * random.below(canvas.rows / 8);
-    let vector = any_vector(random);
-    Case::default()
-        .number(canvas.stride as u32, 2)
-        .number(canvas.rows as u32, 2)
-        .bytes(&canvas.samples)
-        .number(left as u32, 2)
-        .number(top as u32, 2)
-        .vector(vector)
-        .bytes(&canvas.moved(8, left, top, vector))
 }

@@ -1,8 +1,8 @@
 -- The writer's contract, its answer as the struct. Assumes nothing.
 use Rattle.cabunlis.specs.HostLaws.{host-written}
 use borrow.Author.Needs.{needs}
-use Rattle.cabunlis.proofs.planes.cabunlis_encode_inter_plane.Statement.{statement}
-use Rattle.cabunlis.proofs.planes.cabunlis_encode_inter_plane.Tie as tie
+use Rattle.cabunlis.proofs.planes.cabunlis1_encode_inter_plane.Statement.{statement}
+use Rattle.cabunlis.proofs.planes.cabunlis1_encode_inter_plane.Tie as tie
 
 tries-four-requires : tie.Need-tries-four-requires
 tries-four-requires c κs = search needs
@@ -30,8 +30,8 @@ returns c =
     let e = c .before .before .before .before .before .before .before .before .before in
     host-written _ _ _ _ _ _ _ _ _ _ _ (rw (e .before .before .before .before .before .tries-four .ensures) at (e .encode-inter-plane .ensures)) (c .answer .ensures)
 
-pub cabunlis-encode-inter-plane-spec : {M : Type 1} → statement M
-cabunlis-encode-inter-plane-spec =
+pub cabunlis1-encode-inter-plane-spec : {M : Type 1} → statement M
+cabunlis1-encode-inter-plane-spec =
     tie.close
     (tie.spec
     tries-four-requires

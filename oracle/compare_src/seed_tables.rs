@@ -1,0 +1,23 @@
+//! The book and the codebook of a seed.
+
+use crate::make::{any_book, any_codebook};
+use crate::random::Random;
+use crate::stream::unsigned;
+use crate::tables;
+
+pub struct SeedTables {
+    pub book: Vec<u8>,
+    pub codebook: Vec<u8>,
+}
+
+/// Loads them for the rest of the process.
+pub fn load_tables(seed: u64) -> SeedTables {
+    let mut random = Random::new(seed);
+    let book = any_book(&mut random);
+    let codebook = any_codebook(&mut random);
+    tables::load(&book, &codebook);
+    SeedTables {
+        book: book.to_bytes(),
+        codebook: unsigned(&codebook),
+    }
+}
