@@ -163,7 +163,7 @@ cut-same f = rw (job-cut (f .job)) (go (jobIn (f .job)) (job-small (f .job)))
     go none small = refl
     go (some j) small =
         let s = small j refl in
-        text-by _ _ _ _ (cut f .job) (f .job) j
+        text-by (cut f .book) (cut f .codebook) (cut f .source) (cut f .reference) (cut f .job) (f .job) j
         ∙ book-cut j (s .0) (s .1) (f .book) (f .codebook) (f .source) (f .reference) (f .job) (cut f .codebook) (cut f .source) (cut f .reference)
         ∙ codebook-cut j (s .0) (s .1) (f .book) (f .codebook) (f .source) (f .reference) (f .job) (f .book) (cut f .source) (cut f .reference)
         ∙ source-cut j (s .0) (s .1) (f .book) (f .codebook) (f .source) (f .reference) (f .job) (f .book) (f .codebook) (cut f .reference)

@@ -22,7 +22,7 @@ use Rattle.plane.specs.Plane.{count}
 use Rattle.plane.specs.Refusals.{lengthsRefusal, slicesRefusal, writeRefusal}
 use Rattle.plane.specs.RefusalsLaws.{lent-passes, write-passes}
 use Rattle.listing_job.specs.Job.{Job, mostWidth, mostHeight}
-use Rattle.listing_text.specs.Listing.{Files, givenOf, taskOf, filesRefusalBy, filesRefusal, noSlices, planeText, refusedText, jobText}
+use Rattle.listing_text.specs.Listing.{Files, givenOf, taskOf, filesRefusalBy, filesRefusal, outputBytes, noSlices, planeText, refusedText, jobText}
 use Rattle.listing_text.specs.Lines.{Put}
 use Rattle.listing_text.specs.Listed.{listingRoom, mostBlocks, filesBy, FilesChecked, Listable}
 
@@ -99,7 +99,7 @@ module _ (f : Files) (j : Job) where
       (lent-passes g (noSlices g) (length out) 0 (or-next _ (bookRefusal (fileBook (f .book))) (p .1 .1 .1 .0) ∙ book) slices-pass start)
 
   pub files-listable : j .width ≤ mostWidth → j .height ≤ mostHeight → filesRefusal f j ≡ 0 → Listable g t
-  files-listable a b e = record { wide = a; high = b; passes = files-pass _ (lit≤ tt) e }
+  files-listable a b e = record { wide = a; high = b; passes = files-pass (replicate outputBytes 0) (lit≤ tt) e }
 
   -- what is printed
   pub put-job-refused : (n : ℕ) → n ≡ filesRefusal f j → (n ≡ 0 → ⊥) → (text : List ℕ) (r : ℕ) (after : List ℕ) → Put 29 text 0 (refusedText n) r after → Put listingRoom text 0 (jobText f (some j)) r after

@@ -60,10 +60,17 @@ unfolding writeRefusalBy
 refusal-most g t out start s =
     first-most (sourceLinks (g .width) (g .height) (length (t .source)) (g .reference) ++ lentLinks g (length out) start (lengthsOf s)) (
       unless-most (sideOk (g .width) && sideOk (g .height)) 1 (omega arith),
-      unless-most (eqb (length (t .source)) (g .width * g .height)) 2 (omega arith),
-      canvas-most (g .width) (g .height) (g .reference),
-      data-most (g .book) (g .codebook),
-      slices-most g s,
-      unless-most (leb (length out) (2 ^ 28) && leb start (8 * length out)) 21 (omega arith),
-      tt,
+      (
+        unless-most (eqb (length (t .source)) (g .width * g .height)) 2 (omega arith),
+        (
+          canvas-most (g .width) (g .height) (g .reference),
+          (
+            data-most (g .book) (g .codebook),
+            (
+              slices-most g s,
+              (unless-most (leb (length out) (2 ^ 28) && leb start (8 * length out)) 21 (omega arith), tt),
+            ),
+          ),
+        ),
+      ),
     )

@@ -112,7 +112,15 @@ fn choose_for(
         a,
         room,
     );
-    let more = four_motion(canvas, reference, target, near, k, settings.radius, settings.four);
+    let more = four_motion(
+        canvas,
+        reference,
+        target,
+        near,
+        k,
+        settings.radius,
+        settings.four,
+    );
     try_motion(
         canvas,
         reference,

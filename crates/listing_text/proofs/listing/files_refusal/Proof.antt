@@ -11,13 +11,13 @@ source-refusal-requires c κs = search needs
 
 returns : tie.Need-returns
 returns c =
-    let a = c .before .before .before .args in
+    let a = c .before .before .before .before .before .args in
     let v : Canvas = record { samples = a .reference .now; stride = a .canvas .stride; rows = a .canvas .rows } in
     files-plane (a .canvas .width) (a .canvas .height) v (a .source) (a .codebook) (a .file .now) _ _ (c .before .source-refusal .ensures) (c .if1 .taken)
 
 returns-2 : tie.Need-returns-2
 returns-2 c =
-    let a = c .before .before .before .before .args in
+    let a = c .before .before .before .before .before .before .args in
     let v : Canvas = record { samples = a .reference .now; stride = a .canvas .stride; rows = a .canvas .rows } in
     files-codebook (a .canvas .width) (a .canvas .height) v (a .source) (a .codebook) (a .file .now) (sym (c .before .before .source-refusal .ensures) ∙ c .before .if1 .left) _ (c .if2 .taken)
 
@@ -29,7 +29,7 @@ same-length c = search needs
 
 returns-3 : tie.Need-returns-3
 returns-3 c =
-    let s = c .before .before .before .before .before .before .before .before in
+    let s = c .before .before .before .before .before .before .before .before .before .before in
     let a = s .args in
     let v : Canvas = record { samples = a .reference .now; stride = a .canvas .stride; rows = a .canvas .rows } in
     files-book (a .canvas .width) (a .canvas .height) v (a .source) (a .codebook) (a .file .now) (sym (c .before .before .before .before .before .before .source-refusal .ensures) ∙ c .before .before .before .before .before .if1 .left) (a .book .now) _ _ (c .before .before .before .before .if2 .left) (s .pre) (c .before .before .read-book-file .ensures)
