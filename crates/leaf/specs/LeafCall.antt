@@ -30,7 +30,7 @@ abbrev pub halfAt : ℕ → Svq1Half
 halfAt zero = Intra
 halfAt (suc n) = Inter
 
--- the terms that these numbers are
+-- the terms by a call's half, cap and flag
 abbrev pub termsBy : ℕ → ℕ → Bool → LeafTerms
 termsBy half cap allowSkip = record { half = halfAt half; cap = cap; skip = allowSkip }
 

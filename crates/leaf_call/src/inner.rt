@@ -16,7 +16,7 @@ fn half_of(half: u8) -> Svq1Half
     }
 }
 
-// The terms of a call's numbers.
+// The terms by a call's half, cap and flag, which 8 passes.
 pub fn terms_of(half: u8, cap: u8, skip: bool) -> LeafTerms
     requires { ⌜ half < 2 ⌝ }
     ensures { λ r. ⌜ r ≡ termsBy half cap skip ⌝ }

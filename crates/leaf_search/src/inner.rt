@@ -270,7 +270,7 @@ fn cap_at(d: usize, cap: usize) -> usize
     if d < 4 { cap } else { 0 }
 }
 
-// The terms with no more than these.
+// The terms at level d: their cap as far as stages are open there.
 fn terms_at(d: usize, mut terms: LeafTerms) -> LeafTerms
     ensures { λ r. ⌜ r ≡ termsAt d terms ⌝ }
 {
