@@ -18,13 +18,14 @@ use Rattle.book.specs.declared.svq1_vlc.Svq1Half.{Svq1Half}
 use Rattle.book.specs.declared.svq1_vlc.Svq1Half.the-variants.{Intra, Inter}
 use Rattle.codebook.specs.Codebook.{pageOffset, vectorAt}
 use Rattle.codebook.specs.Mean.{residual, meanOf}
-use Rattle.leaf.specs.Leaf.{skip, coded, Vectors, sse, plus, seeded, staged, samples, leafShown, argmin, stageError, bestVector, stages, codedLeaf, leafRule, capAt}
+use Rattle.leaf.specs.Leaf.{skip, coded, Vectors, sse, plus, seeded, staged, samples, leafShown, argmin, stageError, bestVector, stages, codedLeaf, leafRule, capAt, termsAt}
 use Rattle.leaf.specs.LeafLaws.{Small, argmin-le, stages-few, stages-small}
 use Rattle.leaf.specs.Raised.{vectorsIn}
 use Rattle.codebook.specs.Raised.{raisedCodebook, pageStart}
 use Rattle.leaf.specs.PagesLaws.{vectors-raised}
 use Rattle.leaf.specs.Inner.{Chosen, LeafFound}
 use Rattle.leaf.specs.declared.svq1_enc_leaf.LeafCode.{LeafCode}
+use Rattle.leaf.specs.declared.svq1_enc_leaf.LeafTerms.{LeafTerms}
 
 -- the same sixteen vectors in each of the first n stages
 abbrev pub Agree : ℕ → Vectors → Vectors → Type 0
@@ -74,31 +75,36 @@ module _ (n : ℕ) (vs ws : Vectors) (same : Agree n vs ws) where
   unfolding leafShown
   shown-same p m js h l = ap samples (staged-same js 0 (seeded m p) (omega arith) l)
 
-  module _ (h : Svq1Half) (t p : List ℕ) where
-    pub coded-same : codedLeaf h vs n t p ≡ codedLeaf h ws n t p
-    unfolding codedLeaf
-    coded-same = ap (coded (meanOf h (residual t p) (length t))) (stages-same t n 0 (seeded (meanOf h (residual t p) (length t)) p) (omega arith))
+module _ (terms : LeafTerms) (vs ws : Vectors) (same : Agree (terms .cap) vs ws) (t p : List ℕ) where
+  abbrev n : ℕ
+  n = terms .cap
 
-    pub coded-shown-same : leafShown vs p (codedLeaf h vs n t p) ≡ leafShown ws p (codedLeaf h ws n t p)
-    unfolding codedLeaf
-    coded-shown-same =
-        let m = meanOf h (residual t p) (length t) in
-        ap (leafShown vs p) coded-same
-        ∙ shown-same p m (stages ws t n 0 (seeded m p)) (stages-few ws t n 0 (seeded m p)) (stages-small ws t n 0 (seeded m p))
+  pub coded-same : codedLeaf terms vs t p ≡ codedLeaf terms ws t p
+  unfolding codedLeaf
+  coded-same =
+      let m = meanOf (terms .half) (residual t p) (length t) in
+      ap (coded m) (stages-same n vs ws same t n 0 (seeded m p) (omega arith))
 
-    -- the leaf that the rules choose, and what it shows
-    pub rule-same : (allowSkip : Bool) → leafRule h vs n allowSkip t p ≡ leafRule h ws n allowSkip t p
-    unfolding leafRule
-    rule-same allowSkip = rw (coded-shown-same, coded-same)
+  pub coded-shown-same : leafShown vs p (codedLeaf terms vs t p) ≡ leafShown ws p (codedLeaf terms ws t p)
+  unfolding codedLeaf
+  coded-shown-same =
+      let m = meanOf (terms .half) (residual t p) (length t) in
+      ap (leafShown vs p) coded-same
+      ∙ shown-same n vs ws same p m (stages ws t n 0 (seeded m p)) (stages-few ws t n 0 (seeded m p)) (stages-small ws t n 0 (seeded m p))
 
-    pub rule-shown-same : (allowSkip : Bool) → leafShown vs p (leafRule h vs n allowSkip t p) ≡ leafShown ws p (leafRule h ws n allowSkip t p)
-    unfolding leafRule
-    rule-shown-same allowSkip =
-        rw coded-shown-same (go (allowSkip && leb (sse t p) (sse t (leafShown ws p (codedLeaf h ws n t p)))))
-      where
-        go : (b : Bool) → leafShown vs p (pick b skip (codedLeaf h vs n t p)) ≡ leafShown ws p (pick b skip (codedLeaf h ws n t p))
-        go true = skip-same p
-        go false = coded-shown-same
+  -- the leaf that the rules choose, and what it shows
+  pub rule-same : leafRule terms vs t p ≡ leafRule terms ws t p
+  unfolding leafRule
+  rule-same = rw (coded-shown-same, coded-same)
+
+  pub rule-shown-same : leafShown vs p (leafRule terms vs t p) ≡ leafShown ws p (leafRule terms ws t p)
+  unfolding leafRule
+  rule-shown-same =
+      rw coded-shown-same (go (terms .skip && leb (sse t p) (sse t (leafShown ws p (codedLeaf terms ws t p)))))
+    where
+      go : (b : Bool) → leafShown vs p (pick b skip (codedLeaf terms vs t p)) ≡ leafShown ws p (pick b skip (codedLeaf terms ws t p))
+      go true = skip-same n vs ws same p
+      go false = coded-shown-same
 
 -- ---- the raised codebook
 -- a level's open stages hold the same vectors in the codebook and in its copy; at L4 and L5 no stage is open
@@ -124,17 +130,16 @@ page-room Inter (suc (suc (suc zero))) cap most = omega arith
 page-room h (suc (suc (suc (suc d)))) cap most = rw (le-ltb (suc (suc (suc (suc d)))) 4 (omega arith)) (omega arith)
 
 -- A LEAF FOUND in the copy is the leaf by the codebook
-pub leaf-found : (codebook : List ℕ) → Bytes codebook → (h : Svq1Half) (d cap : ℕ) (allowSkip : Bool) (t p : List ℕ) (code : LeafCode) (js : List ℕ) (e : ℕ) (out : List ℕ)
-    → cap ≤ 6 → length t ≡ area d → Chosen h t p (raisedCodebook codebook) (pageStart h d) (capAt d cap) allowSkip code js e out
-    → LeafFound codebook h d cap allowSkip t p code js e out
-leaf-found codebook bytes h d cap allowSkip t p code js e out most size c =
-    let n = capAt d cap in
-    let vs = vectorsIn (raisedCodebook codebook) (pageStart h d) (length t) in
-    let ws = vectorAt codebook h d in
-    let same : Agree n vs ws = rw size (page-agrees codebook bytes h d cap most) in
-    let shown = rule-shown-same n vs ws same h t p allowSkip in
+pub leaf-found : (codebook : List ℕ) → Bytes codebook → (terms : LeafTerms) (d : ℕ) (t p : List ℕ) (code : LeafCode) (js : List ℕ) (e : ℕ) (out : List ℕ)
+    → terms .cap ≤ 6 → length t ≡ area d → Chosen (termsAt d terms) t p (raisedCodebook codebook) (pageStart (terms .half) d) code js e out
+    → LeafFound codebook terms d t p code js e out
+leaf-found codebook bytes terms d t p code js e out most size c =
+    let vs = vectorsIn (raisedCodebook codebook) (pageStart (terms .half) d) (length t) in
+    let ws = vectorAt codebook (terms .half) d in
+    let same : Agree (capAt d (terms .cap)) vs ws = rw size (page-agrees codebook bytes (terms .half) d (terms .cap) most) in
+    let shown = rule-shown-same (termsAt d terms) vs ws same t p in
     record {
-      leaf = c .leaf ∙ rule-same n vs ws same h t p allowSkip;
+      leaf = c .leaf ∙ rule-same (termsAt d terms) vs ws same t p;
       erring = c .erring ∙ ap (sse t) shown;
       shown = c .shown ∙ shown;
       clean = c .clean;

@@ -6,8 +6,8 @@ use lib.Dec.{leb, ltb}
 use lib.ListN.{length}
 use lib.IntN.{ℤ, pos, _+ℤ_}
 use Rattle.bits.specs.Basics.{pick, gap}
-use Rattle.book.specs.declared.svq1_vlc.Svq1Half.{Svq1Half}
 use Rattle.codebook.specs.Mean.{residual, meanOf, saturate}
+use Rattle.leaf.specs.declared.svq1_enc_leaf.LeafTerms.{LeafTerms}
 
 -- skip, or a mean and the indices of its stages' vectors
 pub data Leaf : Type 0 where
@@ -74,18 +74,21 @@ stages vs t (suc k) s z =
     let j = bestVector vs t s z in
     pick (stays (sse t (samples z)) (stageError vs t s z j)) (j ∷ stages vs t k (suc s) (plus z (vs s j))) []
 
--- the coded leaf for the target t over the predictor p, with at most cap stages
-unfoldable pub codedLeaf : Svq1Half → Vectors → ℕ → List ℕ → List ℕ → Leaf
-codedLeaf h vs cap t p =
-    let m = meanOf h (residual t p) (length t) in
-    coded m (stages vs t cap 0 (seeded m p))
+-- the coded leaf for the target t over the predictor p: a mean of the terms' half, and at most as many stages as their cap
+unfoldable pub codedLeaf : LeafTerms → Vectors → List ℕ → List ℕ → Leaf
+codedLeaf terms vs t p =
+    let m = meanOf (terms .half) (residual t p) (length t) in
+    coded m (stages vs t (terms .cap) 0 (seeded m p))
 
 -- the choice: skip, where it is allowed and its error is no larger, else the coded leaf
-unfoldable pub leafRule : Svq1Half → Vectors → ℕ → Bool → List ℕ → List ℕ → Leaf
-leafRule h vs cap allowSkip t p =
-    let c = codedLeaf h vs cap t p in
-    pick (allowSkip && leb (sse t p) (sse t (leafShown vs p c))) skip c
+unfoldable pub leafRule : LeafTerms → Vectors → List ℕ → List ℕ → Leaf
+leafRule terms vs t p =
+    let c = codedLeaf terms vs t p in
+    pick (terms .skip && leb (sse t p) (sse t (leafShown vs p c))) skip c
 
--- L4 and L5 use no stages
+-- L4 and L5 use no stages: the cap and the terms at level d
 abbrev pub capAt : ℕ → ℕ → ℕ
 capAt d cap = pick (ltb d 4) cap 0
+
+abbrev pub termsAt : ℕ → LeafTerms → LeafTerms
+termsAt d terms = record { half = terms .half; cap = capAt d (terms .cap); skip = terms .skip }

@@ -11,8 +11,9 @@ use Rattle.book.specs.Level.{area}
 use Rattle.book.specs.declared.svq1_vlc.Svq1Half.{Svq1Half}
 use Rattle.book.specs.declared.svq1_vlc.Svq1Half.the-variants.{Intra, Inter}
 use Rattle.codebook.specs.Codebook.{vectorAt}
-use Rattle.leaf.specs.Leaf.{Leaf, sse, leafShown, leafRule, capAt}
+use Rattle.leaf.specs.Leaf.{Leaf, sse, leafShown, leafRule, termsAt}
 use Rattle.leaf.specs.LeafBits.{leafBits}
+use Rattle.leaf.specs.declared.svq1_enc_leaf.LeafTerms.{LeafTerms}
 
 -- what a leaf or a plan is asked with: level and half as numbers, so that unknown ones can be refused; 0 is the intra half, 1 the inter half
 pub record BlockIn : Type 0 where
@@ -28,6 +29,13 @@ pub record BlockIn : Type 0 where
 abbrev pub halfAt : ℕ → Svq1Half
 halfAt zero = Intra
 halfAt (suc n) = Inter
+
+-- the terms by a call's half, cap and flag
+abbrev pub termsBy : ℕ → ℕ → Bool → LeafTerms
+termsBy half cap allowSkip = record { half = halfAt half; cap = cap; skip = allowSkip }
+
+abbrev pub termsOf : BlockIn → LeafTerms
+termsOf b = termsBy (b .half) (b .cap) (b .allowSkip)
 
 -- 8: unknown level or half, a block of wrong length, a cap above 6, skip allowed with the intra half
 unfoldable pub blockOk : BlockIn → Bool
@@ -48,12 +56,12 @@ pub record LeafChosen : Type 0 where
 
 unfoldable pub leafChosen : BlockIn → LeafChosen
 leafChosen b =
-    let h = halfAt (b .half) in
-    let vs = vectorAt (b .codebook) h (b .level) in
-    let l = leafRule h vs (capAt (b .level) (b .cap)) (b .allowSkip) (b .target) (b .predictor) in
+    let terms = termsOf b in
+    let vs = vectorAt (b .codebook) (terms .half) (b .level) in
+    let l = leafRule (termsAt (b .level) terms) vs (b .target) (b .predictor) in
     record {
       leaf = l;
-      bits = length (leafBits (tablesOf (b .book) h) (b .level) l);
+      bits = length (leafBits (tablesOf (b .book) (terms .half)) (b .level) l);
       error = sse (b .target) (leafShown vs (b .predictor) l);
       shown = leafShown vs (b .predictor) l;
     }

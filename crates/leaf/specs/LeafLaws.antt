@@ -19,8 +19,9 @@ use Rattle.book.specs.declared.svq1_vlc.Svq1Half.{Svq1Half}
 use Rattle.book.specs.declared.svq1_vlc.Svq1Half.the-variants.{Intra, Inter}
 use Rattle.codebook.specs.Codebook.{vectorAt}
 use Rattle.codebook.specs.Mean.{residual, rounded, clampMean, meanOf, meanPosition, meanAt, saturate}
-use Rattle.leaf.specs.Leaf.{Leaf, skip, coded, Vectors, sse, plus, seeded, staged, samples, leafShown, argmin, stageError, bestVector, stages, codedLeaf, leafRule, capAt}
+use Rattle.leaf.specs.Leaf.{Leaf, skip, coded, Vectors, sse, plus, seeded, staged, samples, leafShown, argmin, stageError, bestVector, stages, codedLeaf, leafRule, capAt, termsAt}
 use Rattle.leaf.specs.LeafBitsLaws.{Allowed}
+use Rattle.leaf.specs.declared.svq1_enc_leaf.LeafTerms.{LeafTerms}
 
 -- ---- where the error is 0 already no stage stays
 pub stages-none : (vs : Vectors) (t : List ℕ) (k s : ℕ) (z : List ℤ) → sse t (samples z) ≡ 0 → stages vs t k s z ≡ []
@@ -29,10 +30,10 @@ stages-none vs t zero s z e = refl
 stages-none vs t (suc k) s z e = rw (e, le-ltb (stageError vs t s z (bestVector vs t s z)) 0 zero-le)
 
 -- so a block that its mean meets exactly is coded by the mean alone
-pub coded-exact : (h : Svq1Half) (vs : Vectors) (cap : ℕ) (t p : List ℕ) (m : ℤ) → meanOf h (residual t p) (length t) ≡ m → sse t (samples (seeded m p)) ≡ 0
-    → codedLeaf h vs cap t p ≡ coded m []
+pub coded-exact : (terms : LeafTerms) (vs : Vectors) (t p : List ℕ) (m : ℤ) → meanOf (terms .half) (residual t p) (length t) ≡ m → sse t (samples (seeded m p)) ≡ 0
+    → codedLeaf terms vs t p ≡ coded m []
 unfolding codedLeaf
-coded-exact h vs cap t p m e z = rw (e, stages-none vs t cap 0 (seeded m p) z)
+coded-exact terms vs t p m e z = rw (e, stages-none vs t (terms .cap) 0 (seeded m p) z)
 
 -- ---- the stages chosen
 pick-le : (q : Bool) (a b k : ℕ) → a ≤ k → b ≤ k → pick q a b ≤ k
@@ -106,31 +107,32 @@ capped d cap h =
     elim (decLt d 4)
     [ yes a ↦ (rw (lt-ltb d 4 a) h, λ b. absurd (omega arith)) | no a ↦ (rw (le-ltb d 4 (omega arith)) (omega arith), λ b. rw (le-ltb d 4 b)) ]
 
-module _ (T : Tables) (vs : Vectors) (d cap : ℕ) (t p : List ℕ) (most : cap ≤ 6) where
-  pub coded-allowed : Allowed T d (codedLeaf (T .half) vs (capAt d cap) t p)
+-- by tables of the terms' half
+module _ (T : Tables) (vs : Vectors) (d : ℕ) (terms : LeafTerms) (t p : List ℕ) (same : T .half ≡ terms .half) (most : terms .cap ≤ 6) where
+  pub coded-allowed : Allowed T d (codedLeaf (termsAt d terms) vs t p)
   unfolding codedLeaf meanOf
   coded-allowed =
       let z = rounded (residual t p) (length t) in
-      let m = clampMean (T .half) z in
-      let n = capAt d cap in
-      let c = capped d cap most in
+      let m = clampMean (terms .half) z in
+      let n = capAt d (terms .cap) in
+      let c = capped d (terms .cap) most in
       let few = stages-few vs t n 0 (seeded m p) in
       record {
-        place = clamp-place (T .half) z;
-        back = clamp-back (T .half) z;
+        place = rw same (clamp-place (terms .half) z);
+        back = rw same (clamp-back (terms .half) z);
         few = omega (arith, c .0);
         bare = λ b. let e = c .1 b in omega arith;
         small = stages-small vs t n 0 (seeded m p);
       }
 
-  pub rule-allowed : (allowSkip : Bool) → (allowSkip ≡ true → T .half ≡ Inter) → Allowed T d (leafRule (T .half) vs (capAt d cap) allowSkip t p)
+  pub rule-allowed : (terms .skip ≡ true → terms .half ≡ Inter) → Allowed T d (leafRule (termsAt d terms) vs t p)
   unfolding leafRule
-  rule-allowed true o = go (leb (sse t p) (sse t (leafShown vs p (codedLeaf (T .half) vs (capAt d cap) t p))))
+  rule-allowed o = go (terms .skip) (leb (sse t p) (sse t (leafShown vs p (codedLeaf (termsAt d terms) vs t p)))) o
     where
-      go : (q : Bool) → Allowed T d (pick (true && q) skip (codedLeaf (T .half) vs (capAt d cap) t p))
-      go true = o refl
-      go false = coded-allowed
-  rule-allowed false o = coded-allowed
+      go : (f q : Bool) → (f ≡ true → terms .half ≡ Inter) → Allowed T d (pick (f && q) skip (codedLeaf (termsAt d terms) vs t p))
+      go true true o = same ∙ o refl
+      go true false o = coded-allowed
+      go false q o = coded-allowed
 
 -- ---- as many samples as the block has, all of them bytes
 -- every vector has n samples

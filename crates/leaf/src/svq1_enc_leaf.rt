@@ -1,7 +1,15 @@
-// A leaf as it is coded.
+// A leaf as it is coded, and the terms of its search.
+use book::svq1_vlc::Svq1Half;
 
 // The code of a leaf: skip, or a mean with a stage count; its stage indices lie beside it.
 pub enum LeafCode {
     Skip,
     Coded { mean: i16, count: u8 },
+}
+
+// Under what a leaf is searched: which half's tables and vectors, at most how many stages, whether it may be skipped.
+pub struct LeafTerms {
+    pub half: Svq1Half,
+    pub cap: usize,
+    pub skip: bool,
 }

@@ -14,11 +14,11 @@ use Rattle.leaf.specs.LeafBits.{leafBits}
 use Rattle.leaf.specs.Lent.{Clean}
 use Rattle.leaf.specs.Inner.{LeafFound}
 use Rattle.book.specs.Book.{tablesOf, codebookBytes, bookRefusal}
-use Rattle.book.specs.declared.svq1_vlc.Svq1Half.{Svq1Half}
 use Rattle.book.specs.declared.svq1_vlc.Svq1Half.the-variants.{Inter}
 use Rattle.leaf_call.specs.declared.svq1_enc_leaf.LeafAnswer.{LeafAnswer}
 use Rattle.leaf.specs.declared.svq1_enc_leaf.LeafCode.{LeafCode}
 use Rattle.leaf.specs.declared.svq1_enc_leaf.LeafCode.the-variants.{Skip}
+use Rattle.leaf.specs.declared.svq1_enc_leaf.LeafTerms.{LeafTerms}
 
 -- 8 by the numbers of a call: level, half, target and predictor lengths, cap, and whether skip is allowed
 unfoldable pub blockFits : ℕ → ℕ → ℕ → ℕ → ℕ → Bool → Bool
@@ -46,18 +46,18 @@ pub record LeafAnswered (b : BlockIn) (r : LeafAnswer) : Type 0 where
   pub clean : Clean (r .code) (r .stages)
 
 -- what an accepted call asks of its parts: a book and a codebook that pass, room for the copy, and a block of its level
-pub record Searchable (book codebook raised : List ℕ) (d : ℕ) (h : Svq1Half) (t p : List ℕ) (cap : ℕ) (allowSkip : Bool) : Type 0 where
+pub record Searchable (book codebook raised : List ℕ) (d : ℕ) (terms : LeafTerms) (t p : List ℕ) : Type 0 where
   pub known : bookRefusal book ≡ 0
   pub codebook-size : length codebook ≡ codebookBytes
   pub room : length raised ≡ codebookBytes
   pub target : length t ≡ area d
   pub predictor : length p ≡ area d
-  pub stages : cap ≤ 6
-  pub skips : allowSkip ≡ true → h ≡ Inter
+  pub stages : terms .cap ≤ 6
+  pub skips : terms .skip ≡ true → terms .half ≡ Inter
 
 -- and what it finds: the leaf by the codebook, its bits by the book, zeros behind its samples
-pub record Found (book codebook : List ℕ) (d : ℕ) (h : Svq1Half) (t p : List ℕ) (cap : ℕ) (allowSkip : Bool) (r : LeafAnswer) : Type 0 where
+pub record Found (book codebook : List ℕ) (d : ℕ) (terms : LeafTerms) (t p : List ℕ) (r : LeafAnswer) : Type 0 where
   pub accepted : r .refused ≡ 0
-  pub leaf : LeafFound codebook h d cap allowSkip t p (r .code) (r .stages) (r .error) (take (length t) (r .samples))
-  pub counted : r .bits ≡ length (leafBits (tablesOf book h) d (leafOf (r .code) (r .stages)))
+  pub leaf : LeafFound codebook terms d t p (r .code) (r .stages) (r .error) (take (length t) (r .samples))
+  pub counted : r .bits ≡ length (leafBits (tablesOf book (terms .half)) d (leafOf (r .code) (r .stages)))
   pub behind : drop (length t) (r .samples) ≡ drop {A = ℕ} (length t) (replicate 256 0)

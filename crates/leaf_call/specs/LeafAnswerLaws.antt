@@ -13,7 +13,6 @@ use Rattle.bits.specs.BasicsLaws.{both-true, or-none, or-first, or-next, unless
 use Rattle.book.specs.Book.{dataRefusal, bookRefusal, codebookBytes, tablesOf}
 use Rattle.book.specs.BookLaws.{data-passes}
 use Rattle.book.specs.Level.{area}
-use Rattle.book.specs.declared.svq1_vlc.Svq1Half.{Svq1Half}
 use Rattle.book.specs.declared.svq1_vlc.Svq1Half.the-variants.{Inter}
 use Rattle.leaf.specs.LeafBits.{leafBits}
 use Rattle.leaf.specs.Raised.{leafOf}
@@ -22,8 +21,9 @@ use Rattle.leaf.specs.Inner.{LeafFound}
 use Rattle.leaf.specs.LentLaws.{skip-clean}
 use Rattle.leaf.specs.AgreeLaws.{leaf-found}
 use Rattle.leaf_call.specs.declared.svq1_enc_leaf.LeafAnswer.{LeafAnswer}
-use Rattle.leaf.specs.declared.svq1_enc_leaf.LeafCode.{LeafCode}
-use Rattle.leaf.specs.LeafCall.{BlockIn, halfAt, blockOk, blockRefusal, leafChosen, leafAnswer}
+use Rattle.leaf.specs.declared.svq1_enc_leaf.LeafTerms.{LeafTerms}
+use Rattle.leaf_search.specs.declared.svq1_enc_leaf.LeafChoice.{LeafChoice}
+use Rattle.leaf.specs.LeafCall.{BlockIn, halfAt, termsOf, blockOk, blockRefusal, leafChosen, leafAnswer}
 use Rattle.leaf_call.specs.LeafAnswer.{blockFits, refusedAnswer, LeafAnswered}
 use Rattle.leaf_search.specs.LevelLeaf.{LevelChosen}
 
@@ -143,8 +143,8 @@ answer-refused b n e h =
 
 -- what was found, counted, and put at the front of 256 zeros
 pub answer-found : (b : BlockIn) (r : LeafAnswer) → blockRefusal b ≡ 0 → r .refused ≡ 0
-    → LeafFound (b .codebook) (halfAt (b .half)) (b .level) (b .cap) (b .allowSkip) (b .target) (b .predictor) (r .code) (r .stages) (r .error) (take (length (b .target)) (r .samples))
-    → r .bits ≡ length (leafBits (tablesOf (b .book) (halfAt (b .half))) (b .level) (leafOf (r .code) (r .stages)))
+    → LeafFound (b .codebook) (termsOf b) (b .level) (b .target) (b .predictor) (r .code) (r .stages) (r .error) (take (length (b .target)) (r .samples))
+    → r .bits ≡ length (leafBits (tablesOf (b .book) (termsOf b .half)) (b .level) (leafOf (r .code) (r .stages)))
     → drop (length (b .target)) (r .samples) ≡ drop {A = ℕ} (length (b .target)) (replicate 256 0)
     → LeafAnswered b r
 unfolding leafAnswer leafChosen
@@ -157,11 +157,11 @@ answer-found b r e z f c d =
     }
 
 -- what was found in the copy, by the codebook
-pub found-level : (codebook raised : List ℕ) (h : Svq1Half) (d cap : ℕ) (allowSkip : Bool) (t p : List ℕ) (code : LeafCode) (js : List ℕ) (e : ℕ) (out left : List ℕ)
-    → Bytes codebook → raised ≡ raisedCodebook codebook → cap ≤ 6 → length t ≡ area d → LevelChosen h d t p raised cap allowSkip code js e out left
-    → LeafFound codebook h d cap allowSkip t p code js e (take (length t) left)
-found-level codebook raised h d cap allowSkip t p code js e out left bytes copy most size c =
-    leaf-found codebook bytes h d cap allowSkip t p code js e (take (length t) left) most size (rw (← copy) (c .chosen))
+pub found-level : (codebook raised : List ℕ) (terms : LeafTerms) (d : ℕ) (t p : List ℕ) (r : LeafChoice) (out left : List ℕ)
+    → Bytes codebook → raised ≡ raisedCodebook codebook → terms .cap ≤ 6 → length t ≡ area d → LevelChosen terms d t p raised r out left
+    → LeafFound codebook terms d t p (r .code) (r .stages) (r .error) (take (length t) left)
+found-level codebook raised terms d t p r out left bytes copy most size c =
+    leaf-found codebook bytes terms d t p (r .code) (r .stages) (r .error) (take (length t) left) most size (rw (← copy) (c .chosen))
 
 pub half-inter : (h : ℕ) → (h ≡ 0 → ⊥) → Inter ≡ halfAt h
 half-inter zero e = absurd (e refl)

@@ -5,12 +5,12 @@ ghost use lib.ListN.{length};
 ghost use Rattle.book.specs.Level.{levelNumber};
 ghost use Rattle.leaf.specs.LeafCall.{blockRefusal};
 ghost use Rattle.leaf_call.specs.LeafAnswer.{blockFits, refusedAnswer, foundAnswer, LeafAnswered, Searchable, Found};
-use super::inner::half_of;
+use super::inner::terms_of;
 use book::svq1_blocktree::Svq1Level;
-use book::svq1_vlc::Svq1Half;
 use codebook::inner::raise_codebook;
 use leaf::inner::writing::book_leaf_bits;
 use leaf::svq1_enc_leaf::LeafCode;
+use leaf::svq1_enc_leaf::LeafTerms;
 use leaf_search::inner::level_leaf;
 
 // What the search answers: 0 and the leaf, its bits, its error and the samples that it shows; or a refusal's number and nothing else.
@@ -126,29 +126,26 @@ fn searched(
     codebook: &[u8],
     raised: &mut [u8],
     level: Svq1Level,
-    half: Svq1Half,
+    terms: LeafTerms,
     target: &[u8],
     predictor: &[u8],
-    cap: usize,
-    skip: bool,
 ) -> LeafAnswer
-    requires { ⌜ Searchable (now book) (now codebook) (now raised) (levelNumber level) half (now target) (now predictor) cap skip ⌝ }
-    ensures { λ r. ⌜ Found (now (book .entry)) (now (codebook .entry)) (levelNumber level) half (now (target .entry)) (now (predictor .entry)) cap skip r ⌝ }
+    requires { ⌜ Searchable (now book) (now codebook) (now raised) (levelNumber level) terms (now target) (now predictor) ⌝ }
+    ensures { λ r. ⌜ Found (now (book .entry)) (now (codebook .entry)) (levelNumber level) terms (now (target .entry)) (now (predictor .entry)) r ⌝ }
 {
     raise_codebook(codebook, raised);
     let mut sums = [0u16; 256];
     let mut samples = [0u8; 256];
     let c = level_leaf(
         level,
-        half,
+        terms,
         target,
         predictor,
         &mut sums,
         &mut samples,
         raised,
-        cap,
-        skip,
     );
+    let half = terms.half;
     let code = c.code;
     let stages = c.stages;
     let bits = book_leaf_bits(book, level, half, code);
@@ -178,10 +175,8 @@ pub fn search_leaf(
         codebook,
         &mut raised,
         level_of(level),
-        half_of(half),
+        terms_of(half, cap, skip),
         target,
         predictor,
-        cap as usize,
-        skip,
     )
 }

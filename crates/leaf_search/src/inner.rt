@@ -6,7 +6,7 @@ ghost use lib.ListN.{length};
 ghost use lib.IntN.{subℕ};
 ghost use Rattle.book.specs.Level.{levelNumber};
 ghost use Rattle.codebook.specs.Mean.{residual, meanOf, saturate};
-ghost use Rattle.leaf.specs.Leaf.{coded, sse, plus, samples, argmin, capAt};
+ghost use Rattle.leaf.specs.Leaf.{coded, sse, plus, samples, argmin, capAt, termsAt};
 ghost use Rattle.leaf.specs.Raised.{less, sqd, vectorError, Below, Stage, total, Searched};
 ghost use Rattle.leaf.specs.Inner.{Ready, Coding, Chosen};
 ghost use Rattle.leaf_search.specs.LevelLeaf.{LevelReady, LevelChosen};
@@ -16,6 +16,7 @@ use book::svq1_vlc::Svq1Half;
 use codebook::inner::page_start;
 use leaf::inner::reading::signed_mean;
 use leaf::svq1_enc_leaf::LeafCode;
+use leaf::svq1_enc_leaf::LeafTerms;
 use leaf_samples::inner::add_stage;
 use leaf_samples::inner::bias_of;
 use leaf_samples::inner::copy;
@@ -205,22 +206,22 @@ fn search_stages(
 
 // The coded leaf of least error; its samples go into `out`, and `a` is scratch. `book` is the raised codebook, and the page begins at `base`.
 fn search_coded(
-    half: Svq1Half,
+    terms: LeafTerms,
     t: &[u8],
     p: &[u8],
     a: &mut [u16],
     out: &mut [u8],
     book: &[u8],
     base: usize,
-    cap: usize,
 ) -> LeafChoice
-    requires { ⌜ Ready (now t) (now p) (now a) (now out) (now book) base cap ⌝ }
-    ensures { λ r. ⌜ Coding half (now (t .entry)) (now (p .entry)) (now (book .entry)) base cap (r .code) (r .stages) (r .error) (now (out .exit)) ⌝ }
+    requires { ⌜ Ready terms (now t) (now p) (now a) (now out) (now book) base ⌝ }
+    ensures { λ r. ⌜ Coding terms (now (t .entry)) (now (p .entry)) (now (book .entry)) base (r .code) (r .stages) (r .error) (now (out .exit)) ⌝ }
 {
+    let half = terms.half;
     let mean = residual_mean(half, t, p);
     seed(a, p, mean);
     let first = block_sse(t, a, 256);
-    let s = search_stages(t, a, book, base, 256, cap, first);
+    let s = search_stages(t, a, book, base, 256, terms.cap, first);
     let count = s.count;
     let stages = s.index;
     show(a, bias_of(count), out);
@@ -236,21 +237,19 @@ fn search_coded(
 
 // One leaf by the leaf rules; its samples go into `out`, and `a` is scratch.
 pub fn choose_leaf(
-    half: Svq1Half,
+    terms: LeafTerms,
     t: &[u8],
     p: &[u8],
     a: &mut [u16],
     out: &mut [u8],
     book: &[u8],
     base: usize,
-    cap: usize,
-    skip: bool,
 ) -> LeafChoice
-    requires { ⌜ Ready (now t) (now p) (now a) (now out) (now book) base cap ⌝ }
-    ensures { λ r. ⌜ Chosen half (now (t .entry)) (now (p .entry)) (now (book .entry)) base cap skip (r .code) (r .stages) (r .error) (now (out .exit)) ⌝ }
+    requires { ⌜ Ready terms (now t) (now p) (now a) (now out) (now book) base ⌝ }
+    ensures { λ r. ⌜ Chosen terms (now (t .entry)) (now (p .entry)) (now (book .entry)) base (r .code) (r .stages) (r .error) (now (out .exit)) ⌝ }
 {
-    let coded = search_coded(half, t, p, a, out, book, base, cap);
-    if skip {
+    let coded = search_coded(terms, t, p, a, out, book, base);
+    if terms.skip {
         let e = distance_of(t, p);
         if e <= coded.error {
             copy(p, out);
@@ -265,40 +264,37 @@ pub fn choose_leaf(
 }
 
 // The stages open at level d: none at L4 and L5.
-pub fn cap_at(d: usize, cap: usize) -> usize
+fn cap_at(d: usize, cap: usize) -> usize
     ensures { λ r. ⌜ r ≡ capAt d cap ⌝ }
 {
     if d < 4 { cap } else { 0 }
 }
 
+// The terms at level d: their cap as far as stages are open there.
+fn terms_at(d: usize, mut terms: LeafTerms) -> LeafTerms
+    ensures { λ r. ⌜ r ≡ termsAt d terms ⌝ }
+{
+    terms.cap = cap_at(d, terms.cap);
+    terms
+}
+
 // One leaf of a level by the leaf rules, its samples at the front of `out`; `a` is scratch, and `raised` the raised codebook.
 pub fn level_leaf(
     level: Svq1Level,
-    half: Svq1Half,
+    terms: LeafTerms,
     t: &[u8],
     p: &[u8],
     a: &mut [u16],
     out: &mut [u8],
     raised: &[u8],
-    cap: usize,
-    skip: bool,
 ) -> LeafChoice
-    requires { ⌜ LevelReady (levelNumber level) (now t) (now p) (now a) (now out) (now raised) cap ⌝ }
-    ensures { λ r. ⌜ LevelChosen half (levelNumber level) (now (t .entry)) (now (p .entry)) (now (raised .entry)) cap skip (r .code) (r .stages) (r .error) (now (out .entry)) (now (out .exit)) ⌝ }
+    requires { ⌜ LevelReady terms (levelNumber level) (now t) (now p) (now a) (now out) (now raised) ⌝ }
+    ensures { λ r. ⌜ LevelChosen terms (levelNumber level) (now (t .entry)) (now (p .entry)) (now (raised .entry)) r (now (out .entry)) (now (out .exit)) ⌝ }
 {
     let n = t.len();
     let d = level.number();
+    let half = terms.half;
     let base = page_start(half, d);
-    let open = cap_at(d, cap);
-    choose_leaf(
-        half,
-        t,
-        p,
-        &mut a[..n],
-        &mut out[..n],
-        raised,
-        base,
-        open,
-        skip,
-    )
+    let open = terms_at(d, terms);
+    choose_leaf(open, t, p, &mut a[..n], &mut out[..n], raised, base)
 }

@@ -11,6 +11,7 @@ use Rattle.book.specs.declared.svq1_vlc.Svq1Half.{Svq1Half}
 use Rattle.book.specs.declared.svq1_vlc.Svq1Half.the-variants.{Intra, Inter}
 use Rattle.codebook.specs.Codebook.{vectorAt, stagesPerPage}
 use Rattle.leaf.specs.Leaf.{sse}
+use Rattle.leaf.specs.declared.svq1_enc_leaf.LeafTerms.{LeafTerms}
 use Rattle.vectors.specs.declared.svq1_motion_predictor.Svq1Mv.{Svq1Mv}
 use Rattle.mv_cache.specs.Neighbours.{Near, forOne, forFirst, forSecond, forThird, forFourth}
 use Rattle.mv_cache.specs.Grid.{part}
@@ -96,13 +97,16 @@ abbrev pub skipsLeaves : Svq1Half → Bool
 skipsLeaves Intra = false
 skipsLeaves Inter = true
 
--- in a plane a plan has every stage of the level open and, for the inter half, skip too
+-- in a plane a leaf has every stage of its level open and, for the inter half, skip too
+abbrev pub planeTerms : Svq1Half → LeafTerms
+planeTerms h = record { half = h; cap = stagesPerPage; skip = skipsLeaves h }
+
+-- the plan of macroblock k for a motion, over its baseline
 unfoldable pub planningFor : Given → Task → ℕ → Motion → Planning
 planningFor g t k m = record {
   tables = tablesOf (g .book) (halfOf m);
   vectors = vectorAt (g .codebook) (halfOf m);
-  cap = stagesPerPage;
-  allowSkip = skipsLeaves (halfOf m);
+  terms = planeTerms (halfOf m);
   lambda = t .settings .lambda;
   level = 5;
   target = target g t k;

@@ -106,6 +106,7 @@ module _ (g : Given) (t : Task) (ok : Fine g t) where
   planned-for k m = record {
     tables = good-tables (g .book) (ok .book) (halfOf m);
     sized = vectors-sized (g .codebook) (halfOf m);
+    same-half = refl;
     few = omega arith;
     inter = inter-skips (halfOf m);
     five = omega arith;

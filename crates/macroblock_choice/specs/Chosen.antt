@@ -5,7 +5,6 @@ use mathlib.Core.List.{List, []}
 use Prim.Native.Nat.{ℕ, suc, _+_, _*_, _≤_, _<_}
 use lib.Dec.{leb}
 use lib.ListN.{length}
-use Rattle.codebook.specs.Codebook.{stagesPerPage}
 use Rattle.vectors.specs.declared.svq1_motion_predictor.Svq1Mv.{Svq1Mv}
 use Rattle.mv_cache.specs.Neighbours.{Near}
 use Rattle.tree.specs.Plan.{Planning}
@@ -15,7 +14,7 @@ use Rattle.macroblock.specs.declared.svq1_enc_inter.MbMotion.{MbMotion}
 use Rattle.macroblock.specs.declared.svq1_enc_inter.Settings.{Settings}
 use Rattle.macroblock.specs.Macroblock.{Given, cols, rows, Motion, coded, halfOf, vectorsOf, baseline}
 use Rattle.macroblock.specs.Limit.{Limit, unlimited, canSkipRest}
-use Rattle.macroblock.specs.Choice.{Task, target, skipsLeaves}
+use Rattle.macroblock.specs.Choice.{Task, target, planeTerms}
 use Rattle.macroblock.specs.Motions.{motionOf, Differs}
 use Rattle.macroblock.specs.Inner.{Accepted}
 use Rattle.macroblock_choice.specs.Candidates.{choiceOf, Stated, chosenIn}
@@ -52,7 +51,7 @@ pub record Sourced (g : Given) (raised source : List ℕ) (k : ℕ) : Type 0 whe
 -- ---- one motion
 -- its plan, by the block and not by the source
 abbrev pub planningBy : Given → List ℕ → Settings → ℕ → Motion → Planning
-planningBy g block settings k m = planningIn (halfOf m) (g .book) (g .codebook) stagesPerPage (skipsLeaves (halfOf m)) (settings .lambda) 5 block (baseline g k m)
+planningBy g block settings k m = planningIn (planeTerms (halfOf m)) (g .book) (g .codebook) (settings .lambda) 5 block (baseline g k m)
 
 -- the vectors beside a motion are those that it stores, and one vector goes with its difference
 pub record Carries (n : Near) (m : MbMotion) (vs : List Svq1Mv) : Type 0 where

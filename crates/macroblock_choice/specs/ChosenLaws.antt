@@ -12,6 +12,7 @@ use Rattle.book.specs.BookLaws.{good-tables, data-passes}
 use Rattle.book.specs.declared.svq1_vlc.Svq1Half.{Svq1Half}
 use Rattle.book.specs.declared.svq1_vlc.Svq1Half.the-variants.{Intra, Inter}
 use Rattle.leaf.specs.LeafLaws.{vectors-sized}
+use Rattle.leaf.specs.declared.svq1_enc_leaf.LeafTerms.{LeafTerms}
 use Rattle.vectors.specs.declared.svq1_motion_predictor.Svq1Mv.{Svq1Mv}
 use Rattle.mv_cache.specs.Neighbours.{Near}
 use Rattle.tree.specs.Nodes.{treeOf}
@@ -25,7 +26,7 @@ use Rattle.canvas.specs.declared.svq1_plane.Svq1PlaneCanvas.{Svq1PlaneCanvas}
 use Rattle.macroblock.specs.Macroblock.{Given, rows, Motion, skipped, coded, halfOf, baseline, shown}
 use Rattle.macroblock.specs.MacroblockLaws.{Fine, baseline-block}
 use Rattle.macroblock.specs.Limit.{Limit, unlimited}
-use Rattle.macroblock.specs.Choice.{Task, target, skipsLeaves, planningFor, singleTried, fourTried}
+use Rattle.macroblock.specs.Choice.{Task, target, skipsLeaves, planeTerms, planningFor, singleTried, fourTried}
 use Rattle.macroblock.specs.Motions.{motionOf}
 use Rattle.macroblock.specs.Inner.{givenBy}
 use Rattle.macroblock.specs.InnerLaws.{fits, book-passes, wide}
@@ -56,6 +57,7 @@ module _ (g : Given) (raised : List ℕ) (k : ℕ) (block : List ℕ) (ready : P
   planned-by = record {
     tables = good-tables (g .book) (book-passes g raised (ready .ok)) (halfOf m);
     sized = vectors-sized (g .codebook) (halfOf m);
+    same-half = refl;
     few = omega arith;
     inter = inter-skips (halfOf m);
     five = omega arith;
@@ -66,18 +68,17 @@ module _ (g : Given) (raised : List ℕ) (k : ℕ) (block : List ℕ) (ready : P
   }
 
   -- what planning asks
-  pub plan-ready : (h : Svq1Half) (s : Bool) (under : List ℕ) → h ≡ halfOf m → s ≡ skipsLeaves h → length under ≡ 256
-      → PlanReady h (g .book) (g .codebook) raised 6 s 5 block under
-  plan-ready h s under eh es eu = record {
+  pub plan-ready : (terms : LeafTerms) (under : List ℕ) → terms ≡ planeTerms (halfOf m) → length under ≡ 256 → PlanReady terms (g .book) (g .codebook) raised 5 block under
+  plan-ready terms under et eu = rw et (record {
     good = book-passes g raised (ready .ok);
     whole = data-passes (g .book) (g .codebook) (ready .ok .tables) .0;
     copy = ready .ok .copy;
     few = omega arith;
-    inter = λ e. inter-skips h (sym es ∙ e);
+    inter = inter-skips (halfOf m);
     five = omega arith;
     target-long = ready .whole;
     predictor-long = eu;
-  }
+  })
 
   module _ (p : MbPlan) (found : PlanFound (planningBy g block settings k m) p) where
     pub plan-few : p .bits ≤ 65536
@@ -103,10 +104,10 @@ module _ (g : Given) (raised : List ℕ) (k : ℕ) (block : List ℕ) (ready : P
   unfolding planningFor
   planned-same t eb el = rw (eb, el)
 
-  -- a plan by the half, the flag and the baseline as they were computed
-  pub found-by : (p : MbPlan) (h : Svq1Half) (s : Bool) (under : List ℕ) → h ≡ halfOf m → s ≡ skipsLeaves h → under ≡ baseline g k m
-      → PlanFound (planningIn h (g .book) (g .codebook) 6 s (settings .lambda) 5 block under) p → PlanFound (planningBy g block settings k m) p
-  found-by p h s under eh es eu f = rw (es, eh, eu) at f
+  -- a plan by the terms and the baseline as they were computed
+  pub found-by : (p : MbPlan) (terms : LeafTerms) (under : List ℕ) → terms ≡ planeTerms (halfOf m) → under ≡ baseline g k m
+      → PlanFound (planningIn terms (g .book) (g .codebook) (settings .lambda) 5 block under) p → PlanFound (planningBy g block settings k m) p
+  found-by p terms under et eu f = rw (et, eu) at f
 
   -- a motion that was found, if it is better
   pub try-one : (room : ℕ) (n : Near) (ms : List Motion) (c d r : MbCandidate) → ms ≡ m ∷ [] → Stated g block k n c → Made g block settings k n m d

@@ -32,12 +32,13 @@ use Rattle.tree.specs.TreeLaws.{Stands, tree-read}
 use Rattle.plan.specs.ChoiceLaws.{bits-are, shown-are}
 use Rattle.plan.specs.PlanClaim.{largestLambda, planCost, PlanClaimed}
 
--- what a plan may assume: tables that read back, vectors of their levels' sizes, a block and a predictor of bytes
+-- what a plan may assume: tables of its terms' half that read back, vectors of their levels' sizes, a block and a predictor of bytes
 pub record Planned (g : Planning) : Type 0 where
   pub tables : GoodTables (g .tables)
   pub sized : (d : ℕ) → Sized (g .vectors d) (area d)
-  pub few : g .cap ≤ 6
-  pub inter : g .allowSkip ≡ true → g .tables .half ≡ Inter
+  pub same-half : g .tables .half ≡ g .terms .half
+  pub few : g .terms .cap ≤ 6
+  pub inter : g .terms .skip ≡ true → g .terms .half ≡ Inter
   pub five : g .level ≤ 5
   pub target-long : length (g .target) ≡ area (g .level)
   pub predictor-long : length (g .predictor) ≡ area (g .level)
@@ -61,8 +62,8 @@ module _ (g : Planning) (p : Planned g) where
   pub allowed : (i : ℕ) → Allowed (g .tables) (level i) (leafAt g i)
   unfolding leafAt
   allowed i =
-      rule-allowed (g .tables) (g .vectors (level i)) (level i) (g .cap) (blockOf s (level i) i (g .target)) (blockOf s (level i) i (g .predictor)) (p .few)
-      (g .allowSkip) (p .inter)
+      rule-allowed (g .tables) (g .vectors (level i)) (level i) (g .terms) (blockOf s (level i) i (g .target)) (blockOf s (level i) i (g .predictor)) (p .same-half)
+      (p .few) (p .inter)
 
   -- a block that lies in the plane shows as many samples as it has
   lens : (i : ℕ) → i < blockCount → In s (level i) i n → length (show i) ≡ area (level i)
@@ -191,6 +192,7 @@ call-planned b lambda bt bp e =
     record {
       tables = good-tables (b .book) (passes .1) (halfAt (b .half));
       sized = vectors-sized (b .codebook) (halfAt (b .half));
+      same-half = refl;
       few = leb-true (b .cap) 6 (ck .0);
       inter = skip-inter (b .allowSkip) (b .half) (ck .1);
       five = omega (arith, ltb-true (b .level) 6 (lev .0));

@@ -1,21 +1,21 @@
 -- What the functions of `inner` ask and find when they plan a block (document 01, `svq1_enc_tree.rs`, over the definitions of tree/specs/Plan).
 use mathlib.Core.Path.{_≡_}
-use mathlib.Core.Bool.{Bool, true, false}
+use mathlib.Core.Bool.{true, false}
 use mathlib.Core.List.{List}
 use Prim.Native.Nat.{ℕ, _≤_, _<_}
 use lib.ListN.{length}
 use Rattle.bits.specs.Basics.{pick, All}
 use Rattle.book.specs.Book.{tablesOf, bookRefusal, codebookBytes}
 use Rattle.book.specs.Level.{width, area}
-use Rattle.book.specs.declared.svq1_vlc.Svq1Half.{Svq1Half}
 use Rattle.book.specs.declared.svq1_vlc.Svq1Half.the-variants.{Inter}
 use Rattle.codebook.specs.Codebook.{vectorAt}
 use Rattle.codebook.specs.Raised.{pageStart, raisedCodebook}
-use Rattle.leaf.specs.Leaf.{Leaf, Vectors, sse, leafShown, leafRule, capAt}
+use Rattle.leaf.specs.Leaf.{Leaf, Vectors, sse, leafShown, leafRule, termsAt}
 use Rattle.leaf.specs.Lent.{Clean}
 use Rattle.leaf.specs.Raised.{leafOf, vectorsIn}
 use Rattle.leaf_search.specs.declared.svq1_enc_leaf.LeafChoice.{LeafChoice}
 use Rattle.leaf.specs.declared.svq1_enc_leaf.LeafCode.{LeafCode}
+use Rattle.leaf.specs.declared.svq1_enc_leaf.LeafTerms.{LeafTerms}
 use Rattle.tree.specs.Blocks.{blockCount, level, blockOf}
 use Rattle.tree.specs.Plan.{Planning, planWeight}
 use Rattle.plan.specs.Planned.{weight}
@@ -32,9 +32,9 @@ pub record BlockReady (d i : ℕ) : Type 0 where
   pub under : inTree d i ≡ true
 
 -- the raised codebook, a target and a predictor of level d by their lengths, and block i in them
-pub record LeafReady (raised most d target predictor i : ℕ) : Type 0 where
+pub record LeafReady (terms : LeafTerms) (raised d target predictor i : ℕ) : Type 0 where
   pub copied : raised ≡ codebookBytes
-  pub few : most ≤ 6
+  pub few : terms .cap ≤ 6
   pub five : d ≤ 5
   pub target-long : target ≡ area d
   pub predictor-long : predictor ≡ area d
@@ -48,15 +48,15 @@ pub record Scratch (d t p sums shown : ℕ) : Type 0 where
   pub shown-long : shown ≡ 256
 
 -- the leaf choice of block i by the raised codebook, in its one form, and its error
-module _ (h : Svq1Half) (raised : List ℕ) (most : ℕ) (skips : Bool) (d : ℕ) (target predictor : List ℕ) (i : ℕ) where
+module _ (terms : LeafTerms) (raised : List ℕ) (d : ℕ) (target predictor : List ℕ) (i : ℕ) where
   abbrev blockIn : List ℕ → List ℕ
   blockIn = blockOf (width d) (level i) i
 
   abbrev pageOf : Vectors
-  pageOf = vectorsIn raised (pageStart h (level i)) (area (level i))
+  pageOf = vectorsIn raised (pageStart (terms .half) (level i)) (area (level i))
 
   abbrev leafIn : Leaf
-  leafIn = leafRule h pageOf (capAt (level i) most) skips (blockIn target) (blockIn predictor)
+  leafIn = leafRule (termsAt (level i) terms) pageOf (blockIn target) (blockIn predictor)
 
   pub record BlockLeaf (r : LeafChoice) : Type 0 where
     pub leaf : leafOf (r .code) (r .stages) ≡ leafIn
@@ -65,23 +65,22 @@ module _ (h : Svq1Half) (raised : List ℕ) (most : ℕ) (skips : Bool) (d : ℕ
 
 -- ---- the plan
 -- tables that pass, the codebook's raised copy, at most six stages, skip with the inter half only, a target and a predictor of level d
-pub record PlanReady (h : Svq1Half) (book codebook raised : List ℕ) (most : ℕ) (skips : Bool) (d : ℕ) (target predictor : List ℕ) : Type 0 where
+pub record PlanReady (terms : LeafTerms) (book codebook raised : List ℕ) (d : ℕ) (target predictor : List ℕ) : Type 0 where
   pub good : bookRefusal book ≡ 0
   pub whole : length codebook ≡ codebookBytes
   pub copy : raised ≡ raisedCodebook codebook
-  pub few : most ≤ 6
-  pub inter : skips ≡ true → h ≡ Inter
+  pub few : terms .cap ≤ 6
+  pub inter : terms .skip ≡ true → terms .half ≡ Inter
   pub five : d ≤ 5
   pub target-long : length target ≡ area d
   pub predictor-long : length predictor ≡ area d
 
 -- what is planned, by the parameters
-abbrev pub planningIn : Svq1Half → List ℕ → List ℕ → ℕ → Bool → ℕ → ℕ → List ℕ → List ℕ → Planning
-planningIn h book codebook most skips lambda d target predictor = record {
-  tables = tablesOf book h;
-  vectors = vectorAt codebook h;
-  cap = most;
-  allowSkip = skips;
+abbrev pub planningIn : LeafTerms → List ℕ → List ℕ → ℕ → ℕ → List ℕ → List ℕ → Planning
+planningIn terms book codebook lambda d target predictor = record {
+  tables = tablesOf book (terms .half);
+  vectors = vectorAt codebook (terms .half);
+  terms = terms;
   lambda = lambda;
   level = d;
   target = target;

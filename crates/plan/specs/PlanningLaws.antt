@@ -14,7 +14,6 @@ use Rattle.bits.specs.Basics.{pick, Bytes, All}
 use Rattle.book.specs.Book.{tablesOf}
 use Rattle.book.specs.BookLaws.{good-tables}
 use Rattle.book.specs.Level.{width, area}
-use Rattle.book.specs.declared.svq1_vlc.Svq1Half.{Svq1Half}
 use Rattle.codebook.specs.Raised.{pageStart}
 use Rattle.leaf.specs.Inner.{LeafFound}
 use Rattle.leaf.specs.AgreeLaws.{leaf-found}
@@ -23,6 +22,7 @@ use Rattle.leaf.specs.LeafBits.{leafBits}
 use Rattle.leaf.specs.LeafLaws.{vectors-sized}
 use Rattle.leaf.specs.LentLaws.{skip-clean}
 use Rattle.leaf.specs.declared.svq1_enc_leaf.LeafCode.the-variants.{Skip}
+use Rattle.leaf.specs.declared.svq1_enc_leaf.LeafTerms.{LeafTerms}
 use Rattle.leaf_search.specs.LevelLeaf.{LevelChosen}
 use Rattle.leaf.specs.Raised.{leafOf, vectorsIn}
 use Rattle.codebook.specs.RaisedLaws.{raised-length}
@@ -45,19 +45,19 @@ use Rattle.plan.specs.declared.svq1_enc_tree.PlannedBlock.{PlannedBlock}
 
 -- ---- one leaf
 -- the search of the two gathered blocks at level l is that of block i
-pub block-leaf : (h : Svq1Half) (raised : List ℕ) (most : ℕ) (skips : Bool) (d : ℕ) (target predictor : List ℕ) (i l : ℕ) (t p out shown : List ℕ) (r : LeafChoice)
+pub block-leaf : (terms : LeafTerms) (raised : List ℕ) (d : ℕ) (target predictor : List ℕ) (i l : ℕ) (t p out shown : List ℕ) (r : LeafChoice)
     → l ≡ level i → length t ≡ area (level i) → t ≡ blockOf (width d) (level i) i target → p ≡ blockOf (width d) (level i) i predictor
-    → LevelChosen h l t p raised most skips (r .code) (r .stages) (r .error) out shown → BlockLeaf h raised most skips d target predictor i r
-block-leaf h raised most skips d target predictor i l t p out shown r el n et ep c =
+    → LevelChosen terms l t p raised r out shown → BlockLeaf terms raised d target predictor i r
+block-leaf terms raised d target predictor i l t p out shown r el n et ep c =
     record {
       leaf = rw (n, el, et, ep) at (c .chosen .leaf);
       erring = rw (n, el, et, ep) at (c .chosen .erring);
       clean = c .chosen .clean;
     }
 
-module _ (h : Svq1Half) (book codebook raised : List ℕ) (most : ℕ) (skips : Bool) (d : ℕ) (target predictor : List ℕ) where
-  pub leaf-ready : (i : ℕ) → PlanReady h book codebook raised most skips d target predictor → BlockReady d i
-      → LeafReady (length raised) most d (length target) (length predictor) i
+module _ (terms : LeafTerms) (book codebook raised : List ℕ) (d : ℕ) (target predictor : List ℕ) where
+  pub leaf-ready : (i : ℕ) → PlanReady terms book codebook raised d target predictor → BlockReady d i
+      → LeafReady terms (length raised) d (length target) (length predictor) i
   leaf-ready i p b =
       record {
         copied = ap length (p .copy) ∙ raised-length codebook;
@@ -69,12 +69,13 @@ module _ (h : Svq1Half) (book codebook raised : List ℕ) (most : ℕ) (skips : 
       }
 
   -- what a plan may assume
-  pub plan-ready : (lambda : ℕ) → PlanReady h book codebook raised most skips d target predictor → Bytes target → Bytes predictor
-      → claim.Planned (planningIn h book codebook most skips lambda d target predictor)
+  pub plan-ready : (lambda : ℕ) → PlanReady terms book codebook raised d target predictor → Bytes target → Bytes predictor
+      → claim.Planned (planningIn terms book codebook lambda d target predictor)
   plan-ready lambda p bt bp =
       record {
-        tables = good-tables book (p .good) h;
-        sized = vectors-sized codebook h;
+        tables = good-tables book (p .good) (terms .half);
+        sized = vectors-sized codebook (terms .half);
+        same-half = refl;
         few = p .few;
         inter = p .inter;
         five = p .five;
@@ -84,22 +85,22 @@ module _ (h : Svq1Half) (book codebook raised : List ℕ) (most : ℕ) (skips : 
         predictor-bytes = bp;
       }
 
-  module _ (i : ℕ) (r : LeafChoice) (p : PlanReady h book codebook raised most skips d target predictor) (here : BlockReady d i) (bytes : Bytes codebook)
-      (l : BlockLeaf h raised most skips d target predictor i r) where
+  module _ (i : ℕ) (r : LeafChoice) (p : PlanReady terms book codebook raised d target predictor) (here : BlockReady d i) (bytes : Bytes codebook)
+      (l : BlockLeaf terms raised d target predictor i r) where
     abbrev blockIn : List ℕ → List ℕ
     blockIn = blockOf (width d) (level i) i
 
     -- a leaf by the raised copy is one by the codebook
-    pub leaf-by : LeafFound codebook h (level i) most skips (blockIn target) (blockIn predictor) (r .code) (r .stages) (r .error)
-        (leafShown (vectorsIn raised (pageStart h (level i)) (area (level i))) (blockIn predictor) (leafOf (r .code) (r .stages)))
+    pub leaf-by : LeafFound codebook terms (level i) (blockIn target) (blockIn predictor) (r .code) (r .stages) (r .error)
+        (leafShown (vectorsIn raised (pageStart (terms .half) (level i)) (area (level i))) (blockIn predictor) (leafOf (r .code) (r .stages)))
     leaf-by =
         let size : length (blockIn target) ≡ area (level i) =
         length-block (width d) (level i) i target (rw (p .target-long) (in-plane d i (p .five) (here .block) (here .under))) in
-        leaf-found codebook bytes h (level i) most skips (blockIn target) (blockIn predictor) (r .code) (r .stages) (r .error) _ (p .few) size
-        (rw (← p .copy, size) (record { leaf = l .leaf; erring = l .erring; shown = ap (leafShown (vectorsIn raised (pageStart h (level i)) (area (level i))) (blockIn predictor)) (l .leaf); clean = l .clean }))
+        leaf-found codebook bytes terms (level i) (blockIn target) (blockIn predictor) (r .code) (r .stages) (r .error) _ (p .few) size
+        (rw (← p .copy, size) (record { leaf = l .leaf; erring = l .erring; shown = ap (leafShown (vectorsIn raised (pageStart (terms .half) (level i)) (area (level i))) (blockIn predictor)) (l .leaf); clean = l .clean }))
 
-    pub leaf-at : (n : ℕ) → n ≡ length (leafBits (tablesOf book h) (level i) (leafOf (r .code) (r .stages)))
-        → LeafAt (planningIn h book codebook most skips 0 d target predictor) i (leafRecord (r .code) (r .stages) n (r .error))
+    pub leaf-at : (n : ℕ) → n ≡ length (leafBits (tablesOf book (terms .half)) (level i) (leafOf (r .code) (r .stages)))
+        → LeafAt (planningIn terms book codebook 0 d target predictor) i (leafRecord (r .code) (r .stages) n (r .error))
     unfolding leafAt weightAt shownAt
     leaf-at n e =
         let f = leaf-by in
@@ -111,10 +112,10 @@ module _ (h : Svq1Half) (book codebook raised : List ℕ) (most : ℕ) (skips : 
         }
 
 -- lambda plays no part in a leaf
-pub leaf-any : (h : Svq1Half) (book codebook : List ℕ) (most : ℕ) (skips : Bool) (lambda d : ℕ) (target predictor : List ℕ) (i : ℕ) (b : PlannedBlock)
-    → LeafAt (planningIn h book codebook most skips 0 d target predictor) i b → LeafAt (planningIn h book codebook most skips lambda d target predictor) i b
+pub leaf-any : (terms : LeafTerms) (book codebook : List ℕ) (lambda d : ℕ) (target predictor : List ℕ) (i : ℕ) (b : PlannedBlock)
+    → LeafAt (planningIn terms book codebook 0 d target predictor) i b → LeafAt (planningIn terms book codebook lambda d target predictor) i b
 unfolding leafAt weightAt shownAt
-leaf-any h book codebook most skips lambda d target predictor i b l = record { leaf = l .leaf; whole = l .whole; weighs = l .weighs; clean = l .clean }
+leaf-any terms book codebook lambda d target predictor i b l = record { leaf = l .leaf; whole = l .whole; weighs = l .weighs; clean = l .clean }
 
 -- ---- every block, the last first
 -- the blocks from i on are planned, and every record's leaf choice has its one form

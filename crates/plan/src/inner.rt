@@ -20,6 +20,7 @@ use super::svq1_enc_tree::PlannedBlock;
 use book::svq1_vlc::Svq1Half;
 use costs::svq1_enc_tree::cost;
 use leaf::svq1_enc_leaf::LeafCode;
+use leaf::svq1_enc_leaf::LeafTerms;
 use tree::svq1_enc_tree::Block;
 use tree::svq1_enc_tree::TreeNode;
 use tree::walk::first_of;
@@ -58,12 +59,10 @@ fn decide(lambda: u64, l: PlannedBlock, x: PlannedBlock, y: PlannedBlock) -> Pla
 
 // Block i as the plan has it, where `a` holds the blocks behind it.
 fn plan_block(
-    half: Svq1Half,
+    terms: LeafTerms,
     book: &[u8],
     codebook: &[u8],
     raised: &[u8],
-    most: usize,
-    skip: bool,
     lambda: u64,
     d: usize,
     target: &[u8],
@@ -71,22 +70,11 @@ fn plan_block(
     a: [PlannedBlock; 63],
     i: usize,
 ) -> PlannedBlock
-    requires { ⌜ PlanReady half (now book) (now codebook) (now raised) most skip d (now target) (now predictor) × BlockReady d i ⌝ }
-    requires { ⌜ Done (planningIn half (now book) (now codebook) most skip lambda d (now target) (now predictor)) a (i + 1) ⌝ }
-    ensures { λ r. ⌜ PlannedAt (planningIn half (now (book .entry)) (now (codebook .entry)) most skip lambda d (now (target .entry)) (now (predictor .entry))) i r ⌝ }
+    requires { ⌜ PlanReady terms (now book) (now codebook) (now raised) d (now target) (now predictor) × BlockReady d i ⌝ }
+    requires { ⌜ Done (planningIn terms (now book) (now codebook) lambda d (now target) (now predictor)) a (i + 1) ⌝ }
+    ensures { λ r. ⌜ PlannedAt (planningIn terms (now (book .entry)) (now (codebook .entry)) lambda d (now (target .entry)) (now (predictor .entry))) i r ⌝ }
 {
-    let l = plan_leaf(
-        half,
-        book,
-        codebook,
-        raised,
-        most,
-        skip,
-        d,
-        target,
-        predictor,
-        i,
-    );
+    let l = plan_leaf(terms, book, codebook, raised, d, target, predictor, i);
     if 30 < i {
         return l;
     }
@@ -97,19 +85,17 @@ fn plan_block(
 
 // Every block of the plan, the last first.
 fn plan_blocks(
-    half: Svq1Half,
+    terms: LeafTerms,
     book: &[u8],
     codebook: &[u8],
     raised: &[u8],
-    most: usize,
-    skip: bool,
     lambda: u64,
     d: usize,
     target: &[u8],
     predictor: &[u8],
 ) -> [PlannedBlock; 63]
-    requires { ⌜ PlanReady half (now book) (now codebook) (now raised) most skip d (now target) (now predictor) ⌝ }
-    ensures { λ r. ⌜ Done (planningIn half (now (book .entry)) (now (codebook .entry)) most skip lambda d (now (target .entry)) (now (predictor .entry))) r 0 × All CleanChoice r ⌝ }
+    requires { ⌜ PlanReady terms (now book) (now codebook) (now raised) d (now target) (now predictor) ⌝ }
+    ensures { λ r. ⌜ Done (planningIn terms (now (book .entry)) (now (codebook .entry)) lambda d (now (target .entry)) (now (predictor .entry))) r 0 × All CleanChoice r ⌝ }
 {
     let mut a = [PlannedBlock {
         split: false,
@@ -123,12 +109,10 @@ fn plan_blocks(
         i -= 1;
         if in_tree(d, i) {
             let b = plan_block(
-                half,
+                terms,
                 book,
                 codebook,
                 raised,
-                most,
-                skip,
                 lambda,
                 d,
                 target,
@@ -183,32 +167,19 @@ fn grow_tree(a: [PlannedBlock; 63], root: usize) -> [Block; 63]
 
 // The plan of a block of level d: its tree, its bits and its error.
 pub fn plan(
-    half: Svq1Half,
+    terms: LeafTerms,
     book: &[u8],
     codebook: &[u8],
     raised: &[u8],
-    most: usize,
-    skip: bool,
     lambda: u64,
     d: usize,
     target: &[u8],
     predictor: &[u8],
 ) -> MbPlan
-    requires { ⌜ PlanReady half (now book) (now codebook) (now raised) most skip d (now target) (now predictor) ⌝ }
-    ensures { λ r. ⌜ PlanFound (planningIn half (now (book .entry)) (now (codebook .entry)) most skip lambda d (now (target .entry)) (now (predictor .entry))) r ⌝ }
+    requires { ⌜ PlanReady terms (now book) (now codebook) (now raised) d (now target) (now predictor) ⌝ }
+    ensures { λ r. ⌜ PlanFound (planningIn terms (now (book .entry)) (now (codebook .entry)) lambda d (now (target .entry)) (now (predictor .entry))) r ⌝ }
 {
-    let a = plan_blocks(
-        half,
-        book,
-        codebook,
-        raised,
-        most,
-        skip,
-        lambda,
-        d,
-        target,
-        predictor,
-    );
+    let a = plan_blocks(terms, book, codebook, raised, lambda, d, target, predictor);
     let root = first_of(d);
     let top = a[root];
     let blocks = grow_tree(a, root);

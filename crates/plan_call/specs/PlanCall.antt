@@ -1,6 +1,5 @@
 -- A plan as a call, in memory: what its struct answers, and what its parts ask and leave (document 01, refusal 8).
 use mathlib.Core.Path.{_≡_}
-use mathlib.Core.Bool.{Bool}
 use mathlib.Core.List.{List}
 use Prim.Native.Nat.{ℕ, _-_, _≤_}
 use lib.Dec.{eqb}
@@ -8,10 +7,10 @@ use lib.ListN.{length, take, drop, replicate}
 use Rattle.bits.specs.Basics.{pick, All}
 use Rattle.bits.specs.Calls.{Answer, done, refused}
 use Rattle.book.specs.Level.{area}
-use Rattle.book.specs.declared.svq1_vlc.Svq1Half.{Svq1Half}
 use Rattle.codebook.specs.Codebook.{vectorAt}
 use Rattle.leaf_call.specs.LeafAnswer.{Searchable}
 use Rattle.leaf.specs.LeafCall.{BlockIn}
+use Rattle.leaf.specs.declared.svq1_enc_leaf.LeafTerms.{LeafTerms}
 use Rattle.tree.specs.Blocks.{blockCount}
 use Rattle.tree.specs.Nodes.{treeOf, offBlock, CleanBlock}
 use Rattle.plan.specs.PlanClaim.{PlanClaim}
@@ -23,15 +22,15 @@ use Rattle.plan_call.specs.declared.svq1_enc_tree.PlanAnswer.{PlanAnswer
 
 -- ---- the call
 -- what an accepted call asks of its parts: as a leaf's, and 256 zeros to show into
-pub record Plannable (book codebook raised : List ℕ) (d : ℕ) (h : Svq1Half) (target predictor : List ℕ) (most : ℕ) (skips : Bool) (samples : List ℕ) : Type 0 where
-  pub ready : Searchable book codebook raised d h target predictor most skips
+pub record Plannable (book codebook raised : List ℕ) (d : ℕ) (terms : LeafTerms) (target predictor samples : List ℕ) : Type 0 where
+  pub ready : Searchable book codebook raised d terms target predictor
   pub five : d ≤ 5
   pub zeros : samples ≡ replicate 256 0
 
 -- and what it finds: the plan, and its samples with zeros behind them
-pub record PlanShown (book codebook : List ℕ) (d : ℕ) (h : Svq1Half) (target predictor : List ℕ) (most : ℕ) (skips : Bool) (lambda : ℕ) (r : MbPlan) (left : List ℕ) : Type 0 where
-  pub found : PlanFound (planningIn h book codebook most skips lambda d target predictor) r
-  pub front : take (area d) left ≡ treeShown (vectorAt codebook h) d predictor (planTree (planningIn h book codebook most skips lambda d target predictor))
+pub record PlanShown (book codebook : List ℕ) (d : ℕ) (terms : LeafTerms) (target predictor : List ℕ) (lambda : ℕ) (r : MbPlan) (left : List ℕ) : Type 0 where
+  pub found : PlanFound (planningIn terms book codebook lambda d target predictor) r
+  pub front : take (area d) left ≡ treeShown (vectorAt codebook (terms .half)) d predictor (planTree (planningIn terms book codebook lambda d target predictor))
   pub behind : drop (area d) left ≡ replicate (256 - area d) 0
 
 -- the answer for a block of n samples, by the struct's fields

@@ -1,7 +1,6 @@
 -- Laws of a plan as a call.
 -- Assumes nothing.
 use mathlib.Core.Path.{_≡_, refl, ap, _∙_}
-use mathlib.Core.Bool.{Bool}
 use mathlib.Core.List.{List}
 use Prim.Native.Nat.{ℕ, zero, suc, _≤_}
 use native.Mathlib.Omega.{arith}
@@ -9,9 +8,9 @@ use borrow.Author.Tests.{eq-eqb, ne-eqb}
 use lib.ListN.{length, take, drop, replicate}
 use Rattle.bits.specs.Basics.{Bytes}
 use Rattle.book.specs.Level.{area}
-use Rattle.book.specs.declared.svq1_vlc.Svq1Half.{Svq1Half}
 use Rattle.codebook.specs.Codebook.{vectorAt}
-use Rattle.leaf.specs.LeafCall.{BlockIn, halfAt, blockRefusal}
+use Rattle.leaf.specs.LeafCall.{BlockIn, termsOf, blockRefusal}
+use Rattle.leaf.specs.declared.svq1_enc_leaf.LeafTerms.{LeafTerms}
 use Rattle.leaf_call.specs.LeafAnswerLaws.{block-passes, drop-replicate}
 use Rattle.codebook.specs.Raised.{raisedCodebook}
 use Rattle.codebook.specs.RaisedLaws.{raised-length}
@@ -31,9 +30,9 @@ use Rattle.bits.specs.ListLaws.{all-repeat}
 use Rattle.plan.specs.PlanClaimLaws.{plan-claimed}
 use Rattle.plan.specs.SoundLaws.{plan-sound}
 
-module _ (book codebook raised : List ℕ) (d : ℕ) (h : Svq1Half) (target predictor : List ℕ) (most : ℕ) (skips : Bool) (samples : List ℕ)
-    (q : Plannable book codebook raised d h target predictor most skips samples) where
-  pub call-ready : (copied : List ℕ) → copied ≡ raisedCodebook codebook → PlanReady h book codebook copied most skips d target predictor
+module _ (book codebook raised : List ℕ) (d : ℕ) (terms : LeafTerms) (target predictor samples : List ℕ)
+    (q : Plannable book codebook raised d terms target predictor samples) where
+  pub call-ready : (copied : List ℕ) → copied ≡ raisedCodebook codebook → PlanReady terms book codebook copied d target predictor
   call-ready copied e =
       record {
         good = q .ready .known;
@@ -47,14 +46,14 @@ module _ (book codebook raised : List ℕ) (d : ℕ) (h : Svq1Half) (target pred
       }
 
   module _ (copied : List ℕ) (e : copied ≡ raisedCodebook codebook) (bt : Bytes target) (bp : Bytes predictor) (lambda : ℕ) (r : MbPlan)
-      (f : PlanFound (planningIn h book codebook most skips lambda d target predictor) r) where
+      (f : PlanFound (planningIn terms book codebook lambda d target predictor) r) where
     abbrev g : Planning
-    g = planningIn h book codebook most skips lambda d target predictor
+    g = planningIn terms book codebook lambda d target predictor
 
-    sound : SoundTree h (treeOf (r .blocks))
-    sound = rw (f .tree) (plan-sound g (plan-ready h book codebook copied most skips d target predictor lambda (call-ready copied e) bt bp))
+    sound : SoundTree (terms .half) (treeOf (r .blocks))
+    sound = rw (f .tree) (plan-sound g (plan-ready terms book codebook copied d target predictor lambda (call-ready copied e) bt bp))
 
-    pub call-front : FrontReady h (treeOf (r .blocks)) (length predictor) (length copied) d (length samples)
+    pub call-front : FrontReady (terms .half) (treeOf (r .blocks)) (length predictor) (length copied) d (length samples)
     call-front =
         record {
           five = q .five;
@@ -69,14 +68,14 @@ module _ (book codebook raised : List ℕ) (d : ℕ) (h : Svq1Half) (target pred
     take-zeros (suc n) zero l = absurd (omega arith)
     take-zeros (suc n) (suc m) l = rw (take-zeros n m (omega arith))
 
-    pub call-shown : (left : List ℕ) → Bytes codebook → FrontShown h (treeOf (r .blocks)) predictor copied d samples left
-        → PlanShown book codebook d h target predictor most skips lambda r left
+    pub call-shown : (left : List ℕ) → Bytes codebook → FrontShown (terms .half) (treeOf (r .blocks)) predictor copied d samples left
+        → PlanShown book codebook d terms target predictor lambda r left
     call-shown left bytes s =
         let few = area-most d (q .five) in
         let zs : take (area d) samples ≡ replicate (area d) 0 = ap (take (area d)) (q .zeros) ∙ take-zeros (area d) 256 few in
         record {
           found = f;
-          front = s .front ∙ rw (zs, e) (rebuilt-shown codebook bytes h d predictor (treeOf (r .blocks)) sound ∙ ap (treeShown (vectorAt codebook h) d predictor) (f .tree));
+          front = s .front ∙ rw (zs, e) (rebuilt-shown codebook bytes (terms .half) d predictor (treeOf (r .blocks)) sound ∙ ap (treeShown (vectorAt codebook (terms .half)) d predictor) (f .tree));
           behind = s .behind ∙ ap (drop (area d)) (q .zeros) ∙ drop-replicate (area d) 256;
         }
 
@@ -92,13 +91,13 @@ plan-refused b lambda n e h =
       claimed = λ z. absurd (h z);
     }
 
-pub plan-answered : (b : BlockIn) (lambda : ℕ) → Bytes (b .target) → Bytes (b .predictor) → blockRefusal b ≡ 0 → (h : Svq1Half) → h ≡ halfAt (b .half) → (p : MbPlan) (samples : List ℕ)
-    → PlanShown (b .book) (b .codebook) (b .level) h (b .target) (b .predictor) (b .cap) (b .allowSkip) lambda p samples
+pub plan-answered : (b : BlockIn) (lambda : ℕ) → Bytes (b .target) → Bytes (b .predictor) → blockRefusal b ≡ 0 → (terms : LeafTerms) → terms ≡ termsOf b → (p : MbPlan) (samples : List ℕ)
+    → PlanShown (b .book) (b .codebook) (b .level) terms (b .target) (b .predictor) lambda p samples
     → PlanAnswered b lambda (record { refused = 0; bits = p .bits; error = p .error; blocks = p .blocks; samples = samples })
 unfolding planAnswer planMade
-plan-answered b lambda bt bp e h eh p samples s =
+plan-answered b lambda bt bp e terms et p samples s =
     let q = block-passes b e in
-    let u = rw eh at s in
+    let u = rw et at s in
     record {
       answer = rw (q .target, eq-eqb (blockRefusal b) 0 e, u .found .tree, u .found .weighs, u .front);
       behind = rw (q .target) (u .behind);

@@ -1,9 +1,9 @@
 // The plan as a call.
 ghost use mathlib.Core.Path.{_≡_};
 ghost use Rattle.plan_call.specs.PlanCall.{refusedPlan, Plannable, PlanShown, PlanAnswered};
-use book::svq1_vlc::Svq1Half;
 use codebook::inner::raise_codebook;
-use leaf_call::inner::half_of;
+use leaf::svq1_enc_leaf::LeafTerms;
+use leaf_call::inner::terms_of;
 use leaf_call::svq1_enc_leaf::block_refusal;
 use plan::inner::plan;
 use plan::inner::plan_reconstruction;
@@ -41,31 +41,19 @@ fn planned(
     codebook: &[u8],
     raised: &mut [u8],
     d: usize,
-    half: Svq1Half,
+    terms: LeafTerms,
     target: &[u8],
     predictor: &[u8],
-    most: usize,
-    skip: bool,
     lambda: u64,
     samples: &mut [u8],
 ) -> MbPlan
-    requires { ⌜ Plannable (now book) (now codebook) (now raised) d half (now target) (now predictor) most skip (now samples) ⌝ }
-    ensures { λ r. ⌜ PlanShown (now (book .entry)) (now (codebook .entry)) d half (now (target .entry)) (now (predictor .entry)) most skip lambda r (now (samples .exit)) ⌝ }
+    requires { ⌜ Plannable (now book) (now codebook) (now raised) d terms (now target) (now predictor) (now samples) ⌝ }
+    ensures { λ r. ⌜ PlanShown (now (book .entry)) (now (codebook .entry)) d terms (now (target .entry)) (now (predictor .entry)) lambda r (now (samples .exit)) ⌝ }
 {
     raise_codebook(codebook, raised);
-    let p = plan(
-        half,
-        book,
-        codebook,
-        raised,
-        most,
-        skip,
-        lambda,
-        d,
-        target,
-        predictor,
-    );
+    let p = plan(terms, book, codebook, raised, lambda, d, target, predictor);
     let blocks = p.blocks;
+    let half = terms.half;
     plan_reconstruction(blocks, half, predictor, raised, d, samples);
     p
 }
@@ -95,11 +83,9 @@ pub fn plan_macroblock(
         codebook,
         &mut raised,
         level as usize,
-        half_of(half),
+        terms_of(half, cap, skip),
         target,
         predictor,
-        cap as usize,
-        skip,
         lambda,
         &mut samples,
     );

@@ -19,9 +19,9 @@ use Rattle.house.specs.House.{houseBook, houseCodebook, houseFrom, rank, signed
 use Rattle.book.specs.declared.svq1_vlc.Svq1Half.{Svq1Half}
 use Rattle.book.specs.declared.svq1_vlc.Svq1Half.the-variants.{Intra, Inter}
 use Rattle.text.specs.Text.{same}
-use Rattle.codebook.specs.Codebook.{vectorAt, stagesPerPage}
+use Rattle.codebook.specs.Codebook.{vectorAt}
 use Rattle.codebook.specs.Mean.{residual, rounded, clampMean, meanOf, saturate}
-use Rattle.leaf.specs.Leaf.{Leaf, coded, sse, seeded, staged, samples, leafShown, leafRule}
+use Rattle.leaf.specs.Leaf.{Leaf, coded, sse, seeded, staged, samples, leafShown, leafRule, termsAt}
 use Rattle.leaf.specs.LeafLaws.{coded-exact}
 use Rattle.leaf.specs.LeafBits.{leafBits, stageBits}
 use Rattle.tree.specs.Blocks.{level, gather, placeUnder, place, blockOf}
@@ -29,7 +29,7 @@ use Rattle.tree.specs.BlocksLaws.{level-le}
 use Rattle.tree.specs.Plan.{Weight, Planning, planned, splits, leafAt, shownAt, weightAt, planSplits}
 use Rattle.plan.specs.PlanLaws.{splits-same}
 use Rattle.tree.specs.TreeBits.{Node, Off, Split, Ends, isSplit, grow, planTree}
-use Rattle.macroblock.specs.Choice.{skipsLeaves}
+use Rattle.macroblock.specs.Choice.{planeTerms}
 
 -- ---- tests over lists
 same-is : (s t : List ℕ) → same s t ≡ true → s ≡ t
@@ -102,8 +102,7 @@ abbrev pub flatPlanning : Svq1Half → ℕ → Planning
 flatPlanning h lambda = record {
   tables = tablesOf houseBook h;
   vectors = vectorAt houseCodebook h;
-  cap = stagesPerPage;
-  allowSkip = skipsLeaves h;
+  terms = planeTerms h;
   lambda = lambda;
   level = 5;
   target = flat 256 100;
@@ -127,8 +126,8 @@ unfolding leafAt leafRule leafShown staged
 leaf-is h lambda i l =
     let d = level i in
     let e = exact h d (omega (arith, level-le i)) in
-    let c = coded-exact h (vectorAt houseCodebook h d) (pick (leb (suc d) 4) stagesPerPage 0) (flat (area d) 100) (flat (area d) 0) (pos 100) (e .mean) (e .met) in
-    rw (block-is 100 i flat-100 l, block-is 0 i flat-0 l) (rw (c, e .met, skip-loses (skipsLeaves h) (leb (sse (flat (area d) 100) (flat (area d) 0)) 0) (e .beaten)))
+    let c = coded-exact (termsAt d (planeTerms h)) (vectorAt houseCodebook h d) (flat (area d) 100) (flat (area d) 0) (pos 100) (e .mean) (e .met) in
+    rw (block-is 100 i flat-100 l, block-is 0 i flat-0 l) (rw (c, e .met, skip-loses (planeTerms h .skip) (leb (sse (flat (area d) 100) (flat (area d) 0)) 0) (e .beaten)))
 
 weight-is : (h : Svq1Half) (lambda i : ℕ) → i < 63 → weightAt (flatPlanning h lambda) i ≡ leafWeight h (level i)
 unfolding weightAt shownAt leafShown staged

@@ -7,8 +7,9 @@ use lib.ListN.{length}
 use Rattle.bits.specs.Basics.{pick}
 use Rattle.book.specs.Book.{Tables}
 use Rattle.book.specs.Level.{width}
-use Rattle.leaf.specs.Leaf.{Leaf, Vectors, sse, leafShown, leafRule, capAt}
+use Rattle.leaf.specs.Leaf.{Leaf, Vectors, sse, leafShown, leafRule, termsAt}
 use Rattle.leaf.specs.LeafBits.{leafBits}
+use Rattle.leaf.specs.declared.svq1_enc_leaf.LeafTerms.{LeafTerms}
 use Rattle.tree.specs.Blocks.{left, right, level, first, blockOf}
 
 -- ---- costs
@@ -60,12 +61,11 @@ pruned leaf cut zero i = leaf i
 pruned leaf cut (suc d) i = pick (cut i) (joined (pruned leaf cut d (left i)) (pruned leaf cut d (right i))) (flagged (leaf i))
 
 -- ---- the plan of a block
--- what a plan is made from: a half's tables, the codebook's vectors by level, at most `cap` stages, whether leaves may skip, and the block with its predictor
+-- what a plan is made from: the tables and the vectors by level of its terms' half, the terms of its leaves, and the block with its predictor
 pub record Planning : Type 0 where
   pub tables : Tables
   pub vectors : ℕ → Vectors
-  pub cap : ℕ
-  pub allowSkip : Bool
+  pub terms : LeafTerms
   pub lambda : ℕ
   pub level : ℕ
   pub target : List ℕ
@@ -81,7 +81,7 @@ root g = first (g .level)
 -- the leaf choice of block i, what a leaf shows there, and what the choice weighs
 unfoldable pub leafAt : Planning → ℕ → Leaf
 leafAt g i =
-    leafRule (g .tables .half) (g .vectors (level i)) (capAt (level i) (g .cap)) (g .allowSkip)
+    leafRule (termsAt (level i) (g .terms)) (g .vectors (level i))
     (blockOf (stride g) (level i) i (g .target)) (blockOf (stride g) (level i) i (g .predictor))
 
 unfoldable pub shownAt : (ℕ → Vectors) → ℕ → List ℕ → ℕ → Leaf → List ℕ

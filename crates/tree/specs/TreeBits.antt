@@ -12,7 +12,7 @@ use Rattle.book.specs.Level.{width, area}
 use Rattle.codebook.specs.Codebook.{vectorAt}
 use Rattle.leaf.specs.Leaf.{Leaf, Vectors}
 use Rattle.leaf.specs.LeafBits.{leafBits, readLeaf}
-use Rattle.leaf.specs.LeafCall.{BlockIn, halfAt, blockRefusal}
+use Rattle.leaf.specs.LeafCall.{BlockIn, termsOf, blockRefusal}
 use Rattle.tree.specs.Blocks.{blockCount, level, first, rebuilt}
 use Rattle.tree.specs.Plan.{Weight, Planning, root, leafAt, shownAt, planSplits, planWeight}
 
@@ -94,10 +94,9 @@ treeShown vectors d predictor t =
 -- ---- a plan as a call: its tree, its bits and error, the samples that it shows; it takes no result slice
 abbrev pub planningOf : BlockIn → ℕ → Planning
 planningOf b lambda = record {
-  tables = tablesOf (b .book) (halfAt (b .half));
-  vectors = vectorAt (b .codebook) (halfAt (b .half));
-  cap = b .cap;
-  allowSkip = b .allowSkip;
+  tables = tablesOf (b .book) (termsOf b .half);
+  vectors = vectorAt (b .codebook) (termsOf b .half);
+  terms = termsOf b;
   lambda = lambda;
   level = b .level;
   target = b .target;

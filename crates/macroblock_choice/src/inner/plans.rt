@@ -3,7 +3,7 @@ ghost use mathlib.Core.Path.{_≡_};
 ghost use lib.ListN.{length};
 ghost use Rattle.mv_cache.specs.Cache.{nearFrom};
 ghost use Rattle.macroblock.specs.MacroblockLaws.{Codables};
-ghost use Rattle.macroblock.specs.Choice.{skipsLeaves};
+ghost use Rattle.macroblock.specs.Choice.{skipsLeaves, planeTerms};
 ghost use Rattle.macroblock.specs.Motions.{motionOf};
 ghost use Rattle.macroblock.specs.Inner.{givenBy};
 ghost use Rattle.macroblock_choice.specs.Chosen.{planningBy, Placing, Carries, Made};
@@ -12,6 +12,7 @@ use super::super::inner::candidates::MbCandidate;
 use super::super::inner::candidates::candidate_of;
 use book::svq1_vlc::Svq1Half;
 use canvas::svq1_plane::Svq1PlaneCanvas;
+use leaf::svq1_enc_leaf::LeafTerms;
 use macroblock::inner::samples::baseline_of;
 use macroblock::inner::samples::half_of;
 use macroblock::svq1_enc_inter::MbMotion;
@@ -28,6 +29,17 @@ fn skips_leaves(half: Svq1Half) -> bool
     match half {
         Svq1Half::Intra => false,
         Svq1Half::Inter => true,
+    }
+}
+
+// In a plane every stage of a level is open.
+fn plane_terms(half: Svq1Half) -> LeafTerms
+    ensures { λ r. ⌜ r ≡ planeTerms half ⌝ }
+{
+    LeafTerms {
+        half,
+        cap: 6,
+        skip: skips_leaves(half),
     }
 }
 
@@ -48,16 +60,13 @@ fn plan_over(
     requires { ⌜ Placing (givenBy canvas (now reference) (now book) (now codebook)) (now raised) k (now target) × (length (now under) ≡ 256) ⌝ }
     ensures { λ r. ⌜ PlanFound (planningBy (givenBy canvas (now (reference .entry)) (now (book .entry)) (now (codebook .entry))) (now (target .entry)) settings k (motionOf motion vectors)) r ⌝ }
 {
-    let half = half_of(motion);
-    let skip = skips_leaves(half);
+    let terms = plane_terms(half_of(motion));
     baseline_of(canvas, reference, k, motion, vectors, under);
     plan(
-        half,
+        terms,
         book,
         codebook,
         raised,
-        6,
-        skip,
         settings.lambda,
         5,
         target,

@@ -8,9 +8,9 @@ ghost use Rattle.tree_samples.specs.Subtree.{inTree, BlockIn};
 ghost use Rattle.plan.specs.PlannedLaws.{LeafAt};
 ghost use Rattle.plan.specs.Planning.{LeafReady, Scratch, BlockLeaf, PlanReady, BlockReady, planningIn, leafRecord};
 use super::super::svq1_enc_tree::PlannedBlock;
-use book::svq1_vlc::Svq1Half;
 use leaf::inner::writing::book_leaf_bits;
 use leaf::svq1_enc_leaf::LeafCode;
+use leaf::svq1_enc_leaf::LeafTerms;
 use leaf_search::inner::level_leaf;
 use leaf_search::svq1_enc_leaf::LeafChoice;
 use tree::inner::level_of;
@@ -67,10 +67,8 @@ pub fn block_of(m: &[u8], d: usize, i: usize, out: &mut [u8])
 
 // The leaf choice of block i of a block of level d, by the raised codebook. `t` and `p` are scratch of block i's size, `sums` and `shown` of 256 samples.
 fn gathered_leaf(
-    half: Svq1Half,
+    terms: LeafTerms,
     raised: &[u8],
-    most: usize,
-    skip: bool,
     d: usize,
     target: &[u8],
     predictor: &[u8],
@@ -80,22 +78,20 @@ fn gathered_leaf(
     sums: &mut [u16],
     shown: &mut [u8],
 ) -> LeafChoice
-    requires { ⌜ LeafReady (length (now raised)) most d (length (now target)) (length (now predictor)) i ⌝ }
+    requires { ⌜ LeafReady terms (length (now raised)) d (length (now target)) (length (now predictor)) i ⌝ }
     requires { ⌜ Scratch (level i) (length (now t)) (length (now p)) (length (now sums)) (length (now shown)) ⌝ }
-    ensures { λ r. ⌜ BlockLeaf half (now (raised .entry)) most skip d (now (target .entry)) (now (predictor .entry)) i r ⌝ }
+    ensures { λ r. ⌜ BlockLeaf terms (now (raised .entry)) d (now (target .entry)) (now (predictor .entry)) i r ⌝ }
 {
     block_of(target, d, i, t);
     block_of(predictor, d, i, p);
     let l = level_at(level_of(i));
-    level_leaf(l, half, t, p, sums, shown, raised, most, skip)
+    level_leaf(l, terms, t, p, sums, shown, raised)
 }
 
 // The same with scratch of any size that is large enough.
 fn cut_leaf(
-    half: Svq1Half,
+    terms: LeafTerms,
     raised: &[u8],
-    most: usize,
-    skip: bool,
     d: usize,
     target: &[u8],
     predictor: &[u8],
@@ -105,16 +101,14 @@ fn cut_leaf(
     sums: &mut [u16],
     shown: &mut [u8],
 ) -> LeafChoice
-    requires { ⌜ LeafReady (length (now raised)) most d (length (now target)) (length (now predictor)) i ⌝ }
+    requires { ⌜ LeafReady terms (length (now raised)) d (length (now target)) (length (now predictor)) i ⌝ }
     requires { ⌜ (length (now t) ≡ 256) × (length (now p) ≡ 256) × (length (now sums) ≡ 256) × (length (now shown) ≡ 256) ⌝ }
-    ensures { λ r. ⌜ BlockLeaf half (now (raised .entry)) most skip d (now (target .entry)) (now (predictor .entry)) i r ⌝ }
+    ensures { λ r. ⌜ BlockLeaf terms (now (raised .entry)) d (now (target .entry)) (now (predictor .entry)) i r ⌝ }
 {
     let n = level_at(level_of(i)).vector_length();
     gathered_leaf(
-        half,
+        terms,
         raised,
-        most,
-        skip,
         d,
         target,
         predictor,
@@ -128,27 +122,23 @@ fn cut_leaf(
 
 // The same with scratch of its own.
 fn leaf_in(
-    half: Svq1Half,
+    terms: LeafTerms,
     raised: &[u8],
-    most: usize,
-    skip: bool,
     d: usize,
     target: &[u8],
     predictor: &[u8],
     i: usize,
 ) -> LeafChoice
-    requires { ⌜ LeafReady (length (now raised)) most d (length (now target)) (length (now predictor)) i ⌝ }
-    ensures { λ r. ⌜ BlockLeaf half (now (raised .entry)) most skip d (now (target .entry)) (now (predictor .entry)) i r ⌝ }
+    requires { ⌜ LeafReady terms (length (now raised)) d (length (now target)) (length (now predictor)) i ⌝ }
+    ensures { λ r. ⌜ BlockLeaf terms (now (raised .entry)) d (now (target .entry)) (now (predictor .entry)) i r ⌝ }
 {
     let mut t = [0u8; 256];
     let mut p = [0u8; 256];
     let mut sums = [0u16; 256];
     let mut shown = [0u8; 256];
     cut_leaf(
-        half,
+        terms,
         raised,
-        most,
-        skip,
         d,
         target,
         predictor,
@@ -175,21 +165,20 @@ fn as_leaf(code: LeafCode, stages: [u8; 6], bits: u32, error: u32) -> PlannedBlo
 
 // Block i as a leaf, by the book and the codebook. Lambda plays no part in it.
 pub fn plan_leaf(
-    half: Svq1Half,
+    terms: LeafTerms,
     book: &[u8],
     codebook: &[u8],
     raised: &[u8],
-    most: usize,
-    skip: bool,
     d: usize,
     target: &[u8],
     predictor: &[u8],
     i: usize,
 ) -> PlannedBlock
-    requires { ⌜ PlanReady half (now book) (now codebook) (now raised) most skip d (now target) (now predictor) × BlockReady d i ⌝ }
-    ensures { λ r. ⌜ LeafAt (planningIn half (now (book .entry)) (now (codebook .entry)) most skip 0 d (now (target .entry)) (now (predictor .entry))) i r ⌝ }
+    requires { ⌜ PlanReady terms (now book) (now codebook) (now raised) d (now target) (now predictor) × BlockReady d i ⌝ }
+    ensures { λ r. ⌜ LeafAt (planningIn terms (now (book .entry)) (now (codebook .entry)) 0 d (now (target .entry)) (now (predictor .entry))) i r ⌝ }
 {
-    let c = leaf_in(half, raised, most, skip, d, target, predictor, i);
+    let half = terms.half;
+    let c = leaf_in(terms, raised, d, target, predictor, i);
     let code = c.code;
     let stages = c.stages;
     let bits = book_leaf_bits(book, level_at(level_of(i)), half, code);

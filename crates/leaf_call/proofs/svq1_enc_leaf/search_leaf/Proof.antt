@@ -33,8 +33,8 @@ level-of-requires c κs =
     let p = block-passes b none in
     omega (arith, p .level)
 
-half-of-requires : tie.Need-half-of-requires
-half-of-requires c κs =
+terms-of-requires : tie.Need-terms-of-requires
+terms-of-requires c κs =
     let a = c .before .before .before .before .before .before .before .before .args in
     let b : BlockIn = record { book = a .book .now; codebook = a .codebook .now; level = a .level; half = a .half; cap = a .cap; allowSkip = a .skip; target = a .target .now; predictor = a .predictor .now } in
     let none : blockRefusal b ≡ 0 = sym (c .before .before .before .block-refusal .ensures) ∙ c .before .before .if1 .left in
@@ -55,8 +55,8 @@ searched-requires c κs =
       room = refl;
       target = p .target ∙ ap area (sym l);
       predictor = p .predictor ∙ ap area (sym l);
-      stages = p .cap;
-      skips = λ t. c .half-of .ensures ∙ p .skip t;
+      stages = rw (c .terms-of .ensures) (p .cap);
+      skips = rw (c .terms-of .ensures) (p .skip);
     }
 
 returns-2 : tie.Need-returns-2
@@ -66,7 +66,7 @@ returns-2 c =
     let b : BlockIn = record { book = a .book .now; codebook = a .codebook .now; level = a .level; half = a .half; cap = a .cap; allowSkip = a .skip; target = a .target .now; predictor = a .predictor .now } in
     let none : blockRefusal b ≡ 0 = sym (c .before .before .before .before .before .before .block-refusal .ensures) ∙ c .before .before .before .before .before .if1 .left in
     let p = block-passes b none in
-    let f = rw (c .before .before .before .level-of .ensures, c .before .before .half-of .ensures) at (c .before .searched .ensures) in
+    let f = rw (c .before .before .before .level-of .ensures, c .before .before .terms-of .ensures) at (c .before .searched .ensures) in
     answer-found b (c .before .searched .result) none (f .accepted) (f .leaf) (f .counted) (f .behind)
 
 pub search-leaf-spec : {M : Type 1} → statement M
@@ -78,6 +78,6 @@ search-leaf-spec =
     returns
     slice-aggregate-searched
     level-of-requires
-    half-of-requires
+    terms-of-requires
     searched-requires
     returns-2)

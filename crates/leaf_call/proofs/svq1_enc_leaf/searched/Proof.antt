@@ -41,9 +41,9 @@ book-leaf-bits-requires c κs =
     let l = c .before .before .before .level-leaf in
     let r = c .before .before .before .before .before .before .before .before .before .raise-codebook in
     let bytes : Bytes (a .codebook .now) = λ k. omega (arith, c .before .before .before .before .before .before .before .before .before .before .before .before .before .before .shared-slice-known2 .given k) in
-    let f = found-level (a .codebook .now) (r .last .1 .0) (a .half) (levelNumber (a .level)) (a .cap) (a .skip) (a .target .now) (a .predictor .now)
-    (l .result .code) (l .result .stages) (l .result .error) _ (l .last .1 .1 .1 .1 .1 .0) bytes (r .ensures) (q .stages) (q .target) (l .ensures) in
-    (q .known, found-fits (a .codebook .now) (a .half) (levelNumber (a .level)) (a .cap) (a .skip) (a .target .now) (a .predictor .now) (l .result .code) (l .result .stages) (l .result .error) _ (q .stages) (q .skips) f)
+    let f = found-level (a .codebook .now) (r .last .1 .0) (a .terms) (levelNumber (a .level)) (a .target .now) (a .predictor .now)
+    (l .result) _ (l .last .1 .1 .1 .1 .1 .0) bytes (r .ensures) (q .stages) (q .target) (l .ensures) in
+    (q .known, found-fits (a .codebook .now) (a .terms) (levelNumber (a .level)) (a .target .now) (a .predictor .now) (l .result .code) (l .result .stages) (l .result .error) _ (q .stages) (q .skips) f)
 
 found-answer-requires : tie.Need-found-answer-requires
 found-answer-requires c κs = search needs
@@ -59,8 +59,8 @@ returns c =
     let l = c .before .before .before .before .before .level-leaf in
     let r = c .before .before .before .before .before .before .before .before .before .before .before .raise-codebook in
     let bytes : Bytes (a .codebook .now) = λ k. omega (arith, c .before .before .before .before .before .before .before .before .before .before .before .before .before .before .before .before .shared-slice-known2 .given k) in
-    let f = found-level (a .codebook .now) (r .last .1 .0) (a .half) (levelNumber (a .level)) (a .cap) (a .skip) (a .target .now) (a .predictor .now)
-    (l .result .code) (l .result .stages) (l .result .error) _ (l .last .1 .1 .1 .1 .1 .0) bytes (r .ensures) (q .stages) (q .target) (l .ensures) in
+    let f = found-level (a .codebook .now) (r .last .1 .0) (a .terms) (levelNumber (a .level)) (a .target .now) (a .predictor .now)
+    (l .result) _ (l .last .1 .1 .1 .1 .1 .0) bytes (r .ensures) (q .stages) (q .target) (l .ensures) in
     rw (c .found-answer .ensures .0)
     (record { accepted = refl; leaf = f; counted = c .before .book-leaf-bits .ensures (l .result .stages) (c .found-answer .ensures .1); behind = l .ensures .behind })
 

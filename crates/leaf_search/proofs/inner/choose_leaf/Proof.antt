@@ -25,9 +25,8 @@ returns : tie.Need-returns
 returns c =
     let a = c .before .before .before .before .before .before .before .before .before .before .before .before .before .before .before .before .before .before .before .before .args in
     let s = c .before .before .before .before .before .before .before .before .before .before .before .before .search-coded in
-    rw (c .before .before .before .before .before .before .before .if1 .taken)
-    (skip-wins (a .half) (a .t .now) (a .p .now) (a .book .now) (a .base) (a .cap) (s .result .code) (s .result .stages) (s .result .error) _ (s .ensures) _ _ (c .before .before .before .before .before .before .distance-of .result)
-    (c .before .before .before .before .before .before .distance-of .ensures) (omega (arith, c .before .before .before .before .if2 .taken)) (c .before .before .copy .ensures) refl)
+    skip-wins (a .terms) (a .t .now) (a .p .now) (a .book .now) (a .base) (s .result .code) (s .result .stages) (s .result .error) _ (s .ensures) _ _ (c .before .before .before .before .before .before .distance-of .result)
+    (c .before .before .before .before .before .before .before .if1 .taken) (c .before .before .before .before .before .before .distance-of .ensures) (omega (arith, c .before .before .before .before .if2 .taken)) (c .before .before .copy .ensures) refl
 
 same-length-3 : tie.Need-same-length-3
 same-length-3 c = search needs
@@ -39,9 +38,8 @@ returns-2 : tie.Need-returns-2
 returns-2 c =
     let a = c .before .before .before .before .before .before .before .before .before .before .before .before .before .before .before .before .args in
     let s = c .before .before .before .before .before .before .before .before .search-coded in
-    rw (c .before .before .before .if1 .taken)
-    (skip-loses (a .half) (a .t .now) (a .p .now) (a .book .now) (a .base) (a .cap) (s .result .code) (s .result .stages) (s .result .error) _ (s .ensures) (c .before .before .distance-of .result)
-    (c .before .before .distance-of .ensures) (omega (arith, c .if2 .left)))
+    skip-loses (a .terms) (a .t .now) (a .p .now) (a .book .now) (a .base) (s .result .code) (s .result .stages) (s .result .error) _ (s .ensures) (c .before .before .distance-of .result)
+    (c .before .before .before .if1 .taken) (c .before .before .distance-of .ensures) (omega (arith, c .if2 .left))
 
 same-length-5 : tie.Need-same-length-5
 same-length-5 c = search needs
@@ -53,8 +51,7 @@ returns-3 : tie.Need-returns-3
 returns-3 c =
     let a = c .before .before .before .before .before .before .before .before .before .before .before .before .before .args in
     let s = c .before .before .before .before .before .search-coded in
-    rw (c .if1 .left)
-    (skip-closed (a .half) (a .t .now) (a .p .now) (a .book .now) (a .base) (a .cap) (s .result .code) (s .result .stages) (s .result .error) _ (s .ensures))
+    skip-closed (a .terms) (a .t .now) (a .p .now) (a .book .now) (a .base) (s .result .code) (s .result .stages) (s .result .error) _ (s .ensures) (c .if1 .left)
 
 pub choose-leaf-spec : {M : Type 1} → statement M
 choose-leaf-spec =

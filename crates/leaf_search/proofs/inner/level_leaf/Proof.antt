@@ -2,7 +2,7 @@
 use Rattle.book.specs.Level.{levelNumber}
 use lib.ListN.{length, drop}
 use lib.Seq.{length-take-le, take-at, drop-at}
-use Rattle.leaf.specs.Leaf.{capAt}
+use Rattle.leaf.specs.Leaf.{termsAt}
 use Rattle.codebook.specs.Raised.{pageStart}
 use Rattle.leaf.specs.AgreeLaws.{page-room}
 use Rattle.bits.specs.BasicsLaws.{front-size}
@@ -20,8 +20,8 @@ number-requires c κs = search needs
 page-start-requires : tie.Need-page-start-requires
 page-start-requires c κs = search needs
 
-cap-at-requires : tie.Need-cap-at-requires
-cap-at-requires c κs = search needs
+terms-at-requires : tie.Need-terms-at-requires
+terms-at-requires c κs = search needs
 
 slice-relend-prefix-choose-leaf : tie.Need-slice-relend-prefix-choose-leaf
 slice-relend-prefix-choose-leaf c =
@@ -67,16 +67,16 @@ choose-leaf-requires c κs =
     let m = area-range (levelNumber (a .level)) (q .level) in
     let n = length (a .t .now) in
     let d = levelNumber (a .level) in
-    let e = c .before .before .before .page-start .ensures ∙ ap (pageStart (a .half)) (c .before .before .before .before .number .ensures .0) in
-    let f = c .before .before .cap-at .ensures ∙ ap (λ (k : ℕ). capAt k (a .cap)) (c .before .before .before .before .number .ensures .0) in
+    let e = c .before .before .before .page-start .ensures ∙ ap (pageStart (a .terms .half)) (c .before .before .before .before .number .ensures .0) in
+    let f = c .before .before .terms-at .ensures ∙ ap (λ (k : ℕ). termsAt k (a .terms)) (c .before .before .before .before .number .ensures .0) in
     record {
       few = omega (arith, q .target, m .1);
       some = omega (arith, q .target, m .0);
       predictor = q .predictor ∙ sym (q .target);
       sums = length-take-le n (a .a .now) (omega (arith, q .sums, q .target, m .1));
       shown = length-take-le n (a .out .now) (omega (arith, q .samples, q .target, m .1));
-      stages = omega (arith, f, cap-small d (a .cap) (q .stages));
-      page = rw (e, f, q .target, q .copy) (page-room (a .half) d (a .cap) (q .stages));
+      stages = rw f (cap-small d (a .terms .cap) (q .stages));
+      page = rw (e, f, q .target, q .copy) (page-room (a .terms .half) d (a .terms .cap) (q .stages));
     }
 
 same-length : tie.Need-same-length
@@ -109,8 +109,8 @@ returns c =
     let m = area-range (levelNumber (a .level)) (q .level) in
     let n = length (a .t .now) in
     let d = levelNumber (a .level) in
-    let e = c .before .before .before .before .before .before .before .before .page-start .ensures ∙ ap (pageStart (a .half)) (c .before .before .before .before .before .before .before .before .before .number .ensures .0) in
-    let f = c .before .before .before .before .before .before .before .cap-at .ensures ∙ ap (λ (k : ℕ). capAt k (a .cap)) (c .before .before .before .before .before .before .before .before .before .number .ensures .0) in
+    let e = c .before .before .before .before .before .before .before .before .page-start .ensures ∙ ap (pageStart (a .terms .half)) (c .before .before .before .before .before .before .before .before .before .number .ensures .0) in
+    let f = c .before .before .before .before .before .before .before .terms-at .ensures ∙ ap (λ (k : ℕ). termsAt k (a .terms)) (c .before .before .before .before .before .before .before .before .before .number .ensures .0) in
     let w = c .before .before .before .before .choose-leaf in
     let new = w .last .1 .1 .1 .1 .0 in
     let size : length new ≡ n = w .kept .1 .1 .1 .1 .0 ∙ length-take-le n (a .out .now) (omega (arith, q .samples, q .target, m .1)) in
@@ -122,7 +122,7 @@ level-leaf-spec =
     (tie.spec
     number-requires
     page-start-requires
-    cap-at-requires
+    terms-at-requires
     slice-relend-prefix-choose-leaf
     slice-aggregate-choose-leaf
     slice-relend-prefix-choose-leaf-2

@@ -25,7 +25,7 @@ grow-tree-requires c κs = c .before .before .plan-blocks .ensures .1
 returns : tie.Need-returns
 returns c =
     let a = c .before .before .before .before .before .before .before .before .before .args in
-    plan-found (planningIn (a .half) (a .book .now) (a .codebook .now) (a .most) (a .skip) (a .lambda) (a .d) (a .target .now) (a .predictor .now)) (c .before .before .before .before .before .before .before .before .before .pre .five) (c .before .before .before .plan-blocks .result) (c .before .before .before .plan-blocks .ensures .0) _ (c .before .before .first-of .ensures) _ (c .grow-tree .ensures .0) (c .grow-tree .ensures .1)
+    plan-found (planningIn (a .terms) (a .book .now) (a .codebook .now) (a .lambda) (a .d) (a .target .now) (a .predictor .now)) (c .before .before .before .before .before .before .before .before .before .pre .five) (c .before .before .before .plan-blocks .result) (c .before .before .before .plan-blocks .ensures .0) _ (c .before .before .first-of .ensures) _ (c .grow-tree .ensures .0) (c .grow-tree .ensures .1)
 
 pub plan-spec : {M : Type 1} → statement M
 plan-spec =

@@ -15,8 +15,8 @@ plan-leaf-requires c κs = search needs
 returns : tie.Need-returns
 returns c =
     let a = c .before .before .before .before .before .before .before .args in
-    let g : Planning = planningIn (a .half) (a .book .now) (a .codebook .now) (a .most) (a .skip) (a .lambda) (a .d) (a .target .now) (a .predictor .now) in
-    leaf-planned g (a .i) _ (omega (arith, c .if1 .taken)) (leaf-any (a .half) (a .book .now) (a .codebook .now) (a .most) (a .skip) (a .lambda) (a .d) (a .target .now) (a .predictor .now) (a .i) _ (c .before .plan-leaf .ensures))
+    let g : Planning = planningIn (a .terms) (a .book .now) (a .codebook .now) (a .lambda) (a .d) (a .target .now) (a .predictor .now) in
+    leaf-planned g (a .i) _ (omega (arith, c .if1 .taken)) (leaf-any (a .terms) (a .book .now) (a .codebook .now) (a .lambda) (a .d) (a .target .now) (a .predictor .now) (a .i) _ (c .before .plan-leaf .ensures))
 
 mul-x : tie.Need-mul-x
 mul-x c = search needs
@@ -45,23 +45,23 @@ array-copy-out-y c = search needs
 decide-requires : tie.Need-decide-requires
 decide-requires c κs =
     let a = c .before .before .before .before .before .before .before .before .before .args in
-    let g : Planning = planningIn (a .half) (a .book .now) (a .codebook .now) (a .most) (a .skip) (a .lambda) (a .d) (a .target .now) (a .predictor .now) in
+    let g : Planning = planningIn (a .terms) (a .book .now) (a .codebook .now) (a .lambda) (a .d) (a .target .now) (a .predictor .now) in
     let bt : Bytes (a .target .now) = λ k. omega (arith, c .before .before .before .before .before .shared-slice-known4 .given k) in
     let bp : Bytes (a .predictor .now) = λ k. omega (arith, c .before .before .before .before .shared-slice-known5 .given k) in
-    let p = plan-ready (a .half) (a .book .now) (a .codebook .now) (a .raised .now) (a .most) (a .skip) (a .d) (a .target .now) (a .predictor .now) (a .lambda) (c .before .before .before .before .before .before .before .before .before .pre .0 .0) bt bp in
-    parts-light g p (a .i) (c .before .before .before .before .before .before .before .before .before .pre .0 .1) (a .t11) (c .before .before .before .before .before .before .before .before .before .pre .1) (omega (arith, c .before .before .if1 .left)) _
-    (leaf-any (a .half) (a .book .now) (a .codebook .now) (a .most) (a .skip) (a .lambda) (a .d) (a .target .now) (a .predictor .now) (a .i) _ (c .before .before .before .plan-leaf .ensures))
+    let p = plan-ready (a .terms) (a .book .now) (a .codebook .now) (a .raised .now) (a .d) (a .target .now) (a .predictor .now) (a .lambda) (c .before .before .before .before .before .before .before .before .before .pre .0 .0) bt bp in
+    parts-light g p (a .i) (c .before .before .before .before .before .before .before .before .before .pre .0 .1) (a .t9) (c .before .before .before .before .before .before .before .before .before .pre .1) (omega (arith, c .before .before .if1 .left)) _
+    (leaf-any (a .terms) (a .book .now) (a .codebook .now) (a .lambda) (a .d) (a .target .now) (a .predictor .now) (a .i) _ (c .before .before .before .plan-leaf .ensures))
 
 returns-2 : tie.Need-returns-2
 returns-2 c =
     let a = c .before .before .before .before .before .before .before .before .before .before .args in
-    let g : Planning = planningIn (a .half) (a .book .now) (a .codebook .now) (a .most) (a .skip) (a .lambda) (a .d) (a .target .now) (a .predictor .now) in
+    let g : Planning = planningIn (a .terms) (a .book .now) (a .codebook .now) (a .lambda) (a .d) (a .target .now) (a .predictor .now) in
     let bt : Bytes (a .target .now) = λ k. omega (arith, c .before .before .before .before .before .before .shared-slice-known4 .given k) in
     let bp : Bytes (a .predictor .now) = λ k. omega (arith, c .before .before .before .before .before .shared-slice-known5 .given k) in
-    let p = plan-ready (a .half) (a .book .now) (a .codebook .now) (a .raised .now) (a .most) (a .skip) (a .d) (a .target .now) (a .predictor .now) (a .lambda) (c .before .before .before .before .before .before .before .before .before .before .pre .0 .0) bt bp in
+    let p = plan-ready (a .terms) (a .book .now) (a .codebook .now) (a .raised .now) (a .d) (a .target .now) (a .predictor .now) (a .lambda) (c .before .before .before .before .before .before .before .before .before .before .pre .0 .0) bt bp in
     rw (c .decide .ensures)
-    (block-planned g p (a .i) (c .before .before .before .before .before .before .before .before .before .before .pre .0 .1) (a .t11) (c .before .before .before .before .before .before .before .before .before .before .pre .1) (omega (arith, c .before .before .before .if1 .left)) _
-    (leaf-any (a .half) (a .book .now) (a .codebook .now) (a .most) (a .skip) (a .lambda) (a .d) (a .target .now) (a .predictor .now) (a .i) _ (c .before .before .before .before .plan-leaf .ensures)))
+    (block-planned g p (a .i) (c .before .before .before .before .before .before .before .before .before .before .pre .0 .1) (a .t9) (c .before .before .before .before .before .before .before .before .before .before .pre .1) (omega (arith, c .before .before .before .if1 .left)) _
+    (leaf-any (a .terms) (a .book .now) (a .codebook .now) (a .lambda) (a .d) (a .target .now) (a .predictor .now) (a .i) _ (c .before .before .before .before .plan-leaf .ensures)))
 
 pub plan-block-spec : {M : Type 1} → statement M
 plan-block-spec =

@@ -8,10 +8,10 @@ use Rattle.plan.proofs.inner.plan_blocks.Statement.{statement}
 use Rattle.plan.proofs.inner.plan_blocks.Tie as tie
 
 abbrev Inv-loop : tie.InvT-loop
-Inv-loop half book codebook raised most skip lambda d target predictor a₀ i₀ a i = Filling (planningIn half book codebook most skip lambda d target predictor) a i
+Inv-loop terms book codebook raised lambda d target predictor a₀ i₀ a i = Filling (planningIn terms book codebook lambda d target predictor) a i
 
 abbrev μ-loop : tie.MeasureT-loop
-μ-loop half book codebook raised most skip lambda d target predictor a₀ i₀ a i = i
+μ-loop terms book codebook raised lambda d target predictor a₀ i₀ a i = i
 
 loop-holds : tie.Need-loop-holds Inv-loop μ-loop
 loop-holds c = fill-begins _ _ refl
@@ -38,7 +38,7 @@ loop-again : tie.Need-loop-again Inv-loop μ-loop
 loop-again c =
     let a = c .before .before .before .before .before .before .before .before .before .before .args in
     let l = c .before .before .before .before .loop in
-    fill-taken (planningIn (a .half) (a .book .now) (a .codebook .now) (a .most) (a .skip) (a .lambda) (a .d) (a .target .now) (a .predictor .now)) (l .a) (l .i) _ (l .inv) (omega (arith, c .before .before .before .loop-test .taken)) _ (c .plan-block .ensures)
+    fill-taken (planningIn (a .terms) (a .book .now) (a .codebook .now) (a .lambda) (a .d) (a .target .now) (a .predictor .now)) (l .a) (l .i) _ (l .inv) (omega (arith, c .before .before .before .loop-test .taken)) _ (c .plan-block .ensures)
 
 loop-less-2 : tie.Need-loop-less-2 Inv-loop μ-loop
 loop-less-2 c = search needs
@@ -47,7 +47,7 @@ loop-again-2 : tie.Need-loop-again-2 Inv-loop μ-loop
 loop-again-2 c =
     let a = c .before .before .before .before .before .before .before .before .before .args in
     let l = c .before .before .before .loop in
-    fill-passed (planningIn (a .half) (a .book .now) (a .codebook .now) (a .most) (a .skip) (a .lambda) (a .d) (a .target .now) (a .predictor .now)) (l .a) (l .i) _ (l .inv) (omega (arith, c .before .before .loop-test .taken)) (sym (c .before .in-tree .ensures) ∙ c .if1 .left)
+    fill-passed (planningIn (a .terms) (a .book .now) (a .codebook .now) (a .lambda) (a .d) (a .target .now) (a .predictor .now)) (l .a) (l .i) _ (l .inv) (omega (arith, c .before .before .loop-test .taken)) (sym (c .before .in-tree .ensures) ∙ c .if1 .left)
 
 returns : tie.Need-returns Inv-loop μ-loop
 returns c = (fill-ends _ _ _ (c .before .loop .inv) (c .loop-test .left), c .before .loop .inv .clean)

@@ -24,8 +24,8 @@ returns c =
 slice-aggregate-planned : tie.Need-slice-aggregate-planned
 slice-aggregate-planned c = search needs
 
-half-of-requires : tie.Need-half-of-requires
-half-of-requires c κs =
+terms-of-requires : tie.Need-terms-of-requires
+terms-of-requires c κs =
     let a = c .before .before .before .before .before .before .before .args in
     let b : BlockIn = record { book = a .book .now; codebook = a .codebook .now; level = a .level; half = a .half; cap = a .cap; allowSkip = a .skip; target = a .target .now; predictor = a .predictor .now } in
     let none : blockRefusal b ≡ 0 = sym (c .before .before .block-refusal .ensures) ∙ c .before .if1 .left in
@@ -48,8 +48,8 @@ planned-requires c κs =
         room = refl;
         target = p .target;
         predictor = p .predictor;
-        stages = p .cap;
-        skips = λ t. c .before .half-of .ensures ∙ p .skip t;
+        stages = rw (c .before .terms-of .ensures) (p .cap);
+        skips = rw (c .before .terms-of .ensures) (p .skip);
       };
       five = p .level;
       zeros = refl;
@@ -62,7 +62,7 @@ returns-2 c =
     let none : blockRefusal b ≡ 0 = sym (c .before .before .before .before .before .before .before .before .block-refusal .ensures) ∙ c .before .before .before .before .before .before .before .if1 .left in
     let bt : Bytes (a .target .now) = λ k. omega (arith, c .before .before .before .before .before .before .before .before .before .before .shared-slice-known3 .given k) in
     let bp : Bytes (a .predictor .now) = λ k. omega (arith, c .before .before .before .before .before .before .before .before .before .shared-slice-known4 .given k) in
-    plan-answered b (a .lambda) bt bp none _ (c .before .before .before .before .before .half-of .ensures) (c .before .before .before .planned .result) _ (c .before .before .before .planned .ensures)
+    plan-answered b (a .lambda) bt bp none _ (c .before .before .before .before .before .terms-of .ensures) (c .before .before .before .planned .result) _ (c .before .before .before .planned .ensures)
 
 pub plan-macroblock-spec : {M : Type 1} → statement M
 plan-macroblock-spec =
@@ -72,7 +72,7 @@ plan-macroblock-spec =
     refused-plan-requires
     returns
     slice-aggregate-planned
-    half-of-requires
+    terms-of-requires
     slice-aggregate-planned-2
     planned-requires
     returns-2)

@@ -49,7 +49,7 @@ same-length-4 c = search needs
 returns : tie.Need-returns
 returns c =
     let e : levelNumber (c .before .before .before .before .before .before .before .before .before .level-at .result) ≡ level (c .before .before .before .before .before .before .before .before .before .before .before .before .before .before .before .before .before .before .before .before .before .before .before .before .before .before .args .i) = c .before .before .before .before .before .before .before .before .before .level-at .ensures ∙ c .before .before .before .before .before .before .before .before .before .before .level-of .ensures .0 in
-    block-leaf _ _ _ _ _ _ _ _ _ _ _ _ _ _ e (c .before .before .before .before .before .before .before .before .before .before .before .before .before .before .before .before .before .block-of .kept .1 .1 .1 .0 ∙ c .before .before .before .before .before .before .before .before .before .before .before .before .before .before .before .before .before .before .before .before .before .before .before .before .before .before .pre .1 .t-long) (c .before .before .before .before .before .before .before .before .before .before .before .before .before .before .before .before .before .block-of .ensures) (c .before .before .before .before .before .before .before .before .before .before .before .before .before .block-of2 .ensures) (c .before .before .before .before .level-leaf .ensures)
+    block-leaf _ _ _ _ _ _ _ _ _ _ _ _ e (c .before .before .before .before .before .before .before .before .before .before .before .before .before .before .before .before .before .block-of .kept .1 .1 .1 .0 ∙ c .before .before .before .before .before .before .before .before .before .before .before .before .before .before .before .before .before .before .before .before .before .before .before .before .before .before .pre .1 .t-long) (c .before .before .before .before .before .before .before .before .before .before .before .before .before .before .before .before .before .block-of .ensures) (c .before .before .before .before .before .before .before .before .before .before .before .before .before .block-of2 .ensures) (c .before .before .before .before .level-leaf .ensures)
 
 pub gathered-leaf-spec : {M : Type 1} → statement M
 gathered-leaf-spec =

@@ -13,7 +13,7 @@ use Rattle.plan.proofs.inner.leaves.plan_leaf.Tie as tie
 leaf-in-requires : tie.Need-leaf-in-requires
 leaf-in-requires c κs =
     let a = c .before .before .before .before .before .args in
-    leaf-ready (a .half) (a .book .now) (a .codebook .now) (a .raised .now) (a .most) (a .skip) (a .d) (a .target .now) (a .predictor .now) (a .i) (c .before .before .before .before .before .pre .0) (c .before .before .before .before .before .pre .1)
+    leaf-ready (a .terms) (a .book .now) (a .codebook .now) (a .raised .now) (a .d) (a .target .now) (a .predictor .now) (a .i) (c .before .before .before .before .before .pre .0) (c .before .before .before .before .before .pre .1)
 
 level-of-requires : tie.Need-level-of-requires
 level-of-requires c κs = search needs
@@ -26,8 +26,8 @@ book-leaf-bits-requires c κs =
     let a = c .before .before .before .before .before .before .before .before .before .args in
     let q = c .before .before .before .before .before .before .before .before .before .pre .0 in
     let bytes : Bytes (a .codebook .now) = λ k. omega (arith, c .before .before .before .before .before .before .before .shared-slice-known2 .given k) in
-    let f = leaf-by (a .half) (a .book .now) (a .codebook .now) (a .raised .now) (a .most) (a .skip) (a .d) (a .target .now) (a .predictor .now) (a .i) (c .before .before .before .leaf-in .result) q (c .before .before .before .before .before .before .before .before .before .pre .1) bytes (c .before .before .before .leaf-in .ensures) in
-    (q .good, found-fits (a .codebook .now) (a .half) (level (a .i)) (a .most) (a .skip) _ _ _ _ _ _ (q .few) (q .inter) f)
+    let f = leaf-by (a .terms) (a .book .now) (a .codebook .now) (a .raised .now) (a .d) (a .target .now) (a .predictor .now) (a .i) (c .before .before .before .leaf-in .result) q (c .before .before .before .before .before .before .before .before .before .pre .1) bytes (c .before .before .before .leaf-in .ensures) in
+    (q .good, found-fits (a .codebook .now) (a .terms) (level (a .i)) _ _ _ _ _ _ (q .few) (q .inter) f)
 
 as-leaf-requires : tie.Need-as-leaf-requires
 as-leaf-requires c κs = search needs
@@ -38,7 +38,7 @@ returns c =
     let bytes : Bytes (a .codebook .now) = λ k. omega (arith, c .before .before .before .before .before .before .before .before .before .shared-slice-known2 .given k) in
     let e : levelNumber (c .before .before .level-at .result) ≡ level (a .i) = c .before .before .level-at .ensures ∙ c .before .before .before .level-of .ensures .0 in
     rw (c .as-leaf .ensures .0)
-    (leaf-at (a .half) (a .book .now) (a .codebook .now) (a .raised .now) (a .most) (a .skip) (a .d) (a .target .now) (a .predictor .now) (a .i) (c .before .before .before .before .before .leaf-in .result) (c .before .before .before .before .before .before .before .before .before .before .before .pre .0) (c .before .before .before .before .before .before .before .before .before .before .before .pre .1) bytes (c .before .before .before .before .before .leaf-in .ensures) _
+    (leaf-at (a .terms) (a .book .now) (a .codebook .now) (a .raised .now) (a .d) (a .target .now) (a .predictor .now) (a .i) (c .before .before .before .before .before .leaf-in .result) (c .before .before .before .before .before .before .before .before .before .before .before .pre .0) (c .before .before .before .before .before .before .before .before .before .before .before .pre .1) bytes (c .before .before .before .before .before .leaf-in .ensures) _
     (rw e at (c .before .book-leaf-bits .ensures (c .before .before .before .before .before .leaf-in .result .stages) (c .as-leaf .ensures .1))))
 
 pub plan-leaf-spec : {M : Type 1} → statement M
