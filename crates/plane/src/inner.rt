@@ -7,6 +7,7 @@ ghost use Rattle.canvas.specs.Canvas.{largestSide, blocksAlong};
 ghost use Rattle.macroblock.specs.Inner.{givenBy};
 ghost use Rattle.plane.specs.Reader.{lengthsRefusal, readRefusalBy, PlaneReady, PlaneAccepted, ReadThrough};
 use super::svq1_plane::ReadEnd;
+use book::inner::CODEBOOK_BYTES;
 use canvas::svq1_plane::Svq1PlaneCanvas;
 use canvas::svq1_plane::plane_refusal;
 use codebook::inner::raise_codebook;
@@ -164,7 +165,7 @@ pub fn read_accepted(
     requires { ⌜ PlaneAccepted (givenBy canvas (now reference) (now book) (now codebook)) (record { recon = now recon; vx = now vx; vy = now vy }) (length (now bytes)) start ⌝ }
     ensures { λ r. ⌜ ReadThrough (givenBy canvas (now (reference .entry)) (now (book .entry)) (now (codebook .entry))) (now (bytes .entry)) start (record { recon = now (recon .entry); vx = now (vx .entry); vy = now (vy .entry) }) r (record { recon = now (recon .exit); vx = now (vx .exit); vy = now (vy .exit) }) ⌝ }
 {
-    let mut raised = [0u8; 23040];
+    let mut raised = [0u8; CODEBOOK_BYTES];
     read_raised(
         canvas,
         reference,

@@ -12,6 +12,7 @@ ghost use Rattle.macroblock_enc.specs.Limits.{limitOf, Spends};
 ghost use Rattle.plane_enc.specs.Stated.{told, ToldThrough};
 ghost use Rattle.plane_enc.specs.Writer.{writeRefusalBy};
 use super::svq1_enc_inter::WriteEnd;
+use book::inner::CODEBOOK_BYTES;
 use canvas::svq1_plane::Svq1PlaneCanvas;
 use canvas::svq1_plane::plane_refusal;
 use codebook::inner::raise_codebook;
@@ -208,7 +209,7 @@ pub fn write_accepted(
     requires { ⌜ PlaneAccepted (givenBy canvas (now reference) (now book) (now codebook)) (record { recon = now recon; vx = now vx; vy = now vy }) (length (now out)) start × (length (now source) ≡ canvas .width * canvas .height) × Spends (givenBy canvas (now reference) (now book) (now codebook)) limit 0 0 ⌝ }
     ensures { λ r. ⌜ ToldThrough (givenBy canvas (now (reference .entry)) (now (book .entry)) (now (codebook .entry))) (taskIn (now (source .entry)) lambda radius four (limitOf limit)) (now (out .entry)) start (record { recon = now (recon .entry); vx = now (vx .entry); vy = now (vy .entry) }) (now (stated .entry)) r (now (out .exit)) (record { recon = now (recon .exit); vx = now (vx .exit); vy = now (vy .exit) }) (now (stated .exit)) ⌝ }
 {
-    let mut raised = [0u8; 23040];
+    let mut raised = [0u8; CODEBOOK_BYTES];
     write_raised(
         canvas,
         source,
