@@ -14,7 +14,7 @@ use Rattle.bits.specs.BasicsLaws.{both-true, or-none, unless-none, length-value
 use Rattle.bits.specs.Calls.{startRefusal}
 use Rattle.book.specs.Book.{dataRefusal}
 use Rattle.book.specs.BookLaws.{data-passes}
-use Rattle.canvas.specs.Canvas.{largestSide, sideOk, padded16, sizeRefusal, canvasRefusal}
+use Rattle.canvas.specs.Canvas.{largestSide, blocksAlong, sideOk, padded16, sizeRefusal, canvasRefusal}
 use Rattle.macroblock.specs.Macroblock.{Given, cols, rows}
 use Rattle.macroblock.specs.Choice.{Task, paddedSource}
 use Rattle.macroblock.specs.MacroblockLaws.{Fine}
@@ -32,6 +32,10 @@ pub record Accepted (g : Given) (t : Task) : Type 0 where
   pub size-passes : sizeRefusal (g .width) (g .height) ≡ 0
   pub canvas-passes : canvasRefusal (g .width) (g .height) (g .reference) ≡ 0
   pub data-passes : dataRefusal (g .book) (g .codebook) ≡ 0
+
+-- the samples of a padded plane
+area : (width height : ℕ) → padded16 width * padded16 height ≡ blocksAlong height * 16 * padded16 width
+area width height = mul-comm (padded16 width) (padded16 height) ∙ ap (λ (n : ℕ). n * padded16 width) (mul-comm 16 (blocksAlong height))
 
 module _ (g : Given) (t : Task) (out : List ℕ) (start : ℕ) (a : Slices) where
   -- the parts of the writer's refusal
@@ -70,15 +74,15 @@ module _ (g : Given) (t : Task) (out : List ℕ) (start : ℕ) (a : Slices) wher
       let hs = eqb-true (g .reference .stride) (padded16 (g .width)) (sr .0) in
       let hr = eqb-true (g .reference .rows) (padded16 (g .height)) (sr .1) in
       let hl = eqb-true (length (g .reference .samples)) (g .reference .stride * g .reference .rows) (unless-none c4 4 (omega arith) (two .1)) in
-      let area : g .reference .stride * g .reference .rows ≡ rows g * 16 * (16 * cols g) =
-      rw (hs, hr) (mul-comm (16 * cols g) (16 * rows g) ∙ ap (λ (n : ℕ). n * (16 * cols g)) (mul-comm 16 (rows g))) in
+      let whole : g .reference .stride * g .reference .rows ≡ rows g * 16 * (16 * cols g) =
+      rw (hs, hr) (area (g .width) (g .height)) in
       let ok = both-true (sideOk (g .width)) (sideOk (g .height)) (unless-none (sideOk (g .width) && sideOk (g .height)) 1 (omega arith) (p .size)) in
       let some = leb-true 1 (g .width) (both-true (leb 1 (g .width)) (leb (g .width) largestSide) (ok .0) .0) in
       record {
         fine = record { book = data-passes (g .book) (g .codebook) (p .tables) .1; source-bytes = mem .source; reference-bytes = mem .reference };
         wide = omega arith;
-        canvas = area;
-        reference-size = hl ∙ area;
+        canvas = whole;
+        reference-size = hl ∙ whole;
         size-passes = p .size;
         canvas-passes = p .canvas;
         data-passes = p .tables;
@@ -98,6 +102,6 @@ slices-sized g t ok d e =
       vy = leb-true (4 * count g) (length (d .vy)) (xy .1);
     }
 
-pub padded-size : (g : Given) (t : Task) → Accepted g t → length (paddedSource g t) ≡ rows g * 16 * (16 * cols g)
+pub padded-size : (width height : ℕ) (source : List ℕ) → length (paddedSource width height source) ≡ blocksAlong height * 16 * padded16 width
 unfolding paddedSource
-padded-size g t ok = length-values _ (g .reference .stride * g .reference .rows) 0 ∙ ok .canvas
+padded-size width height source = length-values _ (padded16 width * padded16 height) 0 ∙ area width height

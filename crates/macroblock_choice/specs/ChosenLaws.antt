@@ -21,17 +21,17 @@ use Rattle.tree.specs.TreeBits.{planTree, treeBits}
 use Rattle.macroblock_choice.specs.declared.inner.candidates.MbCandidate.{MbCandidate}
 use Rattle.macroblock.specs.declared.svq1_enc_inter.MbMotion.{MbMotion}
 use Rattle.canvas.specs.declared.svq1_plane.Svq1PlaneCanvas.{Svq1PlaneCanvas}
-use Rattle.macroblock.specs.Macroblock.{Given, rows, Motion, skipped, coded, halfOf, baseline, shown}
+use Rattle.macroblock.specs.Macroblock.{Given, Motion, skipped, coded, halfOf, baseline, shown}
 use Rattle.macroblock.specs.MacroblockLaws.{Fine, baseline-block}
 use Rattle.macroblock.specs.Limit.{Limit, unlimited}
-use Rattle.macroblock.specs.Choice.{Task, target, skipsLeaves, planningFor, singleTried, fourTried}
+use Rattle.macroblock.specs.Choice.{Task, targetOf, target, skipsLeaves, planningFor, singleTried, fourTried}
 use Rattle.macroblock.specs.Motions.{motionOf}
 use Rattle.macroblock.specs.Inner.{givenBy}
-use Rattle.macroblock.specs.InnerLaws.{fits, book-passes, wide}
+use Rattle.macroblock.specs.InnerLaws.{fits, book-passes}
 use Rattle.macroblock_search.specs.declared.inner.motions.FoundMotion.{FoundMotion}
 use Rattle.macroblock_search.specs.Searches.{Searching, motionsOf, stillFound, MotionsFound}
-use Rattle.macroblock_search.specs.Target.{targetOf, Sources}
-use Rattle.macroblock_search.specs.TargetLaws.{target-is, target-long}
+use Rattle.macroblock_search.specs.Target.{Sources}
+use Rattle.macroblock_search.specs.TargetLaws.{target-long}
 use Rattle.macroblock_choice.specs.Candidates.{choiceOf, Stated, CandidateOf, Tried}
 use Rattle.macroblock_choice.specs.CandidatesLaws.{coded-is, coded-stated, keeps, tried-one, chosen-is}
 use Rattle.plan.specs.Planning.{PlanReady, PlanFound, planningIn}
@@ -151,16 +151,10 @@ module _ (g : Given) (raised source : List ℕ) (k : ℕ) (p : Sourced g raised 
         number = p .number;
       }
 
-  block-is : (lambda radius : ℕ) (allow : Bool) (limit : Limit) (block : List ℕ) → block ≡ targetOf (g .width) (g .height) source k → block ≡ target g (taskIn source lambda radius allow limit) k
-  block-is lambda radius allow limit block e =
-      let f = fits g raised (p .ok) in
-      e ∙ target-is g (taskIn source lambda radius allow limit) k (f .stride) (f .rows) (p .number) (wide g raised (p .ok))
-
   pub block-placed : (block : List ℕ) → block ≡ targetOf (g .width) (g .height) source k → Placing g raised k block
   block-placed block e = record { ok = p .ok; number = p .number; whole = ap length e ∙ target-long (g .width) (g .height) source k }
 
   pub chosen-by : (lambda radius : ℕ) (allow : Bool) (room : ℕ) (block : List ℕ) (n : Near) (r : MbCandidate) → block ≡ targetOf (g .width) (g .height) source k
       → ChosenFor g block lambda radius allow room k n r → (limit : Limit) → ChosenBy g (taskIn source lambda radius allow limit) room k n r
   chosen-by lambda radius allow room block n r e h limit =
-      let q = block-is lambda radius allow limit block e in
-      record { stated = rw q at (h .stated); is = h .is (taskIn source lambda radius allow limit) q refl refl refl }
+      record { stated = rw e at (h .stated); is = h .is (taskIn source lambda radius allow limit) e refl refl refl }
