@@ -5,6 +5,8 @@ ghost use Prim.Native.Nat.{_<_};
 ghost use lib.ListN.{length, getD};
 ghost use Rattle.code_tables.specs.Codes.{goodTable};
 ghost use Rattle.book.specs.Book.{bookBytes, codeTableSizes, eachPrefixFree, bookRefusal, dataRefusal};
+use book::inner::BOOK_BYTES;
+use book::inner::CODEBOOK_BYTES;
 use code_tables::inner;
 
 // Entries of each of the sixteen code tables, in the order in which a book holds them.
@@ -52,7 +54,7 @@ fn each_prefix_free(book: &[u8]) -> bool
 pub fn book_refusal(book: &[u8]) -> u8
     ensures { λ r. ⌜ r ≡ bookRefusal (now (book .entry)) ⌝ }
 {
-    if book.len() != 2796 {
+    if book.len() != BOOK_BYTES {
         return 5;
     }
     if inner::good_table(book) {
@@ -68,7 +70,7 @@ pub fn book_refusal(book: &[u8]) -> u8
 pub fn data_refusal(book: &[u8], codebook: &[u8]) -> u8
     ensures { λ r. ⌜ r ≡ dataRefusal (now (book .entry)) (now (codebook .entry)) ⌝ }
 {
-    if codebook.len() != 23040 {
+    if codebook.len() != CODEBOOK_BYTES {
         return 5;
     }
     book_refusal(book)

@@ -6,7 +6,7 @@ use mathlib.Core.Option.{Option, none, some}
 use lib.Dec.{eqb, ltb}
 use Rattle.bits.specs.Basics.{pick, every, orElse, unless}
 use Rattle.code_tables.specs.Codes.{goodEntry}
-use Rattle.text.specs.Text.{numberUpTo, linesOf, fieldsOf, same}
+use Rattle.text.specs.Text.{ascii, numberUpTo, linesOf, fieldsOf, same}
 use Rattle.book.specs.Book.{bookEntries, codeTableSizes, eachPrefixFree}
 
 -- a table as a file names it, its first entry in a book and its entries
@@ -15,15 +15,15 @@ pub record Table : Type 0 where
   pub from : ℕ
   pub size : ℕ
 
--- mode, vector, intramean, intermean, intrastage, interstage
+-- the six tables in a book's order
 abbrev pub fileTables : List Table
 fileTables =
-    record { name = 109 ∷ 111 ∷ 100 ∷ 101 ∷ []; from = 0; size = 4 }
-    ∷ record { name = 118 ∷ 101 ∷ 99 ∷ 116 ∷ 111 ∷ 114 ∷ []; from = 4; size = 64 }
-    ∷ record { name = 105 ∷ 110 ∷ 116 ∷ 114 ∷ 97 ∷ 109 ∷ 101 ∷ 97 ∷ 110 ∷ []; from = 68; size = 256 }
-    ∷ record { name = 105 ∷ 110 ∷ 116 ∷ 101 ∷ 114 ∷ 109 ∷ 101 ∷ 97 ∷ 110 ∷ []; from = 324; size = 512 }
-    ∷ record { name = 105 ∷ 110 ∷ 116 ∷ 114 ∷ 97 ∷ 115 ∷ 116 ∷ 97 ∷ 103 ∷ 101 ∷ []; from = 836; size = 48 }
-    ∷ record { name = 105 ∷ 110 ∷ 116 ∷ 101 ∷ 114 ∷ 115 ∷ 116 ∷ 97 ∷ 103 ∷ 101 ∷ []; from = 884; size = 48 }
+    record { name = ascii "mode"; from = 0; size = 4 }
+    ∷ record { name = ascii "vector"; from = 4; size = 64 }
+    ∷ record { name = ascii "intramean"; from = 68; size = 256 }
+    ∷ record { name = ascii "intermean"; from = 324; size = 512 }
+    ∷ record { name = ascii "intrastage"; from = 836; size = 48 }
+    ∷ record { name = ascii "interstage"; from = 884; size = 48 }
     ∷ []
 
 -- what a line says: the code's length and value at an entry of the book

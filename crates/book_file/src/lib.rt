@@ -10,6 +10,8 @@ ghost use Rattle.text.specs.Text.{fieldsOf};
 ghost use Rattle.book.specs.Book.{bookEntries, bookBytes};
 ghost use Rattle.book_file.specs.BookFile.{fileTables, entryNamed, lineRead, fileLines};
 ghost use Rattle.book_file.specs.Scan.{Unmet, begun, FileHeld, BookFileRead, entryTold, lineTold, heldTold, codeAt, withEntry, scanned, allMet};
+use book::inner::BOOK_BYTES;
+use book::inner::BOOK_ENTRIES;
 use code_tables::inner;
 use text::NumberRead;
 
@@ -195,11 +197,11 @@ fn read_into(file: &[u8], book: &mut [u8], met: &mut [u8]) -> u8
 pub fn read_book_file(file: &[u8], book: &mut [u8]) -> u8
     ensures { λ r. ⌜ BookFileRead (now (file .entry)) (now (book .entry)) r (now (book .exit)) ⌝ }
 {
-    if book.len() != 2796 {
+    if book.len() != BOOK_BYTES {
         return 5;
     }
-    let mut held = [0u8; 2796];
-    let mut met = [0u8; 932];
+    let mut held = [0u8; BOOK_BYTES];
+    let mut met = [0u8; BOOK_ENTRIES];
     let refusal = read_into(file, &mut held, &mut met);
     if refusal != 0 {
         return refusal;

@@ -7,6 +7,9 @@ ghost use Rattle.canvas.specs.Canvas.{largestSide, padded16, sideOk, siz
 // The side of a macroblock in samples.
 pub const MB_DIM: usize = 16;
 
+// The largest width or height of a plane.
+pub const LARGEST_SIDE: usize = 1024;
+
 // A plane's size, and that of its canvas: the size rounded up to whole macroblocks. Its samples are lent beside it.
 pub struct Svq1PlaneCanvas {
     pub width: usize,
@@ -21,7 +24,7 @@ fn side_ok(n: usize) -> bool
     if n < 1 {
         return false;
     }
-    n <= 1024
+    n <= LARGEST_SIDE
 }
 
 // Refusal 1: a width or height of 0 or above the largest; 0 for none.

@@ -2,6 +2,8 @@
 mod inner;
 
 ghost use Prim.Native.Nat.{_≤_};
+use book::inner::BOOK_BYTES;
+use book::inner::CODEBOOK_BYTES;
 use house::fill_house_book;
 use house::fill_house_codebook;
 
@@ -33,9 +35,9 @@ fn print_cards(line: &mut [u8], book: &[u8], codebook: &[u8]) {
 }
 
 fn main() {
-    let mut book = [0u8; 2796];
+    let mut book = [0u8; BOOK_BYTES];
     fill_house_book(&mut book);
-    let mut codebook = [0u8; 23040];
+    let mut codebook = [0u8; CODEBOOK_BYTES];
     fill_house_codebook(&mut codebook);
     let mut line = [0u8; 256];
     print_cards(&mut line, &book, &codebook);

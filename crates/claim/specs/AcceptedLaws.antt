@@ -9,7 +9,7 @@ use lib.ListN.{length}
 use Rattle.bits.specs.BasicsLaws.{or-next, length-values}
 use Rattle.book.specs.Book.{dataRefusal}
 use Rattle.book.specs.BookLaws.{data-passes}
-use Rattle.canvas.specs.Canvas.{sizeRefusal, canvasRefusal}
+use Rattle.canvas.specs.Canvas.{blocksAlong, padded16, sizeRefusal, canvasRefusal}
 use Rattle.canvas.specs.CanvasLaws.{plane-passes}
 use Rattle.macroblock.specs.Macroblock.{Given, cols, rows}
 use Rattle.macroblock.specs.Choice.{Task, paddedSource}
@@ -29,17 +29,20 @@ pub record Accepted (g : Given) (t : Task) : Type 0 where
   pub canvas-passes : canvasRefusal (g .width) (g .height) (g .reference) ≡ 0
   pub data-passes : dataRefusal (g .book) (g .codebook) ≡ 0
 
+-- the samples of a padded plane
+area : (width height : ℕ) → padded16 width * padded16 height ≡ blocksAlong height * 16 * padded16 width
+area width height = mul-comm (padded16 width) (padded16 height) ∙ ap (λ (n : ℕ). n * padded16 width) (mul-comm 16 (blocksAlong height))
+
 pub accepted : (g : Given) (t : Task) (out : List ℕ) (start : ℕ) (a : Slices) → InMemory g t out start a → writeRefusal g t out start a ≡ 0 → Accepted g t
 accepted g t out start a mem e =
     let p = write-accepted g a (length out) start (length (t .source)) e .0 in
     let f = plane-passes (g .width) (g .height) (g .reference) (or-next (sizeRefusal (g .width) (g .height)) _ (p .size) ∙ p .canvas) in
-    let area : g .reference .stride * g .reference .rows ≡ rows g * 16 * (16 * cols g) =
-    rw (f .stride, f .rows) (mul-comm (16 * cols g) (16 * rows g) ∙ ap (λ (n : ℕ). n * (16 * cols g)) (mul-comm 16 (rows g))) in
+    let whole : g .reference .stride * g .reference .rows ≡ rows g * 16 * (16 * cols g) = rw (f .stride, f .rows) (area (g .width) (g .height)) in
     record {
       fine = record { book = data-passes (g .book) (g .codebook) (p .tables) .1; source-bytes = mem .source; reference-bytes = mem .reference };
       wide = omega (arith, f .width .some);
-      canvas = area;
-      reference-size = f .samples ∙ area;
+      canvas = whole;
+      reference-size = f .samples ∙ whole;
       size-passes = p .size;
       canvas-passes = p .canvas;
       data-passes = p .tables;
@@ -50,6 +53,6 @@ slices-sized g t ok d e =
     let h = slices-held g d e in
     record { recon = h .recon-whole ∙ ok .canvas; blocks = h .blocks-long }
 
-pub padded-size : (g : Given) (t : Task) → Accepted g t → length (paddedSource g t) ≡ rows g * 16 * (16 * cols g)
+pub padded-size : (width height : ℕ) (source : List ℕ) → length (paddedSource width height source) ≡ blocksAlong height * 16 * padded16 width
 unfolding paddedSource
-padded-size g t ok = length-values _ (g .reference .stride * g .reference .rows) 0 ∙ ok .canvas
+padded-size width height source = length-values _ (padded16 width * padded16 height) 0 ∙ area width height

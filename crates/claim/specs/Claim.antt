@@ -74,7 +74,7 @@ module _ (g : Given) (t : Task) (out : List ℕ) (start : ℕ) (a : Slices) wher
     -- 6. no mode tried, and under an allowance no fitting mode, costs less than the one written
     pub no-mode-cheaper : (k : ℕ) → k < count g → All (λ c. costOf k (wrote g t k (stateAt k)) ≤ costOf k c) (fitting g t k (near g (stateAt k .slices) k) (stateAt k .bits))
     -- 7. squared error plus lambda times bits is never above that of skipping every macroblock
-    pub never-above-skipping : final .error + t .settings .lambda * final .bits ≤ sse (paddedSource g t) (g .reference .samples) + t .settings .lambda * (length (modeBits g Skip) * count g)
+    pub never-above-skipping : final .error + t .settings .lambda * final .bits ≤ sse (paddedSource (g .width) (g .height) (t .source)) (g .reference .samples) + t .settings .lambda * (length (modeBits g Skip) * count g)
     -- under an allowance: before each macroblock, and at the end, it still holds a SKIP code for each to come, in this plane and behind it
     pub within-allowance : (k : ℕ) → k ≤ count g → canSkipRest (t .limit) g k (stateAt k .bits) ≡ true
 

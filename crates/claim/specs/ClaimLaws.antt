@@ -20,7 +20,7 @@ use Rattle.plan.specs.PlanClaim.{largestLambda}
 use Rattle.macroblock.specs.declared.svq1_enc_inter.Svq1MbMode.the-variants.{Skip}
 use Rattle.macroblock.specs.Macroblock.{Given, cols, rows, Choice, shown, referenceBlock, modeBits, choiceBits}
 use Rattle.macroblock.specs.Limit.{canSkipRest}
-use Rattle.macroblock.specs.Choice.{Task, paddedSource, target, motionsTried, fitting, weightOf}
+use Rattle.macroblock.specs.Choice.{Task, paddedSource, targetOf, target, motionsTried, fitting, weightOf}
 use Rattle.bits.specs.ListLaws.{all-any}
 use Rattle.macroblock.specs.MacroblockLaws.{Good, chosen-good, chosen-least, under-skip, unpruned}
 use Rattle.macroblock.specs.LimitLaws.{skip-fits}
@@ -209,10 +209,10 @@ module _ (g : Given) (t : Task) (ok : Accepted g t) (out : List ℕ) (start : �
       below-skipping zero h = omega arith
       below-skipping (suc m) h = rw (mul-add, mul-suc, mul-add) (omega (arith, below-skipping m (omega arith), below-skip m h))
 
-      pub never-above : E .error + t .settings .lambda * E .bits ≤ sse (paddedSource g t) (g .reference .samples) + t .settings .lambda * (skipLength * count g)
-      unfolding target referenceBlock
+      pub never-above : E .error + t .settings .lambda * E .bits ≤ sse (paddedSource (g .width) (g .height) (t .source)) (g .reference .samples) + t .settings .lambda * (skipLength * count g)
+      unfolding targetOf referenceBlock
       never-above =
-          rw (sse-blocks 16 (cols g) (rows g) (omega arith) (ok .wide) (paddedSource g t) (g .reference .samples) (padded-size g t ok) (ok .reference-size))
+          rw (sse-blocks 16 (cols g) (rows g) (omega arith) (ok .wide) (paddedSource (g .width) (g .height) (t .source)) (g .reference .samples) (padded-size (g .width) (g .height) (t .source)) (ok .reference-size))
           at (below-skipping (count g) (le-refl (count g)))
 
 -- the claim holds of every plane

@@ -6,9 +6,11 @@ ghost use Rattle.book.specs.Book.{codebookBytes};
 ghost use Rattle.house.specs.Fill.{Filled, BookFilled};
 ghost use Rattle.house.specs.House.{HouseBook, houseCodebook, houseSample};
 ghost use Rattle.bits.specs.Basics.{signedByte};
+use book::inner::BOOK_BYTES;
+use book::inner::CODEBOOK_BYTES;
 
 // Mode, vector, intramean, intermean, intrastage, interstage: 932 entries, each the code's high byte, its low byte, its length.
-const HOUSE_BOOK: [u8; 2796] = [
+const HOUSE_BOOK: [u8; BOOK_BYTES] = [
     // mode
     0,
     2,
@@ -2813,7 +2815,7 @@ const HOUSE_BOOK: [u8; 2796] = [
     7,
 ];
 
-pub fn house_book() -> [u8; 2796]
+pub fn house_book() -> [u8; BOOK_BYTES]
     ensures { λ r. ⌜ HouseBook r ⌝ }
 {
     HOUSE_BOOK
@@ -2835,7 +2837,7 @@ fn copy_in(out: &mut [u8], from: &[u8])
 pub fn fill_house_book(out: &mut [u8]) -> u8
     ensures { λ r. ⌜ BookFilled (now (out .entry)) r (now (out .exit)) ⌝ }
 {
-    if out.len() != 2796 {
+    if out.len() != BOOK_BYTES {
         return 5;
     }
     let book = house_book();
@@ -2859,11 +2861,11 @@ fn house_byte(i: usize) -> u8
 pub fn fill_house_codebook(out: &mut [u8]) -> u8
     ensures { λ r. ⌜ Filled codebookBytes houseCodebook (now (out .entry)) r (now (out .exit)) ⌝ }
 {
-    if out.len() != 23040 {
+    if out.len() != CODEBOOK_BYTES {
         return 5;
     }
     let mut i = 0;
-    while i < 23040 {
+    while i < CODEBOOK_BYTES {
         out[i] = house_byte(i);
         i += 1;
     }

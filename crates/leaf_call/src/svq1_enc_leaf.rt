@@ -6,6 +6,7 @@ ghost use Rattle.book.specs.Level.{levelNumber};
 ghost use Rattle.leaf.specs.LeafCall.{blockRefusal};
 ghost use Rattle.leaf_call.specs.LeafAnswer.{blockFits, refusedAnswer, foundAnswer, LeafAnswered, Searchable, Found};
 use super::inner::terms_of;
+use book::inner::CODEBOOK_BYTES;
 use book::svq1_blocktree::Svq1Level;
 use codebook::inner::raise_codebook;
 use leaf::inner::writing::book_leaf_bits;
@@ -169,7 +170,7 @@ pub fn search_leaf(
     if refusal != 0 {
         return refused_answer(refusal);
     }
-    let mut raised = [0u8; 23040];
+    let mut raised = [0u8; CODEBOOK_BYTES];
     searched(
         book,
         codebook,

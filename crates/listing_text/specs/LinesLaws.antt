@@ -10,7 +10,7 @@ use lib.ListN.{length, take, drop, set, length-append, length-drop}
 use lib.Seq.{length-take-le, take-at, drop-append-add, drop-drop, set-split}
 use borrow.Author.Tests.{le-leb}
 use Rattle.bits.specs.Basics.{pick}
-use Rattle.text.specs.Text.{comma, lineFeed, digitsBefore, decimal, joined, lineOf}
+use Rattle.text.specs.Text.{ascii, comma, lineFeed, digitsBefore, decimal, joined, lineOf}
 use Rattle.text.specs.Writing.{putText, TextPut}
 use Rattle.listing_text.specs.Lines.{Put, nameAt, lineText, lineAt, linesFrom}
 use Rattle.listing_text.specs.Listing.{totalLine, refusedText}
@@ -104,12 +104,12 @@ put-line bytes at row column mode bits error a b c d r s t u v after room p q o 
     rw (← line-fields row column mode bits error) (put-two 73 bytes at _ d v four (omega arith) 21 _ r after m)
 
 -- the line of both totals
-total-fields : (bits error : ℕ) → ((116 ∷ 111 ∷ 116 ∷ 97 ∷ 108 ∷ 44 ∷ []) ++ commaBehind (decimal bits)) ++ lastOf (decimal error) ≡ totalLine bits error
+total-fields : (bits error : ℕ) → (ascii "total," ++ commaBehind (decimal bits)) ++ lastOf (decimal error) ≡ totalLine bits error
 unfolding totalLine lineOf joined
 total-fields bits error = simp append-assoc
 
 pub put-total : (bytes : List ℕ) (at bits error a b r : ℕ) (s t after : List ℕ) → at + 48 ≤ length bytes
-    → TextPut bytes at (116 ∷ 111 ∷ 116 ∷ 97 ∷ 108 ∷ 44 ∷ []) a s → Put 21 s a (commaBehind (decimal bits)) b t → Put 21 t b (lastOf (decimal error)) r after
+    → TextPut bytes at (ascii "total,") a s → Put 21 s a (commaBehind (decimal bits)) b t → Put 21 t b (lastOf (decimal error)) r after
     → Put 48 bytes at (totalLine bits error) r after
 put-total bytes at bits error a b r s t after room p q o =
     let one = put-room 6 bytes at _ a s p (omega arith) (omega arith) in
@@ -117,12 +117,12 @@ put-total bytes at bits error a b r s t after room p q o =
     rw (← total-fields bits error) (put-two 27 bytes at _ b t two (omega arith) 21 _ r after o)
 
 -- the line of a refusal
-refused-fields : (n : ℕ) → (114 ∷ 101 ∷ 102 ∷ 117 ∷ 115 ∷ 101 ∷ 100 ∷ 44 ∷ []) ++ lastOf (decimal n) ≡ refusedText n
+refused-fields : (n : ℕ) → ascii "refused," ++ lastOf (decimal n) ≡ refusedText n
 unfolding refusedText lineOf joined
 refused-fields n = simp append-assoc
 
 pub put-refusal : (bytes : List ℕ) (n a r : ℕ) (s after : List ℕ) → 29 ≤ length bytes
-    → TextPut bytes 0 (114 ∷ 101 ∷ 102 ∷ 117 ∷ 115 ∷ 101 ∷ 100 ∷ 44 ∷ []) a s → Put 21 s a (lastOf (decimal n)) r after
+    → TextPut bytes 0 (ascii "refused,") a s → Put 21 s a (lastOf (decimal n)) r after
     → Put 29 bytes 0 (refusedText n) r after
 put-refusal bytes n a r s after room p q =
     let one = put-room 8 bytes 0 _ a s p (omega arith) (omega arith) in

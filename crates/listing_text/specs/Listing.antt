@@ -7,7 +7,7 @@ use lib.ListN.{length, replicate}
 use Rattle.bits.specs.Basics.{pick, firstOf, unless}
 use Rattle.bits.specs.Bits.{bitsOf}
 use Rattle.book.specs.Book.{codebookBytes}
-use Rattle.text.specs.Text.{decimal, lineOf}
+use Rattle.text.specs.Text.{ascii, decimal, lineOf}
 use Rattle.book_file.specs.BookFile.{fileRefusal, fileBook}
 use Rattle.canvas.specs.Canvas.{Canvas, padded16, sourceLinks}
 use Rattle.macroblock.specs.declared.svq1_enc_inter.Svq1MbMode.{Svq1MbMode}
@@ -60,20 +60,20 @@ noSlices g = record {
 }
 
 -- ---- text
--- INTER, INTER_4MV, INTRA, SKIP
+-- a macroblock's mode
 abbrev pub modeName : Svq1MbMode → List ℕ
-modeName Inter = 73 ∷ 78 ∷ 84 ∷ 69 ∷ 82 ∷ []
-modeName Inter4Mv = 73 ∷ 78 ∷ 84 ∷ 69 ∷ 82 ∷ 95 ∷ 52 ∷ 77 ∷ 86 ∷ []
-modeName Intra = 73 ∷ 78 ∷ 84 ∷ 82 ∷ 65 ∷ []
-modeName Skip = 83 ∷ 75 ∷ 73 ∷ 80 ∷ []
+modeName Inter = ascii "INTER"
+modeName Inter4Mv = ascii "INTER_4MV"
+modeName Intra = ascii "INTRA"
+modeName Skip = ascii "SKIP"
 
 -- `refused,` and the number
 unfoldable pub refusedText : ℕ → List ℕ
-refusedText n = lineOf ((114 ∷ 101 ∷ 102 ∷ 117 ∷ 115 ∷ 101 ∷ 100 ∷ []) ∷ decimal n ∷ [])
+refusedText n = lineOf (ascii "refused" ∷ decimal n ∷ [])
 
 -- `total`, bits, error
 unfoldable pub totalLine : ℕ → ℕ → List ℕ
-totalLine bits error = lineOf ((116 ∷ 111 ∷ 116 ∷ 97 ∷ 108 ∷ []) ∷ decimal bits ∷ decimal error ∷ [])
+totalLine bits error = lineOf (ascii "total" ∷ decimal bits ∷ decimal error ∷ [])
 
 -- a plane listed as it is written from bit 0 into an output, given as its bits
 module _ (g : Given) (t : Task) (out : List ℕ) where

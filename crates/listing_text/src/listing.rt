@@ -15,6 +15,8 @@ ghost use Rattle.listing_text.specs.Listed.{listingRoom, Listed, filesBy
 use super::inner::lines::put_lines;
 use super::inner::lines::put_refused;
 use super::inner::lines::put_total_line;
+use book::inner::BOOK_BYTES;
+use book::inner::CODEBOOK_BYTES;
 use canvas::svq1_plane::Svq1PlaneCanvas;
 use canvas::svq1_plane::source_refusal;
 use listing_job::JobRead;
@@ -53,7 +55,7 @@ fn files_refusal(
     if plane != 0 {
         return plane;
     }
-    if codebook != 23040 {
+    if codebook != CODEBOOK_BYTES {
         return 5;
     }
     book_file::read_book_file(file, book)
@@ -155,7 +157,7 @@ fn list_job(
     requires { ⌜ (job .width ≤ mostWidth) × (job .height ≤ mostHeight) × (listingRoom ≤ length (now text)) ⌝ }
     ensures { λ r. ⌜ Put listingRoom (now (text .entry)) 0 (jobText (filesBy (now (book .entry)) (now (codebook .entry)) (now (source .entry)) (now (reference .entry)) []) (some (jobBy job))) r (now (text .exit)) ⌝ }
 {
-    let mut held = [0u8; 2796];
+    let mut held = [0u8; BOOK_BYTES];
     let canvas = canvas_of(job.width, job.height);
     let refused = files_refusal(
         canvas,

@@ -6,6 +6,7 @@ use mathlib.Core.Option.{Option, none, some}
 use lib.Dec.{eqb, ltb}
 use lib.ListN.{length, getD}
 use Rattle.bits.specs.Basics.{pick, passing, valuesFrom}
+use Rattle.canvas.specs.Canvas.{blocksAlong, padded16}
 use Rattle.book.specs.Book.{tablesOf}
 use Rattle.book.specs.declared.svq1_vlc.Svq1Half.{Svq1Half}
 use Rattle.book.specs.declared.svq1_vlc.Svq1Half.the-variants.{Intra, Inter}
@@ -19,7 +20,7 @@ use Rattle.motion.specs.Search.{Search, searched}
 use Rattle.tree.specs.Blocks.{gather}
 use Rattle.tree.specs.Plan.{Weight, Planning, cost}
 use Rattle.tree.specs.TreeBits.{planTree}
-use Rattle.macroblock.specs.Macroblock.{Given, cols, Motion, still, single, four, Choice, skipped, coded, halfOf, leftOf, topOf, baseline, shown, choiceBits}
+use Rattle.macroblock.specs.Macroblock.{Given, Motion, still, single, four, Choice, skipped, coded, halfOf, leftOf, topOf, baseline, shown, choiceBits}
 use Rattle.macroblock.specs.declared.svq1_enc_inter.Settings.{Settings}
 use Rattle.macroblock.specs.Limit.{Limit, unlimited, within, canSkipRest}
 
@@ -33,15 +34,18 @@ pub record Task : Type 0 where
 abbrev pub withoutLimit : Task → Task
 withoutLimit t = record { source = t .source; settings = t .settings; limit = unlimited }
 
--- the source, its last column and row repeated to whole macroblocks (`block`)
-unfoldable pub paddedSource : Given → Task → List ℕ
-paddedSource g t =
-    valuesFrom (λ p. getD (t .source) (min (p / g .reference .stride) (g .height - 1) * g .width + min (p % g .reference .stride) (g .width - 1)) 0)
-    (g .reference .stride * g .reference .rows) 0
+-- a source of this width and height, its last column and row repeated to whole macroblocks (`block`). Its stride and its rows are the width and the height
+-- rounded up to 16, which those of every canvas are that is accepted with them (refusal 3)
+unfoldable pub paddedSource : ℕ → ℕ → List ℕ → List ℕ
+paddedSource width height source =
+    valuesFrom (λ p. getD source (min (p / padded16 width) (height - 1) * width + min (p % padded16 width) (width - 1)) 0) (padded16 width * padded16 height) 0
 
 -- its macroblock k
-unfoldable pub target : Given → Task → ℕ → List ℕ
-target g t k = part 16 (cols g) k (paddedSource g t)
+unfoldable pub targetOf : ℕ → ℕ → List ℕ → ℕ → List ℕ
+targetOf width height source k = part 16 (blocksAlong width) k (paddedSource width height source)
+
+abbrev pub target : Given → Task → ℕ → List ℕ
+target g t k = targetOf (g .width) (g .height) (t .source) k
 
 -- ---- vectors
 -- the search for macroblock k, and for its 8×8 block j in raster order

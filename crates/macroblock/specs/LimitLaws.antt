@@ -18,7 +18,7 @@ use Rattle.tree.specs.TreeBits.{planTree}
 use Rattle.macroblock.specs.declared.svq1_enc_inter.Svq1MbMode.the-variants.{Skip}
 use Rattle.macroblock.specs.Macroblock.{Given, cols, rows, Choice, skipped, coded, modeBits, choiceBits}
 use Rattle.macroblock.specs.Limit.{Limit, unlimited, within, canSkipRest}
-use Rattle.macroblock.specs.Choice.{Task, withoutLimit, paddedSource, target, singleTried, fourTried, motionsTried, planningFor, tried, fittingIn, fitting, weightOf, beats, bestOf, bestFrom, chosen}
+use Rattle.macroblock.specs.Choice.{Task, withoutLimit, singleTried, fourTried, motionsTried, planningFor, tried, fittingIn, fitting, weightOf, beats, bestOf, bestFrom, chosen}
 
 -- ---- SKIP
 pub skip-stays : (g : Given) (k spent : ℕ) (l : Limit) → k < rows g * cols g → canSkipRest l g k spent ≡ true → canSkipRest l g (suc k) (spent + length (modeBits g Skip)) ≡ true
@@ -132,7 +132,7 @@ module _ (g : Given) (t : Task) (k : ℕ) (n : Near) where
 
   -- ---- without a limit the same modes are tried, and weigh the same
   best-unlimited : (c : Choice) (ds : List Choice) → bestOf g (withoutLimit t) k n c ds ≡ bestOf g t k n c ds
-  unfolding bestOf beats weightOf target paddedSource
+  unfolding bestOf beats weightOf
   best-unlimited c [] = refl
   best-unlimited c (d ∷ ds) = best-unlimited (pick (beats g t k n d c) d c) ds
 
@@ -140,7 +140,7 @@ module _ (g : Given) (t : Task) (k : ℕ) (n : Near) where
   others = map (λ m. coded m (planTree (planningFor g t k m))) (motionsTried g t k n)
 
   chosen-unlimited : (spent : ℕ) → chosen g (withoutLimit t) k n spent ≡ bestOf g t k n skipped others
-  unfolding chosen fitting tried motionsTried singleTried fourTried planningFor target paddedSource
+  unfolding chosen fitting tried motionsTried singleTried fourTried planningFor
   chosen-unlimited spent = best-unlimited skipped others
 
   first-within : (spent : ℕ) (l : Limit) → canSkipRest l g (suc k) (spent + weightOf g t k n skipped .bits) ≡ true

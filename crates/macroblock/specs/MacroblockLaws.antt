@@ -38,7 +38,7 @@ use Rattle.macroblock.specs.declared.svq1_enc_inter.Svq1MbMode.{Svq1MbMo
 use Rattle.macroblock.specs.declared.svq1_enc_inter.Svq1MbMode.the-variants as Mode
 use Rattle.macroblock.specs.Mode.{modePosition}
 use Rattle.macroblock.specs.Macroblock.{Given, cols, Motion, still, single, four, Choice, skipped, coded, motionMode, halfOf, vectorsOf, leftOf, topOf, referenceBlock, vectorFor, baseline, shown, modeCodes, vectorCodes, componentBits, differenceBits, vectorBits, motionBits, modeBits, choiceBits}
-use Rattle.macroblock.specs.Choice.{Task, paddedSource, target, searchFor, blockSearchFor, ifFound, singleTried, fourTried, motionsTried, skipsLeaves, planningFor, tried, fitting, weightOf, chosen}
+use Rattle.macroblock.specs.Choice.{Task, paddedSource, targetOf, target, searchFor, blockSearchFor, ifFound, singleTried, fourTried, motionsTried, skipsLeaves, planningFor, tried, fitting, weightOf, chosen}
 use Rattle.macroblock.specs.ChoiceLaws.{chosen-one, all-fitting, Fits, skip-first, costOf, chosen-cost}
 use Rattle.macroblock.specs.Reading.{readDifference, readVector, readCoded, readBehind, readMacroblock}
 
@@ -77,8 +77,8 @@ module _ (g : Given) (t : Task) (ok : Fine g t) where
   part-block k xs b = record { size = length-values _ 256 0; bytes = bytes-list _ (λ j. b _) 256 0 }
 
   pub target-block : (k : ℕ) → Block (target g t k)
-  unfolding target paddedSource
-  target-block k = part-block k (paddedSource g t) (bytes-list _ (λ j. ok .source-bytes _) _ 0)
+  unfolding targetOf paddedSource
+  target-block k = part-block k (paddedSource (g .width) (g .height) (t .source)) (bytes-list _ (λ j. ok .source-bytes _) _ 0)
 
   pub reference-block : (k : ℕ) → Block (referenceBlock g k)
   unfolding referenceBlock

@@ -4,7 +4,7 @@ ghost use mathlib.Core.Path.{_≡_};
 ghost use Prim.Native.Nat.{_<_};
 ghost use lib.ListN.{length};
 ghost use Rattle.bits.specs.Inner.{Fits, Wrote};
-ghost use Rattle.book.specs.Book.{bookBytes, modeTable, vectorTable, bookRefusal};
+ghost use Rattle.book.specs.Book.{bookRefusal};
 ghost use Rattle.vectors.specs.Vectors.{placeOf};
 ghost use Rattle.vectors.specs.VectorsLaws.{InRange, Inside};
 ghost use Rattle.mv_cache.specs.Cache.{nearFrom};
@@ -13,6 +13,8 @@ ghost use Rattle.macroblock.specs.MacroblockLaws.{Codables};
 ghost use Rattle.macroblock.specs.Motions.{motionOf, Differs};
 ghost use Rattle.macroblock_bits.specs.Coding.{Counted, fourDifferences};
 ghost use Rattle.macroblock.specs.Inner.{byBook};
+use book::inner::mode_table;
+use book::inner::vector_table;
 use code_tables::inner::entry_len;
 use code_tables::inner::put_code;
 use macroblock::svq1_enc_inter::MbMotion;
@@ -24,21 +26,6 @@ use mv_cache::svq1_mv_cache::predict_second;
 use mv_cache::svq1_mv_cache::predict_third;
 use vectors::inner::difference_of;
 use vectors::svq1_motion_predictor::Svq1Mv;
-
-// The tables of the modes and of the vector differences, of a book.
-pub fn mode_table(book: &[u8]) -> &[u8]
-    requires { ⌜ length (now book) ≡ bookBytes ⌝ }
-    ensures { λ r. ⌜ now r ≡ modeTable (now (book .entry)) ⌝ }
-{
-    &book[0..12]
-}
-
-pub fn vector_table(book: &[u8]) -> &[u8]
-    requires { ⌜ length (now book) ≡ bookBytes ⌝ }
-    ensures { λ r. ⌜ now r ≡ vectorTable (now (book .entry)) ⌝ }
-{
-    &book[12..204]
-}
 
 // How many bits a mode's code has.
 pub fn mb_mode_bits(book: &[u8], mode: Svq1MbMode) -> u32

@@ -23,17 +23,17 @@ use Rattle.macroblock_choice.specs.declared.inner.candidates.MbCandidate
 use Rattle.macroblock.specs.declared.svq1_enc_inter.Settings.{Settings}
 use Rattle.macroblock.specs.declared.svq1_enc_inter.MbMotion.{MbMotion}
 use Rattle.canvas.specs.declared.svq1_plane.Svq1PlaneCanvas.{Svq1PlaneCanvas}
-use Rattle.macroblock.specs.Macroblock.{Given, rows, Motion, skipped, coded, halfOf, baseline, shown}
+use Rattle.macroblock.specs.Macroblock.{Given, Motion, skipped, coded, halfOf, baseline, shown}
 use Rattle.macroblock.specs.MacroblockLaws.{Fine, baseline-block}
 use Rattle.macroblock.specs.Limit.{Limit, unlimited}
-use Rattle.macroblock.specs.Choice.{Task, target, skipsLeaves, planeTerms, planningFor, singleTried, fourTried}
+use Rattle.macroblock.specs.Choice.{Task, targetOf, target, skipsLeaves, planeTerms, planningFor, singleTried, fourTried}
 use Rattle.macroblock.specs.Motions.{motionOf}
 use Rattle.macroblock.specs.Inner.{givenBy}
-use Rattle.macroblock.specs.InnerLaws.{fits, book-passes, wide}
+use Rattle.macroblock.specs.InnerLaws.{fits, book-passes}
 use Rattle.macroblock_search.specs.declared.inner.motions.FoundMotion.{FoundMotion}
 use Rattle.macroblock_search.specs.Searches.{Searching, motionsOf, stillFound, MotionsFound}
-use Rattle.macroblock_search.specs.Target.{targetOf, Sources}
-use Rattle.macroblock_search.specs.TargetLaws.{target-is, target-long}
+use Rattle.macroblock_search.specs.Target.{Sources}
+use Rattle.macroblock_search.specs.TargetLaws.{target-long}
 use Rattle.macroblock_choice.specs.Candidates.{choiceOf, Stated, CandidateOf, Tried}
 use Rattle.macroblock_choice.specs.CandidatesLaws.{coded-is, coded-stated, keeps, tried-one, chosen-is}
 use Rattle.plan.specs.Planning.{PlanReady, PlanFound, planningIn}
@@ -154,16 +154,9 @@ module _ (g : Given) (raised source : List ℕ) (k : ℕ) (p : Sourced g raised 
         number = p .number;
       }
 
-  block-is : (settings : Settings) (limit : Limit) (block : List ℕ) → block ≡ targetOf (g .width) (g .height) source k → block ≡ target g (taskIn source settings limit) k
-  block-is settings limit block e =
-      let f = fits g raised (p .ok) in
-      e ∙ target-is g (taskIn source settings limit) k (f .stride) (f .rows) (p .number) (wide g raised (p .ok))
-
   pub block-placed : (block : List ℕ) → block ≡ targetOf (g .width) (g .height) source k → Placing g raised k block
   block-placed block e = record { ok = p .ok; number = p .number; whole = ap length e ∙ target-long (g .width) (g .height) source k }
 
   pub chosen-by : (settings : Settings) (room : ℕ) (block : List ℕ) (n : Near) (r : MbCandidate) → block ≡ targetOf (g .width) (g .height) source k
       → ChosenFor g block settings room k n r → (limit : Limit) → ChosenBy g (taskIn source settings limit) room k n r
-  chosen-by settings room block n r e h limit =
-      let q = block-is settings limit block e in
-      record { stated = rw q at (h .stated); is = h .is (taskIn source settings limit) q refl }
+  chosen-by settings room block n r e h limit = record { stated = rw e at (h .stated); is = h .is (taskIn source settings limit) e refl }

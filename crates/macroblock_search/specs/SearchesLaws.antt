@@ -17,7 +17,7 @@ use Rattle.vectors.specs.Vectors.{differenceMv}
 use Rattle.vectors.specs.VectorsLaws.{Codable, Inside}
 use Rattle.mv_cache.specs.Neighbours.{Near, forOne, forFirst, forSecond, forThird, forFourth}
 use Rattle.motion.specs.Search.{Search, searched, foundAnswer}
-use Rattle.canvas.specs.Canvas.{blocksAlong}
+use Rattle.canvas.specs.Canvas.{largestSide, blocksAlong}
 use Rattle.motion.specs.SearchCall.{searchedAnswer}
 use Rattle.motion.specs.SearchCallLaws.{Passes, answer-searched}
 use Rattle.motion.specs.SearchLaws.{found}
@@ -98,7 +98,7 @@ module _ (c : Svq1PlaneCanvas) (reference block : List ℕ) (k : ℕ) (s : Searc
     long = omega arith;
   }
 
-pub corner-small : (c : Svq1PlaneCanvas) (k : ℕ) → Cornered c k → (0 < blocksAlong (c .width)) × (k % blocksAlong (c .width) < 64) × (k / blocksAlong (c .width) < 64)
+pub corner-small : (c : Svq1PlaneCanvas) (k : ℕ) → Cornered c k → (0 < blocksAlong (c .width)) × (k % blocksAlong (c .width) < blocksAlong largestSide) × (k / blocksAlong (c .width) < blocksAlong largestSide)
 corner-small c k h =
     let w : 0 < blocksAlong (c .width) = omega (arith, h .width-some) in
     let q : k / blocksAlong (c .width) < blocksAlong (c .height) = div-lt-iff-lt-mul w .1 (h .number) in

@@ -3,16 +3,12 @@ use mathlib.Core.Path.{_≡_}
 use mathlib.Core.List.{List}
 use Prim.Native.Nat.{ℕ, _+_, _-_, _*_, _/_, _%_, _≤_, _<_, min}
 use lib.ListN.{length, getD}
-use Rattle.bits.specs.Basics.{valuesFrom}
 use Rattle.canvas.specs.Canvas.{largestSide, blocksAlong}
 
--- sample j of macroblock k of a source of width × height
+-- sample j of macroblock k of a source of width × height, its last column and row repeated
 unfoldable pub targetSample : ℕ → ℕ → List ℕ → ℕ → ℕ → ℕ
 targetSample width height source k j =
     getD source (min (k / blocksAlong width * 16 + j / 16) (height - 1) * width + min (k % blocksAlong width * 16 + j % 16) (width - 1)) 0
-
-unfoldable pub targetOf : ℕ → ℕ → List ℕ → ℕ → List ℕ
-targetOf width height source k = valuesFrom (targetSample width height source k) 256 0
 
 -- a source of a size that passes, and one of its macroblocks
 pub record Sources (width height : ℕ) (source : List ℕ) (k : ℕ) : Type 0 where

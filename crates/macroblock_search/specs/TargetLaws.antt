@@ -15,9 +15,8 @@ use Rattle.compensation.specs.Moved.{rowSet}
 use Rattle.compensation.specs.MovedLaws.{place-in}
 use Rattle.compensation.specs.InsideLaws.{row-same}
 use Rattle.canvas.specs.Canvas.{largestSide, blocksAlong, padded16}
-use Rattle.macroblock.specs.Macroblock.{Given, cols, rows}
-use Rattle.macroblock.specs.Choice.{Task, paddedSource, target}
-use Rattle.macroblock_search.specs.Target.{targetSample, targetOf, Sources, Filled}
+use Rattle.macroblock.specs.Choice.{paddedSource, targetOf}
+use Rattle.macroblock_search.specs.Target.{targetSample, Sources, Filled}
 
 -- ---- a row written into a list
 module _ (o : ℕ) (f : ℕ → ℕ) where
@@ -100,38 +99,27 @@ module _ (width height : ℕ) (source : List ℕ) (k : ℕ) (s : Sources width h
           ap (λ (xs : List ℕ). getD xs (16 * i + (j - 16 * i)) 0) e ∙ row-there (16 * i) g 16 out (j - 16 * i) a w ∙ there (j - 16 * i) a in
           rw (← q) at z
 
-  pub filled-all : (i : ℕ) (out : List ℕ) → 16 ≤ i → Filled (targetSample width height source k) (16 * i) out → out ≡ targetOf width height source k
-  unfolding targetOf
-  filled-all i out h f =
-      ext-getD 0 out _ (f .whole ∙ sym (length-values _ 256 0)) (λ j l.
-      let m : j < 256 = omega (arith, f .whole) in
-      f .same j (omega arith) ∙ sym (value-at (targetSample width height source k) 256 0 j 0 m ∙ ap (targetSample width height source k) (zero-add j)))
-
-pub target-long : (width height : ℕ) (source : List ℕ) (k : ℕ) → length (targetOf width height source k) ≡ 256
-unfolding targetOf
-target-long width height source k = length-values (targetSample width height source k) 256 0
-
--- ---- it is the target by the padded source
-module _ (g : Given) (t : Task) (k : ℕ) (across : g .reference .stride ≡ padded16 (g .width)) (down : g .reference .rows ≡ padded16 (g .height))
-    (number : k < rows g * cols g) (wide : 0 < cols g) where
-  sample-is : (j : ℕ) → j < 256 → getD (paddedSource g t) (entryOf 16 (cols g) k j) 0 ≡ targetSample (g .width) (g .height) (t .source) k j
+  -- a sample of the padded source
+  sample-is : (j : ℕ) → j < 256 → getD (paddedSource width height source) (entryOf 16 (blocksAlong width) k j) 0 ≡ targetSample width height source k j
   unfolding paddedSource targetSample
   sample-is j h =
-      let row : ℕ = k / cols g * 16 + j / 16 in
-      let col : ℕ = k % cols g * 16 + j % 16 in
-      let q : k / cols g < rows g = div-lt-iff-lt-mul wide .1 number in
-      let c : col < 16 * cols g = omega (arith, mod-lt k wide) in
-      let r : row < 16 * rows g = omega arith in
-      let within : row * (16 * cols g) + col < 16 * cols g * (16 * rows g) = place-in col row (16 * cols g) (16 * rows g) c r in
-      rw (across, down)
-      (value-at (λ p. getD (t .source) (min (p / (16 * cols g)) (g .height - 1) * g .width + min (p % (16 * cols g)) (g .width - 1)) 0) (16 * cols g * (16 * rows g)) 0 (row * (16 * cols g) + col) 0 within
-      ∙ rw (zero-add (row * (16 * cols g) + col), digits-div row c, digits-mod row c))
+      let row : ℕ = k / blocksAlong width * 16 + j / 16 in
+      let col : ℕ = k % blocksAlong width * 16 + j % 16 in
+      let q : k / blocksAlong width < blocksAlong height = div-lt-iff-lt-mul wide .1 (s .number) in
+      let c : col < padded16 width = omega (arith, mod-lt k wide) in
+      let r : row < padded16 height = omega arith in
+      let within : row * padded16 width + col < padded16 width * padded16 height = place-in col row (padded16 width) (padded16 height) c r in
+      value-at (λ p. getD source (min (p / padded16 width) (height - 1) * width + min (p % padded16 width) (width - 1)) 0) (padded16 width * padded16 height) 0 (row * padded16 width + col) 0 within
+      ∙ rw (zero-add (row * padded16 width + col), digits-div row c, digits-mod row c)
 
-  pub target-is : targetOf (g .width) (g .height) (t .source) k ≡ target g t k
-  unfolding targetOf target part
-  target-is =
-      ext-getD 0 _ _ (length-values _ 256 0 ∙ sym (length-values _ 256 0)) (λ j l.
-      let m : j < 256 = rw (length-values (targetSample (g .width) (g .height) (t .source) k) 256 0) at l in
-      value-at (targetSample (g .width) (g .height) (t .source) k) 256 0 j 0 m
-      ∙ ap (targetSample (g .width) (g .height) (t .source) k) (zero-add j)
-      ∙ sym (value-at (λ i. getD (paddedSource g t) (entryOf 16 (cols g) k i) 0) 256 0 j 0 m ∙ ap (λ (i : ℕ). getD (paddedSource g t) (entryOf 16 (cols g) k i) 0) (zero-add j) ∙ sample-is j m))
+  pub filled-all : (i : ℕ) (out : List ℕ) → 16 ≤ i → Filled (targetSample width height source k) (16 * i) out → out ≡ targetOf width height source k
+  unfolding targetOf part
+  filled-all i out h f =
+      let at : ℕ → ℕ = λ j. getD (paddedSource width height source) (entryOf 16 (blocksAlong width) k j) 0 in
+      ext-getD 0 out _ (f .whole ∙ sym (length-values _ 256 0)) (λ j l.
+      let m : j < 256 = omega (arith, f .whole) in
+      f .same j (omega arith) ∙ sym (value-at at 256 0 j 0 m ∙ ap at (zero-add j) ∙ sample-is j m))
+
+pub target-long : (width height : ℕ) (source : List ℕ) (k : ℕ) → length (targetOf width height source k) ≡ 256
+unfolding targetOf part
+target-long width height source k = length-values _ 256 0

@@ -1,6 +1,7 @@
 // The plan as a call.
 ghost use mathlib.Core.Path.{_≡_};
 ghost use Rattle.plan_call.specs.PlanCall.{refusedPlan, Plannable, PlanShown, PlanAnswered};
+use book::inner::CODEBOOK_BYTES;
 use codebook::inner::raise_codebook;
 use leaf::svq1_enc_leaf::LeafTerms;
 use leaf_call::inner::terms_of;
@@ -76,7 +77,7 @@ pub fn plan_macroblock(
     if refusal != 0 {
         return refused_plan(refusal);
     }
-    let mut raised = [0u8; 23040];
+    let mut raised = [0u8; CODEBOOK_BYTES];
     let mut samples = [0u8; 256];
     let p = planned(
         book,

@@ -9,7 +9,7 @@ use native.Mathlib.Nat.{le-refl}
 use Rattle.bits.specs.Basics.{pick}
 use Rattle.macroblock.specs.Macroblock.{Given}
 use Rattle.macroblock.specs.Limit.{canSkipRest}
-use Rattle.macroblock.specs.Choice.{Task, withoutLimit, target, paddedSource, weightOf}
+use Rattle.macroblock.specs.Choice.{Task, withoutLimit, weightOf}
 use Rattle.macroblock.specs.LimitLaws.{skip-fits, first-fits}
 use Rattle.macroblock.specs.Slices.{Slices, near}
 use Rattle.plane.specs.Run.{Step, on, stop, End, goOn, run, after}
@@ -60,7 +60,7 @@ module _ (g : Given) (t : Task) (enough : canSkipRest (t .limit) g 0 0 ≡ true)
   skip-rest-alone (suc k) l d = h k l (omega arith)
 
   one-step : (k : ℕ) → k < count g → k ≤ alone .done → writeStep g t k (F k) ≡ writeStep g (withoutLimit t) k (F k)
-  unfolding written weightOf target paddedSource
+  unfolding written weightOf
   one-step k l d =
       let n = near g (F k .slices) k in
       let c : wrote g t k (F k) ≡ wrote g (withoutLimit t) k (F k) = first-fits g t k n (F k .bits) (skip-fits g t k n (F k .bits) l (skip-rest-alone k (omega arith) d)) (h k l d) in

@@ -8,6 +8,7 @@ ghost use Rattle.plane.specs.Refusals.{readRefusalBy};
 ghost use Rattle.plane.specs.PlaneNeeds.{PlaneReady, PlaneAccepted};
 ghost use Rattle.plane_dec.specs.Reader.{ReadThrough};
 use super::svq1_plane::ReadEnd;
+use book::inner::CODEBOOK_BYTES;
 use canvas::svq1_plane::Svq1PlaneCanvas;
 use canvas::svq1_plane::plane_refusal;
 use codebook::inner::raise_codebook;
@@ -136,7 +137,7 @@ pub fn read_accepted(
     requires { ⌜ PlaneAccepted (givenBy canvas (now reference) (now book) (now codebook)) (slicesBy (now recon) (now vx) (now vy)) (length (now bytes)) start ⌝ }
     ensures { λ r. ⌜ ReadThrough (givenBy canvas (now (reference .entry)) (now (book .entry)) (now (codebook .entry))) (now (bytes .entry)) start (slicesBy (now (recon .entry)) (now (vx .entry)) (now (vy .entry))) r (slicesBy (now (recon .exit)) (now (vx .exit)) (now (vy .exit))) ⌝ }
 {
-    let mut raised = [0u8; 23040];
+    let mut raised = [0u8; CODEBOOK_BYTES];
     read_raised(
         canvas,
         reference,

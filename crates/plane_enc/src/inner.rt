@@ -13,6 +13,7 @@ ghost use Rattle.macroblock_enc.specs.Limits.{limitOf, Spends};
 ghost use Rattle.plane_enc.specs.Stated.{told, ToldThrough};
 ghost use Rattle.macroblock.specs.Slices.{slicesBy};
 use super::svq1_enc_inter::WriteEnd;
+use book::inner::CODEBOOK_BYTES;
 use canvas::svq1_plane::Svq1PlaneCanvas;
 use canvas::svq1_plane::source_refusal;
 use codebook::inner::raise_codebook;
@@ -184,7 +185,7 @@ pub fn write_accepted(
     requires { ⌜ PlaneAccepted (givenBy canvas (now reference) (now book) (now codebook)) (slicesBy (now recon) (now vx) (now vy)) (length (now out)) start × (length (now source) ≡ canvas .width * canvas .height) × Spends (givenBy canvas (now reference) (now book) (now codebook)) limit 0 0 ⌝ }
     ensures { λ r. ⌜ ToldThrough (givenBy canvas (now (reference .entry)) (now (book .entry)) (now (codebook .entry))) (taskIn (now (source .entry)) settings (limitOf limit)) (now (out .entry)) start (slicesBy (now (recon .entry)) (now (vx .entry)) (now (vy .entry))) (now (stated .entry)) r (now (out .exit)) (slicesBy (now (recon .exit)) (now (vx .exit)) (now (vy .exit))) (now (stated .exit)) ⌝ }
 {
-    let mut raised = [0u8; 23040];
+    let mut raised = [0u8; CODEBOOK_BYTES];
     write_raised(
         canvas,
         source,

@@ -1,7 +1,7 @@
 -- Laws of the most bits: a leaf's, a plan's, and those of the macroblock that is written, by the book's longest codes.
 -- Assumes nothing.
 use Prim.Native.Nat.{ℕ, zero, suc, _+_, _*_, _≤_, max}
-use mathlib.Core.Path.{_≡_, refl}
+use mathlib.Core.Path.{_≡_, refl, ap, _∙_}
 use mathlib.Core.Bool.{Bool, true, false}
 use mathlib.Core.List.{List}
 use native.Mathlib.Omega.{arith}
@@ -101,6 +101,13 @@ module _ (book : List ℕ) where
 -- in a book that passes no code is longer than 32 bits
 pub part-most : (book : List ℕ) → bookRefusal book ≡ 0 → (from n : ℕ) → longest (entries from n book) ≤ 32
 part-most book e from n = le-trans (part-longest from n book) (good-longest book (good-book book e .good))
+
+-- the longest code of a table of it
+pub longest-by : (book : List ℕ) → bookRefusal book ≡ 0 → (from size : ℕ) (t : List ℕ) (n : ℕ) → t ≡ entries from size book → n ≡ longest t
+    → (n ≡ longest (entries from size book)) × (n ≤ 32)
+longest-by book e from size t n h k =
+    let q : n ≡ longest (entries from size book) = k ∙ ap longest h in
+    (q, omega (arith, q, part-most book e from size))
 
 -- so no such book has more than 3,135 bits for a macroblock
 pub any-is : anyBits ≡ 3135

@@ -1,10 +1,16 @@
 // The room that always suffices: a writer that is lent so many bytes behind its start bit never answers 22.
 ghost use mathlib.Core.Path.{_≡_};
 ghost use Prim.Native.Nat.{_+_, _*_, _≤_, max};
-ghost use Rattle.book.specs.Book.{bookEntries, entries, bookRefusal};
+ghost use Rattle.book.specs.Book.{bookRefusal};
 ghost use Rattle.canvas.specs.Canvas.{largestSide, blocksAlong};
 ghost use Rattle.plane_room.specs.Room.{longest, mostBits, bookBits, anyBits, roomBytes, OfSize, OfSizeUnder};
 ghost use Rattle.plane_room.specs.Calls.{roomAnswer, roomUnderAnswer, RoomTold};
+use book::inner::inter_mean_table;
+use book::inner::inter_stage_family;
+use book::inner::intra_mean_table;
+use book::inner::intra_stage_family;
+use book::inner::mode_table;
+use book::inner::vector_table;
 use book_check::book_refusal;
 use canvas::svq1_plane::size_refusal;
 use code_tables::inner::entry_len;
@@ -35,16 +41,6 @@ fn longest_code(table: &[u8]) -> u32
     most
 }
 
-// The same of the n entries of a book that passes, from entry `from` on.
-fn longest_of(book: &[u8], from: usize, n: usize) -> u32
-    requires { ⌜ (bookRefusal (now book) ≡ 0) × (from + n ≤ bookEntries) ⌝ }
-    ensures { λ r. ⌜ (r ≡ longest (entries from n (now (book .entry)))) × (r ≤ 32) ⌝ }
-{
-    let start = 3 * from;
-    let end = start + 3 * n;
-    longest_code(&book[start..end])
-}
-
 // The most bits of a macroblock, by the longest codes of each kind.
 fn most_bits(mode: u32, vector: u32, stage: u32, mean: u32) -> u32
     requires { ⌜ (mode ≤ 32) × (vector ≤ 32) × (stage ≤ 32) × (mean ≤ 32) ⌝ }
@@ -58,10 +54,14 @@ fn book_bits(book: &[u8]) -> u32
     requires { ⌜ bookRefusal (now book) ≡ 0 ⌝ }
     ensures { λ r. ⌜ r ≡ bookBits (now (book .entry)) ⌝ }
 {
-    let mode = longest_of(book, 0, 4);
-    let vector = longest_of(book, 4, 64);
-    let mean = greater(longest_of(book, 68, 256), longest_of(book, 324, 512));
-    let stage = greater(longest_of(book, 836, 48), longest_of(book, 884, 48));
+    let mode = longest_code(mode_table(book));
+    let vector = longest_code(vector_table(book));
+    let intra_mean = longest_code(intra_mean_table(book));
+    let inter_mean = longest_code(inter_mean_table(book));
+    let intra_stage = longest_code(intra_stage_family(book));
+    let inter_stage = longest_code(inter_stage_family(book));
+    let mean = greater(intra_mean, inter_mean);
+    let stage = greater(intra_stage, inter_stage);
     most_bits(mode, vector, stage, mean)
 }
 

@@ -5,6 +5,7 @@ use mathlib.Core.List.{List, [], _∷_}
 use lib.Dec.{eqb, leb, ltb}
 use lib.ListN.{length, take, drop, getD}
 use Rattle.bits.specs.Basics.{pick}
+use Rattle.book.specs.Book.{bookBytes, codebookBytes}
 use Rattle.canvas.specs.Canvas.{padded16}
 use Rattle.replay.specs.declared.inner.file.Scene.{Scene}
 use Rattle.replay.specs.declared.inner.file.SceneRead.{SceneRead}
@@ -71,10 +72,10 @@ sceneIn t at =
 
 -- where a book and a codebook stand: the books behind the list's three numbers, the codebooks behind the books
 abbrev pub bookAt : ℕ → ℕ
-bookAt k = 4 + 2796 * k
+bookAt k = 4 + bookBytes * k
 
 abbrev pub codebookAt : ℕ → ℕ → ℕ
-codebookAt books k = 4 + 2796 * books + 23040 * k
+codebookAt books k = 4 + bookBytes * books + codebookBytes * k
 
 -- a job with an answer of n bits: book, codebook, lambda, radius, flag, bit count, bits, macroblocks, reconstruction, x and y of the vectors
 unfoldable pub measuredIn : List ℕ → ℕ → ℕ → ℕ → ℕ → JobRead

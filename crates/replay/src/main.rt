@@ -6,6 +6,8 @@ ghost use Rattle.replay.specs.Layout.{mostSize};
 
 mod inner;
 
+use book::inner::BOOK_BYTES;
+use book::inner::CODEBOOK_BYTES;
 use inner::file::JobRead;
 use inner::file::Scene;
 use inner::file::SceneRead;
@@ -174,7 +176,7 @@ fn replay(file: &[u8]) {
     let books = byte(file, 0);
     let codebooks = byte(file, 1);
     let scenes = number_at(file, 2, 2);
-    let first = 4 + 2796 * (books as usize) + 23040 * (codebooks as usize);
+    let first = 4 + BOOK_BYTES * (books as usize) + CODEBOOK_BYTES * (codebooks as usize);
     let r = replay_scenes(file, books, scenes, first);
     if !r.whole {
         return;

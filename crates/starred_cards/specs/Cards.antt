@@ -23,6 +23,7 @@ use Rattle.macroblock.specs.Macroblock.{Given}
 use Rattle.macroblock.specs.Limit.{unlimited}
 use Rattle.macroblock.specs.Choice.{Task}
 use Rattle.plane.specs.Plane.{writePlane}
+use Rattle.text.specs.Text.{ascii}
 use Rattle.listing_job.specs.Job.{Job, jobIn}
 use Rattle.listing_text.specs.Listing.{noSlices, planeText}
 
@@ -84,23 +85,19 @@ Holds (two a b m) = mean2 a b ≡ m
 Holds (four a b c d m) = mean4 a b c d ≡ m
 Holds (search size radius side x y p v) = searchAnswer (flatSearch size radius side x y p) ≡ done v
 
--- `16,16,32,8,1` and the line with lambda 2^64-1, each with its line feed
+-- the jobs of the first two cards
 abbrev pub firstLine : List ℕ
-firstLine = 49 ∷ 54 ∷ 44 ∷ 49 ∷ 54 ∷ 44 ∷ 51 ∷ 50 ∷ 44 ∷ 56 ∷ 44 ∷ 49 ∷ 10 ∷ []
+firstLine = ascii "16,16,32,8,1\n"
 
 abbrev pub largestLine : List ℕ
-largestLine =
-    49 ∷ 54 ∷ 44 ∷ 49 ∷ 54 ∷ 44 ∷ 49 ∷ 56 ∷ 52 ∷ 52 ∷ 54 ∷ 55 ∷ 52 ∷ 52 ∷ 48 ∷ 55 ∷ 51 ∷ 55 ∷ 48 ∷ 57 ∷ 53 ∷ 53 ∷ 49 ∷ 54 ∷ 49 ∷ 53 ∷ 44 ∷ 56 ∷ 44 ∷ 49 ∷ 10 ∷ []
+largestLine = ascii "16,16,18446744073709551615,8,1\n"
 
--- `0,0,INTRA,22,0` and `total,22,0`; `0,0,SKIP,1,2560000` and `total,1,2560000`
+-- what is listed for each
 abbrev pub firstText : List ℕ
-firstText =
-    48 ∷ 44 ∷ 48 ∷ 44 ∷ 73 ∷ 78 ∷ 84 ∷ 82 ∷ 65 ∷ 44 ∷ 50 ∷ 50 ∷ 44 ∷ 48 ∷ 10 ∷ 116 ∷ 111 ∷ 116 ∷ 97 ∷ 108 ∷ 44 ∷ 50 ∷ 50 ∷ 44 ∷ 48 ∷ 10 ∷ []
+firstText = ascii "0,0,INTRA,22,0\ntotal,22,0\n"
 
 abbrev pub largestText : List ℕ
-largestText =
-    48 ∷ 44 ∷ 48 ∷ 44 ∷ 83 ∷ 75 ∷ 73 ∷ 80 ∷ 44 ∷ 49 ∷ 44 ∷ 50 ∷ 53 ∷ 54 ∷ 48 ∷ 48 ∷ 48 ∷ 48 ∷ 10
-    ∷ 116 ∷ 111 ∷ 116 ∷ 97 ∷ 108 ∷ 44 ∷ 49 ∷ 44 ∷ 50 ∷ 53 ∷ 54 ∷ 48 ∷ 48 ∷ 48 ∷ 48 ∷ 10 ∷ []
+largestText = ascii "0,0,SKIP,1,2560000\ntotal,1,2560000\n"
 
 -- the table
 abbrev pub cards : List Card

@@ -13,7 +13,7 @@ use Rattle.book.specs.declared.svq1_vlc.Svq1Half.the-variants.{Intra, Inter}
 use Rattle.vectors.specs.Vectors.{zeroMv, median, predicted, codable}
 use Rattle.mv_cache.specs.Neighbours.{Near, neighbourAt, nearOf}
 use Rattle.macroblock.specs.Macroblock.{Given, Motion, still, single, four, Choice, skipped, coded, halfOf, referenceBlock, baseline, shown, vectorBits, motionBits, choiceBits}
-use Rattle.macroblock.specs.Choice.{Task, paddedSource, target, singleTried, fourTried, motionsTried, planningFor, tried, fitting, weightOf, beats, bestOf, chosen}
+use Rattle.macroblock.specs.Choice.{Task, paddedSource, targetOf, target, singleTried, fourTried, motionsTried, planningFor, tried, fitting, weightOf, beats, bestOf, chosen}
 use Rattle.macroblock.specs.Slices.{near}
 use Rattle.tree.specs.TreeBits.{Node, planTree, nodeBits, emit, treeBits, treeShown}
 use Rattle.listing_job.specs.Job.{Job, jobRead, jobIn}
@@ -54,11 +54,11 @@ around lambda = near (given lambda) (noSlices (given lambda)) 0
 
 -- every search finds the zero vector
 motions-are : (lambda : ℕ) → motionsTried (given lambda) (task lambda) 0 (around lambda) ≡ single zeroMv ∷ still ∷ four zeroMv zeroMv zeroMv zeroMv ∷ []
-unfolding paddedSource target part valuesFrom singleTried fourTried motionsTried nearOf neighbourAt predicted median searched searchBest fullSearch rowsTo rowTo aroundTo consider allowed codable inWindow fullAt errorOf sad movedBlock halfSample sampleAt gather
+unfolding paddedSource targetOf part valuesFrom singleTried fourTried motionsTried nearOf neighbourAt predicted median searched searchBest fullSearch rowsTo rowTo aroundTo consider allowed codable inWindow fullAt errorOf sad movedBlock halfSample sampleAt gather
 motions-are lambda = refl
 
 target-is : (lambda : ℕ) → target (given lambda) (task lambda) 0 ≡ flat 256 100
-unfolding paddedSource target part valuesFrom
+unfolding paddedSource targetOf part valuesFrom
 target-is lambda = refl
 
 abbrev Over0 : ℕ → Motion → Type 0
@@ -91,23 +91,23 @@ tried-are lambda a b =
 
 -- INTRA wins at lambda 32; at the largest lambda all costs are equal and SKIP has the fewest bits
 chosen-at-32 : chosen (given 32) (task 32) 0 (around 32) 0 ≡ coded still tree
-unfolding chosen fitting bestOf beats weightOf codesOf msb houseBook houseFrom rank signedRank logUnder vectorBits motionBits choiceBits nodeBits emit treeBits leafBits stageBits shown treeShown rebuilt paintAt paint blockOf gather place placeUnder shownAt leafShown staged samples seeded saturate baseline movedBlock valuesFrom halfSample sampleAt referenceBlock part sse paddedSource target nearOf neighbourAt predicted median
+unfolding chosen fitting bestOf beats weightOf codesOf msb houseBook houseFrom rank signedRank logUnder vectorBits motionBits choiceBits nodeBits emit treeBits leafBits stageBits shown treeShown rebuilt paintAt paint blockOf gather place placeUnder shownAt leafShown staged samples seeded saturate baseline movedBlock valuesFrom halfSample sampleAt referenceBlock part sse paddedSource targetOf nearOf neighbourAt predicted median
 chosen-at-32 = rw (tried-are 32 (tree-is Intra 32 (leaf-at-32 Intra)) (tree-is Inter 32 (leaf-at-32 Inter)))
 
 abbrev largest : ℕ
 largest = 18446744073709551615
 
 chosen-at-largest : chosen (given largest) (task largest) 0 (around largest) 0 ≡ skipped
-unfolding chosen fitting bestOf beats weightOf codesOf msb houseBook houseFrom rank signedRank logUnder vectorBits motionBits choiceBits nodeBits emit treeBits leafBits stageBits shown treeShown rebuilt paintAt paint blockOf gather place placeUnder shownAt leafShown staged samples seeded saturate baseline movedBlock valuesFrom halfSample sampleAt referenceBlock part sse paddedSource target nearOf neighbourAt predicted median
+unfolding chosen fitting bestOf beats weightOf codesOf msb houseBook houseFrom rank signedRank logUnder vectorBits motionBits choiceBits nodeBits emit treeBits leafBits stageBits shown treeShown rebuilt paintAt paint blockOf gather place placeUnder shownAt leafShown staged samples seeded saturate baseline movedBlock valuesFrom halfSample sampleAt referenceBlock part sse paddedSource targetOf nearOf neighbourAt predicted median
 chosen-at-largest = rw (tried-are largest (tree-is Intra largest (leaf-at-largest Intra)) (tree-is Inter largest (leaf-at-largest Inter)))
 
 -- what they weigh
 weight-at-32 : weightOf (given 32) (task 32) 0 (around 32) (coded still tree) ≡ record { bits = 22; err = 0 }
-unfolding weightOf codesOf msb houseBook houseFrom rank signedRank logUnder vectorBits motionBits choiceBits nodeBits emit treeBits leafBits stageBits shown treeShown rebuilt paintAt paint blockOf gather place placeUnder shownAt leafShown staged samples seeded saturate baseline movedBlock valuesFrom halfSample sampleAt referenceBlock part sse paddedSource target
+unfolding weightOf codesOf msb houseBook houseFrom rank signedRank logUnder vectorBits motionBits choiceBits nodeBits emit treeBits leafBits stageBits shown treeShown rebuilt paintAt paint blockOf gather place placeUnder shownAt leafShown staged samples seeded saturate baseline movedBlock valuesFrom halfSample sampleAt referenceBlock part sse paddedSource targetOf
 weight-at-32 = refl
 
 weight-at-largest : weightOf (given largest) (task largest) 0 (around largest) skipped ≡ record { bits = 1; err = 2560000 }
-unfolding weightOf codesOf msb houseBook houseFrom rank signedRank logUnder vectorBits motionBits choiceBits nodeBits emit treeBits leafBits stageBits shown treeShown rebuilt paintAt paint blockOf gather place placeUnder shownAt leafShown staged samples seeded saturate baseline movedBlock valuesFrom halfSample sampleAt referenceBlock part sse paddedSource target
+unfolding weightOf codesOf msb houseBook houseFrom rank signedRank logUnder vectorBits motionBits choiceBits nodeBits emit treeBits leafBits stageBits shown treeShown rebuilt paintAt paint blockOf gather place placeUnder shownAt leafShown staged samples seeded saturate baseline movedBlock valuesFrom halfSample sampleAt referenceBlock part sse paddedSource targetOf
 weight-at-largest = refl
 
 -- what is listed for a plane of one macroblock: of the output only its length matters
@@ -126,11 +126,11 @@ room n h =
     (omega (arith, length-bitsOf (replicate outputBytes 0), length-replicate {A = ℕ} outputBytes 0))
 
 first-card : Holds (plane firstLine (job 32) 100 0 (0x21 ∷ 0x01 ∷ 0x94 ∷ []) firstText)
-unfolding jobIn jobRead linesOf fieldsOf pieces allEnded numberUpTo isNumber valueFrom every writePlane run after written weightOf putBits afterBits cleared bitsOf planeText codesOf msb houseBook houseFrom rank signedRank logUnder vectorBits motionBits choiceBits nodeBits emit treeBits leafBits stageBits shown treeShown rebuilt paintAt paint blockOf gather place placeUnder shownAt leafShown staged samples seeded saturate baseline movedBlock valuesFrom halfSample sampleAt referenceBlock part sse paddedSource target
+unfolding jobIn jobRead linesOf fieldsOf pieces allEnded numberUpTo isNumber valueFrom every writePlane run after written weightOf putBits afterBits cleared bitsOf planeText codesOf msb houseBook houseFrom rank signedRank logUnder vectorBits motionBits choiceBits nodeBits emit treeBits leafBits stageBits shown treeShown rebuilt paintAt paint blockOf gather place placeUnder shownAt leafShown staged samples seeded saturate baseline movedBlock valuesFrom halfSample sampleAt referenceBlock part sse paddedSource targetOf
 first-card = (refl, rw chosen-at-32, text-at-32 (bitsOf (replicate outputBytes 0)) (room 22 (omega arith)))
 
 largest-card : Holds (plane largestLine (job largest) 100 0 (0x80 ∷ []) largestText)
-unfolding jobIn jobRead linesOf fieldsOf pieces allEnded numberUpTo isNumber valueFrom every writePlane run after written weightOf putBits afterBits cleared bitsOf planeText codesOf msb houseBook houseFrom rank signedRank logUnder vectorBits motionBits choiceBits nodeBits emit treeBits leafBits stageBits shown treeShown rebuilt paintAt paint blockOf gather place placeUnder shownAt leafShown staged samples seeded saturate baseline movedBlock valuesFrom halfSample sampleAt referenceBlock part sse paddedSource target
+unfolding jobIn jobRead linesOf fieldsOf pieces allEnded numberUpTo isNumber valueFrom every writePlane run after written weightOf putBits afterBits cleared bitsOf planeText codesOf msb houseBook houseFrom rank signedRank logUnder vectorBits motionBits choiceBits nodeBits emit treeBits leafBits stageBits shown treeShown rebuilt paintAt paint blockOf gather place placeUnder shownAt leafShown staged samples seeded saturate baseline movedBlock valuesFrom halfSample sampleAt referenceBlock part sse paddedSource targetOf
 largest-card = (refl, rw chosen-at-largest, text-at-largest (bitsOf (replicate outputBytes 0)) (room 1 (omega arith)))
 
 -- THE CARDS

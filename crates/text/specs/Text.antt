@@ -1,10 +1,17 @@
 -- Text as a list of bytes: decimal numbers, fields between commas, lines (document 01, "The book", the book file; "Refused for the state met", the listing).
 use Prim.Native.Nat.{ℕ, zero, suc, _+_, _-_, _*_, _/_, _%_}
+use Prim.Native.Char.{code}
+use Prim.Native.String.{String, [] as noText, _∷_ as _then_}
 use mathlib.Core.Bool.{Bool, true, false, not, _&&_}
 use mathlib.Core.List.{List, [], _∷_, _++_}
 use mathlib.Core.Option.{Option, none, some}
 use lib.Dec.{eqb, leb, ltb}
 use Rattle.bits.specs.Basics.{pick, every}
+
+-- the bytes of a text of ASCII characters: the code of each
+abbrev pub ascii : String → List ℕ
+ascii noText = []
+ascii (c then t) = code c ∷ ascii t
 
 abbrev pub comma : ℕ
 comma = 44

@@ -17,10 +17,10 @@ use super::svq1_enc_tree::Block;
 use super::svq1_enc_tree::TreeNode;
 use bits::inner::get_bits;
 use bits::inner::put_bits;
+use book::inner::mean_table;
 use book::svq1_blocktree::Svq1Level;
 use book::svq1_vlc::Svq1Half;
 use leaf::inner::reading::read_leaf;
-use leaf::inner::writing::mean_table;
 use leaf::inner::writing::put_leaf;
 use leaf::svq1_enc_leaf::LeafCode;
 
@@ -45,7 +45,7 @@ pub fn stage_table(book: &[u8], half: Svq1Half, d: usize) -> &[u8]
     ensures { λ r. ⌜ now r ≡ stageTable d (stageFamily half (now (book .entry))) ⌝ }
 {
     let level = level_at(d);
-    level.stage_table(&book[2508..2652], &book[2652..2796], half)
+    book::inner::stage_table(book, half, level)
 }
 
 // Whether a block is split.

@@ -4,13 +4,15 @@ ghost use Prim.Native.Nat.{_+_, _-_, _*_, _<_, _≤_, min};
 ghost use lib.ListN.{length, take};
 ghost use Rattle.bits.specs.Basics.{natural};
 ghost use Rattle.bits.specs.Inner.{Fits, Wrote};
-ghost use Rattle.book.specs.Book.{bookBytes, meanTable, bookRefusal};
+ghost use Rattle.book.specs.Book.{bookRefusal};
 ghost use Rattle.book.specs.Level.{levelNumber};
 ghost use Rattle.codebook.specs.Mean.{meanPosition};
 ghost use Rattle.leaf.specs.Raised.{leafOf};
 ghost use Rattle.leaf.specs.LeafBits.{stageBits};
 ghost use Rattle.leaf.specs.Lent.{lentBits, LentTables, CodeFits, LeafSize, Writable, BookLeafSize};
 use super::super::svq1_enc_leaf::LeafCode;
+use book::inner::mean_table;
+use book::inner::stage_table;
 use book::svq1_blocktree::Svq1Level;
 use book::svq1_vlc::Svq1Half;
 
@@ -121,22 +123,11 @@ pub fn put_leaf(
     }
 }
 
-// The mean table of a book's half.
-pub fn mean_table(book: &[u8], half: Svq1Half) -> &[u8]
-    requires { ⌜ length (now book) ≡ bookBytes ⌝ }
-    ensures { λ r. ⌜ now r ≡ meanTable half (now (book .entry)) ⌝ }
-{
-    match half {
-        Svq1Half::Intra => &book[204..972],
-        Svq1Half::Inter => &book[972..2508],
-    }
-}
-
 // How many bits a leaf has by a book's tables.
 pub fn book_leaf_bits(book: &[u8], level: Svq1Level, half: Svq1Half, code: LeafCode) -> u32
     requires { ⌜ (bookRefusal (now book) ≡ 0) × CodeFits half code ⌝ }
     ensures { λ r. ⌜ BookLeafSize (now (book .entry)) half (levelNumber level) code r ⌝ }
 {
-    let stage = level.stage_table(&book[2508..2652], &book[2652..2796], half);
+    let stage = stage_table(book, half, level);
     leaf_bits(stage, mean_table(book, half), half, code)
 }

@@ -14,6 +14,8 @@ ghost use Rattle.macroblock.specs.Mode.{modePosition};
 ghost use Rattle.macroblock.specs.Reading.{readVector};
 ghost use Rattle.macroblock_dec.specs.Finding.{Found, PositionFound, differenceHere};
 ghost use Rattle.macroblock.specs.Inner.{byBook};
+use book::inner::mode_table;
+use book::inner::vector_table;
 use code_tables::svq1_vlc::CodeRead;
 use macroblock::svq1_enc_inter::Svq1MbMode;
 use vectors::svq1_motion_predictor::Svq1Mv;
@@ -89,7 +91,7 @@ pub fn read_mb_mode(s: &[u8], at: usize, book: &[u8]) -> ReadMode
     requires { ⌜ Reads (now book) 5 (length (now s)) at ⌝ }
     ensures { λ r. ⌜ Found (now (s .entry)) (takeCode (codesOf (modeTable (now (book .entry)))) (drop at (bitsOf (now (s .entry))))) (r .refused) (modePosition (r .mode)) (r .next) ⌝ }
 {
-    let p = read_position(s, at, &book[0..12]);
+    let p = read_position(s, at, mode_table(book));
     ReadMode {
         refused: p.refused,
         next: p.next,
@@ -102,7 +104,7 @@ fn read_mv_component(s: &[u8], at: usize, book: &[u8]) -> ReadPosition
     requires { ⌜ Reads (now book) 5 (length (now s)) at ⌝ }
     ensures { λ r. ⌜ PositionFound (now (s .entry)) at (vectorTable (now (book .entry))) r × (r .position < 64) ⌝ }
 {
-    read_position(s, at, &book[12..204])
+    read_position(s, at, vector_table(book))
 }
 
 // The positions of a difference's components, x before y.

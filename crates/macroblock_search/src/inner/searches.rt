@@ -3,7 +3,7 @@ ghost use mathlib.Core.Path.{_≡_};
 ghost use mathlib.Core.Bool.{false};
 ghost use Prim.Native.Nat.{_*_, _/_, _%_, _<_};
 ghost use lib.ListN.{length};
-ghost use Rattle.canvas.specs.Canvas.{blocksAlong};
+ghost use Rattle.canvas.specs.Canvas.{largestSide, blocksAlong};
 ghost use Rattle.motion.specs.Search.{searched};
 ghost use Rattle.motion.specs.SearchCallLaws.{Passes};
 ghost use Rattle.vectors.specs.VectorsLaws.{Inside};
@@ -45,7 +45,7 @@ pub struct Corner {
 
 pub fn corner_of(canvas: Svq1PlaneCanvas, k: usize) -> Corner
     requires { ⌜ Cornered canvas k ⌝ }
-    ensures { λ r. ⌜ (r .x ≡ 16 * (k % blocksAlong (canvas .width))) × (r .y ≡ 16 * (k / blocksAlong (canvas .width))) × (r .x < 1024) × (r .y < 1024) ⌝ }
+    ensures { λ r. ⌜ (r .x ≡ 16 * (k % blocksAlong (canvas .width))) × (r .y ≡ 16 * (k / blocksAlong (canvas .width))) × (r .x < largestSide) × (r .y < largestSide) ⌝ }
 {
     let cols = blocks_along(canvas.width);
     Corner {

@@ -4,7 +4,8 @@ ghost use Prim.Native.Nat.{_+_, _<_, _≤_, min};
 ghost use lib.ListN.{length, getD};
 ghost use Rattle.compensation.specs.Moved.{rowSet};
 ghost use Rattle.canvas.specs.Canvas.{largestSide, blocksAlong};
-ghost use Rattle.macroblock_search.specs.Target.{Sources, targetOf};
+ghost use Rattle.macroblock.specs.Choice.{targetOf};
+ghost use Rattle.macroblock_search.specs.Target.{Sources};
 use canvas::svq1_plane::MB_DIM;
 use canvas::svq1_plane::Svq1PlaneCanvas;
 

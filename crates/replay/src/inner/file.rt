@@ -4,6 +4,8 @@ ghost use Prim.Native.Nat.{_+_, _/_, _≤_};
 ghost use lib.ListN.{length, getD};
 ghost use Rattle.canvas.specs.Canvas.{padded16};
 ghost use Rattle.replay.specs.Layout.{partOf, numberOf, bytesFor, mostSide, mostSize, Begun, sizedIn, sceneIn, measuredIn, jobIn};
+use book::inner::BOOK_BYTES;
+use book::inner::CODEBOOK_BYTES;
 use canvas::svq1_plane::Svq1PlaneCanvas;
 
 // A scene: the canvas of its planes; the samples of its source and of its canvas; the places of its source and its reference; how many jobs
@@ -183,8 +185,10 @@ fn measured_job(file: &[u8], books: u8, size: usize, at: usize, count: u64) -> J
     let vx = recon + size;
     let vy = vx + 4 * blocks;
     JobRead::Whole(Job {
-        book: 4 + 2796 * (byte(file, at) as usize),
-        codebook: 4 + 2796 * (books as usize) + 23040 * (byte(file, at + 1) as usize),
+        book: 4 + BOOK_BYTES * (byte(file, at) as usize),
+        codebook: 4
+            + BOOK_BYTES * (books as usize)
+            + CODEBOOK_BYTES * (byte(file, at + 1) as usize),
         lambda: number_at(file, at + 2, 8),
         radius: byte(file, at + 10),
         four: byte(file, at + 11) != 0,

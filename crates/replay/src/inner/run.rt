@@ -12,6 +12,8 @@ use super::file::Scene;
 use super::file::part;
 use super::tally::Tally;
 use super::tally::job_tally;
+use book::inner::BOOK_BYTES;
+use book::inner::CODEBOOK_BYTES;
 use macroblock::svq1_enc_inter::Settings;
 use plane_dec::svq1_plane::ReadEnd;
 use plane_dec::svq1_plane::decode_inter_plane;
@@ -31,8 +33,8 @@ fn write_job(
     let canvas = s.canvas;
     let source = part(file, s.source, s.samples);
     let reference = part(file, s.reference, s.size);
-    let book = part(file, j.book, 2796);
-    let codebook = part(file, j.codebook, 23040);
+    let book = part(file, j.book, BOOK_BYTES);
+    let codebook = part(file, j.codebook, CODEBOOK_BYTES);
     let settings = Settings {
         lambda: j.lambda,
         radius: j.radius,
@@ -65,8 +67,8 @@ fn read_job_back(
 ) -> ReadEnd {
     let canvas = s.canvas;
     let reference = part(file, s.reference, s.size);
-    let book = part(file, j.book, 2796);
-    let codebook = part(file, j.codebook, 23040);
+    let book = part(file, j.book, BOOK_BYTES);
+    let codebook = part(file, j.codebook, CODEBOOK_BYTES);
     decode_inter_plane(canvas, reference, book, codebook, bytes, 0, recon, vx, vy)
 }
 

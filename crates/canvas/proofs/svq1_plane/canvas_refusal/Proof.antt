@@ -1,4 +1,4 @@
--- Test by test; both sides are at most 1,024, so their product is safe.
+-- Test by test; both sides are at most the largest one rounded up, so their product is safe.
 use mathlib.Core.Path.{sym, _∙_}
 use native.Mathlib.Omega.{arith}
 use borrow.Author.Tests.{eq-eqb, ne-eqb}
