@@ -1,10 +1,12 @@
 // Where the codebook's pages and bytes stand.
+pub mod inner;
+
 ghost use mathlib.Core.Path.{_≡_};
 ghost use Prim.Native.Nat.{_<_};
 ghost use Rattle.book.specs.Level.{levelNumber};
 ghost use Rattle.codebook.specs.Codebook.{rasterOf};
 ghost use Rattle.codebook.specs.CodebookCalls.{placeNumber, pagePlace, rasterPlace};
-use super::inner::page_start;
+use super::svq1_codebook::inner::page_start;
 use book::svq1_blocktree::Svq1Level;
 use book::svq1_vlc::Svq1Half;
 

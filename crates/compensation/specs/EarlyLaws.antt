@@ -8,7 +8,7 @@ use native.Mathlib.Numerals.{add-one}
 use lib.Dec.{leb}
 use borrow.Author.Tests.{le-leb, lt-leb, leb-true}
 use Rattle.bits.specs.Basics.{pick, sum}
-use Rattle.compensation.specs.declared.inner.error.Taken.{Taken}
+use Rattle.compensation.specs.declared.svq1_enc_inter.inner.Taken.{Taken}
 use Rattle.compensation.specs.Rows.{early}
 use Rattle.bits.specs.SumLaws.{sum-le}
 

@@ -7,7 +7,7 @@ use lib.ListN.{length, getD}
 use Rattle.bits.specs.Basics.{pick, gap, sum}
 use Rattle.canvas.specs.Canvas.{Canvas}
 use Rattle.compensation.specs.Compensation.{mean2, mean4}
-use Rattle.compensation.specs.declared.inner.error.Taken.{Taken}
+use Rattle.compensation.specs.declared.svq1_enc_inter.inner.Taken.{Taken}
 
 -- the sample at place p of the canvas's list, with no clamp; ox and oy, 0 or 1, say whether it lies between two columns and two rows
 unfoldable pub cell : Canvas → ℕ → ℕ → ℕ → ℕ

@@ -12,7 +12,7 @@ use lib.ListN.{length, getD, take, drop, length-take, length-drop}
 use lib.Seq.{getD-drop, getD-take}
 use borrow.Author.Tests.{lt-ltb, eq-eqb, ne-eqb, eqb-false}
 use Rattle.bits.specs.Basics.{gap, sum}
-use Rattle.compensation.specs.declared.inner.error.Taken.{Taken}
+use Rattle.compensation.specs.declared.svq1_enc_inter.inner.Taken.{Taken}
 use Rattle.canvas.specs.Canvas.{Canvas}
 use Rattle.compensation.specs.Compensation.{mean2, mean4, sampleAt, halfSample}
 use Rattle.compensation.specs.Rows.{againstTwo, againstFour, cell, cells, ReadIn, Summed}

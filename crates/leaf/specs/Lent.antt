@@ -17,7 +17,7 @@ use Rattle.codebook.specs.Mean.{meanPosition, meanAt}
 use Rattle.leaf.specs.Leaf.{Leaf, skip, coded}
 use Rattle.leaf.specs.LeafBits.{leafBits, readStages, readRest}
 use Rattle.leaf.specs.Raised.{leafOf}
-use Rattle.leaf.specs.declared.inner.reading.ReadLeaf.{ReadLeaf}
+use Rattle.leaf.specs.declared.svq1_plane.inner.ReadLeaf.{ReadLeaf}
 use Rattle.leaf.specs.declared.svq1_enc_leaf.LeafCode.{LeafCode}
 use Rattle.leaf.specs.declared.svq1_enc_leaf.LeafCode.the-variants.{Skip, Coded}
 

@@ -31,7 +31,7 @@ use Rattle.codebook.specs.Mean.{meanAt}
 use Rattle.leaf.specs.Leaf.{skip}
 use Rattle.leaf.specs.LeafBits.{readStages, readSkip, readRest, readLeaf}
 use Rattle.leaf.specs.Lent.{lentTables, padded, refusedLeaf, LeafRead, nibbles, readIndices, readMean, lentRest}
-use Rattle.leaf.specs.declared.inner.reading.ReadLeaf.{ReadLeaf}
+use Rattle.leaf.specs.declared.svq1_plane.inner.ReadLeaf.{ReadLeaf}
 use Rattle.leaf.specs.declared.svq1_enc_leaf.LeafCode.the-variants.{Skip, Coded}
 
 -- ---- the stage table is read once: what stands behind its code is read by the mean table alone

@@ -1,4 +1,6 @@
 // A leaf as it is coded, and the terms of its search.
+pub mod inner;
+
 use book::svq1_vlc::Svq1Half;
 
 // The code of a leaf: skip, or a mean with a stage count; its stage indices lie beside it.

@@ -1,3 +1,2 @@
 // The leaf search as a call, with its refusals.
-pub mod inner;
 pub mod svq1_enc_leaf;

@@ -1,18 +1,20 @@
 // The leaf search as a call.
+pub mod inner;
+
 ghost use mathlib.Core.Path.{_≡_};
 ghost use Prim.Native.Nat.{_<_};
 ghost use lib.ListN.{length};
 ghost use Rattle.book.specs.Level.{levelNumber};
 ghost use Rattle.leaf.specs.LeafCall.{blockRefusal};
 ghost use Rattle.leaf_call.specs.LeafAnswer.{blockFits, refusedAnswer, foundAnswer, LeafAnswered, Searchable, Found};
-use super::inner::terms_of;
+use super::svq1_enc_leaf::inner::terms_of;
 use book::inner::CODEBOOK_BYTES;
 use book::svq1_blocktree::Svq1Level;
-use codebook::inner::raise_codebook;
-use leaf::inner::writing::book_leaf_bits;
+use codebook::svq1_codebook::inner::raise_codebook;
+use leaf::svq1_enc_leaf::inner::book_leaf_bits;
 use leaf::svq1_enc_leaf::LeafCode;
 use leaf::svq1_enc_leaf::LeafTerms;
-use leaf_search::inner::level_leaf;
+use leaf_search::svq1_enc_leaf::inner::level_leaf;
 
 // What the search answers: 0 and the leaf, its bits, its error and the samples that it shows; or a refusal's number and nothing else.
 pub struct LeafAnswer {

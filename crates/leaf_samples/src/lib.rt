@@ -1,2 +1,2 @@
 // A leaf's samples.
-pub mod inner;
+pub mod svq1_enc_leaf;

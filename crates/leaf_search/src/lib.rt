@@ -1,3 +1,2 @@
 // The leaf search.
-pub mod inner;
 pub mod svq1_enc_leaf;

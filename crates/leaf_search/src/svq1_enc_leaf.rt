@@ -1,4 +1,6 @@
 // What the leaf search chooses.
+pub mod inner;
+
 use leaf::svq1_enc_leaf::LeafCode;
 
 // A leaf as the search chooses it, with its squared error.

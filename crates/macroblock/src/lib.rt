@@ -1,3 +1,2 @@
 // One macroblock: what it is, and its samples and vectors laid into the result slices.
-pub mod inner;
 pub mod svq1_enc_inter;

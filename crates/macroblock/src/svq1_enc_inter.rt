@@ -1,3 +1,5 @@
+pub mod inner;
+
 ghost use mathlib.Core.Path.{_≡_};
 ghost use Prim.Native.Nat.{_<_};
 ghost use Rattle.macroblock.specs.Mode.{modePosition};

@@ -1,2 +1,2 @@
 // The bits of a macroblock's mode and vectors, counted and written.
-pub mod inner;
+pub mod svq1_enc_inter;

@@ -9,7 +9,7 @@ use Rattle.vectors.specs.declared.svq1_motion_predictor.Svq1Mv.{Svq1Mv}
 use Rattle.mv_cache.specs.Neighbours.{Near}
 use Rattle.tree.specs.Plan.{Planning}
 use Rattle.tree.specs.TreeBits.{planTree}
-use Rattle.macroblock_choice.specs.declared.inner.candidates.MbCandidate.{MbCandidate}
+use Rattle.macroblock_choice.specs.declared.svq1_enc_inter.inner.candidates.MbCandidate.{MbCandidate}
 use Rattle.macroblock.specs.declared.svq1_enc_inter.MbMotion.{MbMotion}
 use Rattle.macroblock.specs.declared.svq1_enc_inter.Settings.{Settings}
 use Rattle.macroblock.specs.Macroblock.{Given, cols, rows, Motion, coded, halfOf, vectorsOf, baseline}

@@ -19,7 +19,7 @@ use Rattle.tree.specs.Nodes.{treeOf}
 use Rattle.tree.specs.Plan.{Planning, Weight}
 use Rattle.plan.specs.PlanClaimLaws.{Planned, plan-bits, plan-error, plan-short}
 use Rattle.tree.specs.TreeBits.{planTree, treeBits}
-use Rattle.macroblock_choice.specs.declared.inner.candidates.MbCandidate.{MbCandidate}
+use Rattle.macroblock_choice.specs.declared.svq1_enc_inter.inner.candidates.MbCandidate.{MbCandidate}
 use Rattle.macroblock.specs.declared.svq1_enc_inter.Settings.{Settings}
 use Rattle.macroblock.specs.declared.svq1_enc_inter.MbMotion.{MbMotion}
 use Rattle.canvas.specs.declared.svq1_plane.Svq1PlaneCanvas.{Svq1PlaneCanvas}
@@ -30,7 +30,7 @@ use Rattle.macroblock.specs.Choice.{Task, targetOf, target, skipsLeaves, planeT
 use Rattle.macroblock.specs.Motions.{motionOf}
 use Rattle.macroblock.specs.Inner.{givenBy}
 use Rattle.macroblock.specs.InnerLaws.{fits, book-passes}
-use Rattle.macroblock_search.specs.declared.inner.motions.FoundMotion.{FoundMotion}
+use Rattle.macroblock_search.specs.declared.svq1_enc_inter.inner.motions.FoundMotion.{FoundMotion}
 use Rattle.macroblock_search.specs.Searches.{Searching, motionsOf, stillFound, MotionsFound}
 use Rattle.macroblock_search.specs.Target.{Sources}
 use Rattle.macroblock_search.specs.TargetLaws.{target-long}

@@ -1,2 +1,2 @@
 // The ways to code a macroblock, planned and weighed, and the one that is chosen.
-pub mod inner;
+pub mod svq1_enc_inter;

@@ -15,14 +15,14 @@ use Rattle.vectors.specs.declared.svq1_motion_predictor.Svq1Mv.{Svq1Mv}
 use Rattle.vectors.specs.Vectors.{zeroMv}
 use Rattle.vectors.specs.VectorsLaws.{Inside}
 use Rattle.mv_cache.specs.Neighbours.{Near, forOne, forFirst, forSecond, forThird, forFourth}
-use Rattle.tree.specs.declared.walk.ReadTree.{ReadTree}
+use Rattle.tree.specs.declared.svq1_enc_tree.inner.walk.ReadTree.{ReadTree}
 use Rattle.tree.specs.Blocks.{blockCount}
 use Rattle.tree.specs.Nodes.{treeOf, offBlock}
 use Rattle.tree.specs.TreeBits.{Node}
 use Rattle.tree.specs.Walk.{SoundTree}
-use Rattle.macroblock_dec.specs.declared.inner.codes.ReadPosition.{ReadPosition}
-use Rattle.macroblock_dec.specs.declared.inner.reading.ReadMotion.{ReadMotion}
-use Rattle.macroblock_dec.specs.declared.inner.reading.ReadChoice.{ReadChoice}
+use Rattle.macroblock_dec.specs.declared.svq1_plane.inner.codes.ReadPosition.{ReadPosition}
+use Rattle.macroblock_dec.specs.declared.svq1_plane.inner.reading.ReadMotion.{ReadMotion}
+use Rattle.macroblock_dec.specs.declared.svq1_plane.inner.reading.ReadChoice.{ReadChoice}
 use Rattle.macroblock.specs.declared.svq1_enc_inter.MbMotion.{MbMotion}
 use Rattle.macroblock.specs.declared.svq1_enc_inter.MbMotion.the-variants.{None, One, Four}
 use Rattle.macroblock.specs.Macroblock.{Given, Motion, still, single, four, Choice, coded, halfOf, vectorsOf}

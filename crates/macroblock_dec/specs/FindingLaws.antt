@@ -24,7 +24,7 @@ use Rattle.vectors.specs.declared.svq1_motion_predictor.Svq1Mv.{Svq1Mv}
 use Rattle.vectors.specs.Vectors.{zeroMv, clipped, finalMv, differenceAt}
 use Rattle.mv_cache.specs.Neighbours.{Near, forOne, forFirst, forSecond, forThird, forFourth}
 use Rattle.vectors.specs.VectorsLaws.{InRange, pos-in, neg-in, Inside, zero-inside}
-use Rattle.tree.specs.declared.walk.ReadTree.{ReadTree}
+use Rattle.tree.specs.declared.svq1_enc_tree.inner.walk.ReadTree.{ReadTree}
 use Rattle.tree.specs.Nodes.{treeOf}
 use Rattle.tree.specs.TreeBits.{readTree}
 use Rattle.tree.specs.ReadSoundLaws.{read-sound}
@@ -32,7 +32,7 @@ use Rattle.tree.specs.Walk.{Reads, TreeHere}
 use Rattle.macroblock.specs.declared.svq1_enc_inter.Svq1MbMode.{Svq1MbMode}
 use Rattle.macroblock.specs.declared.svq1_enc_inter.Svq1MbMode.the-variants as Mode
 use Rattle.macroblock.specs.declared.svq1_enc_inter.MbMotion.the-variants.{None, One, Four}
-use Rattle.macroblock_dec.specs.declared.inner.reading.ReadMotion.{ReadMotion}
+use Rattle.macroblock_dec.specs.declared.svq1_plane.inner.reading.ReadMotion.{ReadMotion}
 use Rattle.macroblock.specs.Mode.{modePosition}
 use Rattle.macroblock.specs.Macroblock.{Motion, still, single}
 use Rattle.macroblock.specs.Reading.{readDifference, readVector}

@@ -7,7 +7,7 @@ use lib.ListN.{length, drop}
 use Rattle.bits.specs.Basics.{pick}
 use Rattle.bits.specs.Bits.{bitsOf}
 use Rattle.bits.specs.Inner.{Fits}
-use Rattle.macroblock_dec.specs.declared.inner.reading.ReadMb.{ReadMb}
+use Rattle.macroblock_dec.specs.declared.svq1_plane.inner.reading.ReadMb.{ReadMb}
 use Rattle.macroblock.specs.Macroblock.{Given, cols, rows, Choice}
 use Rattle.macroblock.specs.Reading.{readMacroblock}
 use Rattle.macroblock.specs.Slices.{Slices, near, laid}

@@ -15,11 +15,11 @@ use Rattle.vectors.specs.declared.svq1_motion_predictor.Svq1Mv.{Svq1Mv}
 use Rattle.vectors.specs.Vectors.{zeroMv}
 use Rattle.mv_cache.specs.Neighbours.{Near, forOne, forFirst, forSecond, forThird, forFourth}
 use Rattle.tree.specs.declared.svq1_enc_tree.Block.{Block}
-use Rattle.tree.specs.declared.walk.ReadTree.{ReadTree}
+use Rattle.tree.specs.declared.svq1_enc_tree.inner.walk.ReadTree.{ReadTree}
 use Rattle.tree.specs.Nodes.{treeOf}
 use Rattle.tree.specs.TreeBits.{Node, readTree}
-use Rattle.macroblock_dec.specs.declared.inner.reading.ReadMotion.{ReadMotion}
-use Rattle.macroblock_dec.specs.declared.inner.reading.ReadChoice.{ReadChoice}
+use Rattle.macroblock_dec.specs.declared.svq1_plane.inner.reading.ReadMotion.{ReadMotion}
+use Rattle.macroblock_dec.specs.declared.svq1_plane.inner.reading.ReadChoice.{ReadChoice}
 use Rattle.macroblock.specs.Macroblock.{Given, Motion, still, single, four, Choice, skipped, coded, halfOf, vectorsOf, modeCodes}
 use Rattle.macroblock.specs.Motions.{motionOf}
 use Rattle.macroblock.specs.Reading.{readDifference, readVector, readCoded, readBehind, readMacroblock}

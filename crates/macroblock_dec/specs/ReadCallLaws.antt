@@ -15,7 +15,7 @@ use Rattle.mv_cache.specs.Neighbours.{nearOf}
 use Rattle.tree.specs.Nodes.{treeOf}
 use Rattle.tree.specs.Walk.{Reads}
 use Rattle.canvas.specs.declared.svq1_plane.Svq1PlaneCanvas.{Svq1PlaneCanvas}
-use Rattle.macroblock_dec.specs.declared.inner.reading.ReadChoice.{ReadChoice}
+use Rattle.macroblock_dec.specs.declared.svq1_plane.inner.reading.ReadChoice.{ReadChoice}
 use Rattle.macroblock.specs.Macroblock.{Given, cols, rows, Choice, halfOf}
 use Rattle.macroblock.specs.Reading.{readMacroblock}
 use Rattle.macroblock.specs.Slices.{Slices, slicesBy, near}

@@ -1,2 +1,2 @@
 // One macroblock read.
-pub mod inner;
+pub mod svq1_plane;

@@ -10,8 +10,8 @@ use Rattle.macroblock.specs.Macroblock.{Given, modeBits}
 use Rattle.macroblock.specs.Limit.{Limit, unlimited, within, canSkipRest}
 use Rattle.macroblock.specs.Inner.{byBook}
 use Rattle.macroblock_choice.specs.Chosen.{ampleRoom}
-use Rattle.macroblock_enc.specs.declared.inner.limit.BitLimit.{BitLimit}
-use Rattle.macroblock_enc.specs.declared.inner.limit.BitLimit.the-variants.{Unlimited, Within}
+use Rattle.macroblock_enc.specs.declared.svq1_enc_inter.inner.limit.BitLimit.{BitLimit}
+use Rattle.macroblock_enc.specs.declared.svq1_enc_inter.inner.limit.BitLimit.the-variants.{Unlimited, Within}
 
 -- the limit that the code passes on
 abbrev pub limitOf : BitLimit → Limit

@@ -12,8 +12,8 @@ use Rattle.macroblock.specs.declared.svq1_enc_inter.Svq1MbMode.the-variants.{Sk
 use Rattle.macroblock.specs.Macroblock.{Given, cols, rows, modeBits}
 use Rattle.macroblock.specs.Limit.{canSkipRest}
 use Rattle.macroblock_choice.specs.Chosen.{ampleRoom, Allows}
-use Rattle.macroblock_enc.specs.declared.inner.limit.BitLimit.{BitLimit}
-use Rattle.macroblock_enc.specs.declared.inner.limit.BitLimit.the-variants.{Unlimited, Within}
+use Rattle.macroblock_enc.specs.declared.svq1_enc_inter.inner.limit.BitLimit.{BitLimit}
+use Rattle.macroblock_enc.specs.declared.svq1_enc_inter.inner.limit.BitLimit.the-variants.{Unlimited, Within}
 use Rattle.macroblock_enc.specs.Limits.{limitOf, roomOf, Reserved, Spends}
 
 -- bits fit what is left if with them the allowance still holds what has to stay

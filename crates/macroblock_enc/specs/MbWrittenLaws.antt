@@ -14,7 +14,7 @@ use Rattle.mv_cache.specs.NeighboursLaws.{Around, around}
 use Rattle.tree.specs.Nodes.{treeOf}
 use Rattle.plan.specs.SoundLaws.{plan-sound}
 use Rattle.tree.specs.Walk.{SoundTree}
-use Rattle.macroblock_choice.specs.declared.inner.candidates.MbCandidate.{MbCandidate}
+use Rattle.macroblock_choice.specs.declared.svq1_enc_inter.inner.candidates.MbCandidate.{MbCandidate}
 use Rattle.canvas.specs.Canvas.{largestSide, blocksAlong}
 use Rattle.canvas.specs.declared.svq1_plane.Svq1PlaneCanvas.{Svq1PlaneCanvas}
 use Rattle.macroblock.specs.declared.svq1_enc_inter.Settings.{Settings}
@@ -32,8 +32,8 @@ use Rattle.macroblock_choice.specs.Candidates.{skips, choiceOf, codedFor}
 use Rattle.macroblock_choice.specs.RoomLaws.{room-one, room-limit}
 use Rattle.macroblock_choice.specs.CandidatesLaws.{choice-of-book}
 use Rattle.macroblock_enc.specs.WrittenLaws.{is-coded}
-use Rattle.macroblock_enc.specs.declared.inner.writing.WrittenMb.{WrittenMb}
-use Rattle.macroblock_enc.specs.declared.inner.limit.BitLimit.{BitLimit}
+use Rattle.macroblock_enc.specs.declared.svq1_enc_inter.inner.writing.WrittenMb.{WrittenMb}
+use Rattle.macroblock_enc.specs.declared.svq1_enc_inter.inner.limit.BitLimit.{BitLimit}
 use Rattle.macroblock_enc.specs.Limits.{limitOf, roomOf, Reserving, Spends}
 use Rattle.macroblock_enc.specs.LimitsLaws.{reserved, allows}
 use Rattle.macroblock_enc.specs.Written.{Codes, LayReady, WriteReady, CandidateWritten, CandidateLaid, MbReady, mbChoice, mbWeight, MbWritten}

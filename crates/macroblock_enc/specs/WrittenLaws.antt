@@ -14,7 +14,7 @@ use Rattle.mv_cache.specs.Neighbours.{Near}
 use Rattle.tree.specs.Nodes.{treeOf}
 use Rattle.tree.specs.TreeBits.{Node, treeBits}
 use Rattle.tree.specs.Walk.{SoundTree, TreeRoom}
-use Rattle.macroblock_choice.specs.declared.inner.candidates.MbCandidate.{MbCandidate}
+use Rattle.macroblock_choice.specs.declared.svq1_enc_inter.inner.candidates.MbCandidate.{MbCandidate}
 use Rattle.macroblock.specs.declared.svq1_enc_inter.Svq1MbMode.{Svq1MbMode}
 use Rattle.canvas.specs.declared.svq1_plane.Svq1PlaneCanvas.{Svq1PlaneCanvas}
 use Rattle.macroblock.specs.Macroblock.{Motion, skipped, coded, modeOf, halfOf, vectorsOf, motionBits, modeBits, choiceBits}

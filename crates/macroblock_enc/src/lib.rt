@@ -1,2 +1,2 @@
 // One macroblock chosen and written.
-pub mod inner;
+pub mod svq1_enc_inter;

@@ -14,9 +14,9 @@ use Rattle.motion.specs.Search.{Search, searched}
 use Rattle.canvas.specs.Canvas.{largestSide, blocksAlong}
 use Rattle.canvas.specs.CanvasLaws.{Fitting}
 use Rattle.tree.specs.Blocks.{gather}
-use Rattle.macroblock_search.specs.declared.inner.motions.FoundMotion.{FoundMotion}
-use Rattle.macroblock_search.specs.declared.inner.searches.FoundMv.{FoundMv}
-use Rattle.macroblock_search.specs.declared.inner.searches.FoundPair.{FoundPair}
+use Rattle.macroblock_search.specs.declared.svq1_enc_inter.inner.motions.FoundMotion.{FoundMotion}
+use Rattle.macroblock_search.specs.declared.svq1_enc_inter.inner.searches.FoundMv.{FoundMv}
+use Rattle.macroblock_search.specs.declared.svq1_enc_inter.inner.searches.FoundPair.{FoundPair}
 use Rattle.macroblock.specs.declared.svq1_enc_inter.MbMotion.the-variants.{None, One, Four}
 use Rattle.canvas.specs.declared.svq1_plane.Svq1PlaneCanvas.{Svq1PlaneCanvas}
 use Rattle.macroblock.specs.Macroblock.{Given, Motion, coded, vectorsOf}

@@ -23,9 +23,9 @@ use Rattle.motion.specs.SearchCallLaws.{Passes, answer-searched}
 use Rattle.motion.specs.SearchLaws.{found}
 use Rattle.motion.specs.Search as motion-search
 use Rattle.tree_samples.specs.Rows.{Rows}
-use Rattle.macroblock_search.specs.declared.inner.motions.FoundMotion.{FoundMotion}
-use Rattle.macroblock_search.specs.declared.inner.searches.FoundMv.{FoundMv}
-use Rattle.macroblock_search.specs.declared.inner.searches.FoundPair.{FoundPair}
+use Rattle.macroblock_search.specs.declared.svq1_enc_inter.inner.motions.FoundMotion.{FoundMotion}
+use Rattle.macroblock_search.specs.declared.svq1_enc_inter.inner.searches.FoundMv.{FoundMv}
+use Rattle.macroblock_search.specs.declared.svq1_enc_inter.inner.searches.FoundPair.{FoundPair}
 use Rattle.canvas.specs.declared.svq1_plane.Svq1PlaneCanvas.{Svq1PlaneCanvas}
 use Rattle.macroblock.specs.Macroblock.{Given, Motion, still, four}
 use Rattle.macroblock.specs.MacroblockLaws.{Codables}

@@ -1,2 +1,3 @@
 // What a macroblock is to show, and the motions that the searches find for it.
-pub mod inner;
+pub mod svq1_enc;
+pub mod svq1_enc_inter;

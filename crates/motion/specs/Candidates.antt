@@ -8,9 +8,9 @@ use lib.IntN.{ℤ, subℕ}
 use lib.ListN.{length}
 use Rattle.bits.specs.Basics.{pick}
 use Rattle.vectors.specs.declared.svq1_motion_predictor.Svq1Mv.{Svq1Mv}
-use Rattle.motion.specs.declared.inner.search.Spot.{Spot}
-use Rattle.motion.specs.declared.inner.search.Candidate.{Candidate}
-use Rattle.motion.specs.declared.inner.search.Span.{Span}
+use Rattle.motion.specs.declared.svq1_enc_inter.inner.Spot.{Spot}
+use Rattle.motion.specs.declared.svq1_enc_inter.inner.Candidate.{Candidate}
+use Rattle.motion.specs.declared.svq1_enc_inter.inner.Span.{Span}
 use Rattle.motion.specs.Search.{Search, Best, nothing, best, centre, aroundTo}
 use Rattle.canvas.specs.Canvas.{largestSide, padded16}
 use Rattle.compensation.specs.Rows.{Sides}

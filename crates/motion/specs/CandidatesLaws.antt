@@ -15,9 +15,9 @@ use borrow.Author.Tests.{lt-ltb, le-ltb, leb-true, ltb-true, ltb-false}
 use Rattle.bits.specs.Basics.{pick, gap, sum}
 use Rattle.bits.specs.BasicsLaws.{both-true}
 use Rattle.vectors.specs.declared.svq1_motion_predictor.Svq1Mv.{Svq1Mv}
-use Rattle.compensation.specs.declared.inner.error.Taken.{Taken}
-use Rattle.motion.specs.declared.inner.search.Spot.{Spot}
-use Rattle.motion.specs.declared.inner.search.Candidate.{Candidate}
+use Rattle.compensation.specs.declared.svq1_enc_inter.inner.Taken.{Taken}
+use Rattle.motion.specs.declared.svq1_enc_inter.inner.Spot.{Spot}
+use Rattle.motion.specs.declared.svq1_enc_inter.inner.Candidate.{Candidate}
 use Rattle.vectors.specs.Vectors.{inRange, codable}
 use Rattle.canvas.specs.Canvas.{Canvas}
 use Rattle.compensation.specs.Compensation.{halfSample, movedSample, movedBlock}

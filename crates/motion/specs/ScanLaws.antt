@@ -11,9 +11,9 @@ use lib.IntN.{ℤ, _+ℤ_, subℕ}
 use borrow.Author.Tests.{leb-true, eq-eqb, ne-eqb, eqb-true, eqb-false}
 use Rattle.bits.specs.BasicsLaws.{both-true, is-false}
 use Rattle.vectors.specs.declared.svq1_motion_predictor.Svq1Mv.{Svq1Mv}
-use Rattle.motion.specs.declared.inner.search.Spot.{Spot}
-use Rattle.motion.specs.declared.inner.search.Candidate.{Candidate}
-use Rattle.motion.specs.declared.inner.search.Span.{Span}
+use Rattle.motion.specs.declared.svq1_enc_inter.inner.Spot.{Spot}
+use Rattle.motion.specs.declared.svq1_enc_inter.inner.Candidate.{Candidate}
+use Rattle.motion.specs.declared.svq1_enc_inter.inner.Span.{Span}
 use Rattle.motion.specs.Search.{Search, Best, nothing, consider, rowTo, rowsTo, fullAt, fullSearch, aroundTo, searchBest}
 use Rattle.motion.specs.Candidates.{lowered, loweredMv, spotSearch, codableUp, axisUp, shown, Held, fullUp, Spans, Clipped, refined}
 use Rattle.motion.specs.CandidatesLaws.{full-is, near-is, not-x, not-y, centre-is}

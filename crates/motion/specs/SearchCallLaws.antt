@@ -11,7 +11,7 @@ use borrow.Author.Tests.{lt-ltb, le-ltb, le-leb, ltb-true, eqb-true, eq-eqb, ne-
 use Rattle.bits.specs.Basics.{orElse, unless}
 use Rattle.bits.specs.BasicsLaws.{both-true, or-first, or-next, or-none, unless-none}
 use Rattle.bits.specs.Calls.{refused}
-use Rattle.motion.specs.declared.inner.search.Spot.{Spot}
+use Rattle.motion.specs.declared.svq1_enc_inter.inner.Spot.{Spot}
 use Rattle.vectors.specs.Vectors.{inRange}
 use Rattle.vectors.specs.VectorsLaws.{InRange, range-pos, range-neg}
 use Rattle.canvas.specs.CanvasLaws.{Fitting, plane-passes}

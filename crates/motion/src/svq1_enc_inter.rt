@@ -1,3 +1,5 @@
+pub mod inner;
+
 ghost use mathlib.Core.Path.{_≡_};
 ghost use mathlib.Core.Bool.{_&&_};
 ghost use Prim.Native.Nat.{_≤_};
@@ -6,9 +8,9 @@ ghost use Rattle.vectors.specs.VectorsLaws.{InRange};
 ghost use Rattle.motion.specs.Search.{vectorOf, foundAnswer, searchRefusal, searchAnswer};
 ghost use Rattle.motion.specs.Candidates.{lowered, shown, Held};
 ghost use Rattle.motion.specs.SearchCall.{searchedAnswer, eitherSide, blockOk, Raised};
-use super::inner::search::Candidate;
-use super::inner::search::Spot;
-use super::inner::search::search_best;
+use super::svq1_enc_inter::inner::Candidate;
+use super::svq1_enc_inter::inner::Spot;
+use super::svq1_enc_inter::inner::search_best;
 use canvas::svq1_plane::plane_refusal;
 use vectors::svq1_motion_predictor::Svq1Mv;
 

@@ -1,3 +1,2 @@
 // The block vectors in memory: a macroblock's neighbours, its predictors, and its vectors stored.
-pub mod inner;
 pub mod svq1_mv_cache;

@@ -1,3 +1,5 @@
+pub mod inner;
+
 ghost use mathlib.Core.Path.{_≡_};
 ghost use Rattle.mv_cache.specs.Neighbours.{forOne, forFirst, forSecond, forThird, forFourth};
 ghost use Rattle.mv_cache.specs.Cache.{nearFrom};

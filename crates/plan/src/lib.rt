@@ -1,3 +1,2 @@
 // The plan of a block: the cheapest tree over the leaf choices of its blocks.
-pub mod inner;
 pub mod svq1_enc_tree;

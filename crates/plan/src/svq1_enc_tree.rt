@@ -1,4 +1,6 @@
 // A plan, and what is kept of each block while it is made.
+pub mod inner;
+
 use leaf::svq1_enc_leaf::LeafCode;
 use tree::svq1_enc_tree::Block;
 

@@ -2,12 +2,12 @@
 ghost use mathlib.Core.Path.{_≡_};
 ghost use Rattle.plan_call.specs.PlanCall.{refusedPlan, Plannable, PlanShown, PlanAnswered};
 use book::inner::CODEBOOK_BYTES;
-use codebook::inner::raise_codebook;
+use codebook::svq1_codebook::inner::raise_codebook;
 use leaf::svq1_enc_leaf::LeafTerms;
-use leaf_call::inner::terms_of;
+use leaf_call::svq1_enc_leaf::inner::terms_of;
 use leaf_call::svq1_enc_leaf::block_refusal;
-use plan::inner::plan;
-use plan::inner::plan_reconstruction;
+use plan::svq1_enc_tree::inner::plan;
+use plan::svq1_enc_tree::inner::plan_reconstruction;
 use plan::svq1_enc_tree::MbPlan;
 use tree::svq1_enc_tree::Block;
 use tree::svq1_enc_tree::TreeNode;

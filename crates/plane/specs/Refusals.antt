@@ -11,7 +11,7 @@ use Rattle.canvas.specs.Canvas.{canvasLinks, sourceLinks}
 use Rattle.macroblock.specs.Macroblock.{Given}
 use Rattle.macroblock.specs.Choice.{Task}
 use Rattle.macroblock.specs.Slices.{Slices}
-use Rattle.plane.specs.declared.inner.SliceLengths.{SliceLengths}
+use Rattle.plane.specs.declared.svq1_plane.inner.SliceLengths.{SliceLengths}
 use Rattle.plane.specs.Plane.{count}
 
 -- 20: a block slice shorter than four a macroblock, or a reconstruction whose length is not stride × rows

@@ -21,7 +21,7 @@ use Rattle.macroblock.specs.Macroblock.{Given, cols, rows}
 use Rattle.macroblock.specs.Slices.{Slices, BlockSlice, xSlice, ySlice, blocksIn}
 use Rattle.macroblock.specs.Inner.{givenBy, Accepted, Held}
 use Rattle.macroblock.specs.InnerLaws.{fits}
-use Rattle.plane.specs.declared.inner.SliceLengths.{SliceLengths}
+use Rattle.plane.specs.declared.svq1_plane.inner.SliceLengths.{SliceLengths}
 use Rattle.plane.specs.Plane.{count}
 use Rattle.plane.specs.Refusals.{lengthsOf, lengthsRefusal, slicesRefusal, lentLinks, writeRefusalBy, readRefusalBy, midPlane}
 use Rattle.plane.specs.PlaneNeeds.{Padded, PlaneAccepted}

@@ -1,2 +1,2 @@
 // The rules of a whole plane, and the refusals that its writer and its reader share.
-pub mod inner;
+pub mod svq1_plane;

@@ -17,9 +17,9 @@ use Rattle.canvas.specs.Canvas.{sizeRefusal, canvasRefusal, canvasLinks}
 use Rattle.macroblock.specs.Macroblock.{Given}
 use Rattle.macroblock.specs.Reading.{readMacroblock}
 use Rattle.macroblock.specs.Slices.{Slices, near, laid}
-use Rattle.macroblock_dec.specs.declared.inner.reading.ReadMb.{ReadMb}
+use Rattle.macroblock_dec.specs.declared.svq1_plane.inner.reading.ReadMb.{ReadMb}
 use Rattle.macroblock_dec.specs.MacroblockRead.{Ready, MbRead}
-use Rattle.plane.specs.declared.inner.SliceLengths.{SliceLengths}
+use Rattle.plane.specs.declared.svq1_plane.inner.SliceLengths.{SliceLengths}
 use Rattle.plane.specs.Run.{Step, on, stop}
 use Rattle.plane.specs.RunLaws.{set-out, gone-on, ends-early, ends-last}
 use Rattle.plane.specs.Plane.{count, ReadingState, readStep, readUpTo, readPlane}

@@ -1,3 +1,2 @@
 // The reader of a plane.
-pub mod inner;
 pub mod svq1_plane;

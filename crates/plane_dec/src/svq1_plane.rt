@@ -1,12 +1,14 @@
 // The plane reader.
+pub mod inner;
+
 ghost use Rattle.macroblock.specs.Inner.{givenBy};
 ghost use Rattle.macroblock.specs.Slices.{slicesBy};
 ghost use Rattle.plane.specs.Calls.{PlaneRead};
 ghost use Rattle.plane_dec.specs.Reader.{endOf};
-use super::inner::read_accepted;
-use super::inner::read_refusal;
+use super::svq1_plane::inner::read_accepted;
+use super::svq1_plane::inner::read_refusal;
 use canvas::svq1_plane::Svq1PlaneCanvas;
-use plane::inner::SliceLengths;
+use plane::svq1_plane::inner::SliceLengths;
 
 // What reading a plane answers: the number of a refusal, or 0; the macroblocks done, which with 10, 11 and 24 is the index of the one refused;
 // and the next bit.

@@ -13,7 +13,7 @@ use Rattle.macroblock.specs.Mode.{modePosition}
 use Rattle.macroblock.specs.Macroblock.{Given}
 use Rattle.macroblock.specs.Choice.{Task}
 use Rattle.macroblock.specs.Slices.{Slices, laid}
-use Rattle.macroblock_enc.specs.declared.inner.writing.WrittenMb.{WrittenMb}
+use Rattle.macroblock_enc.specs.declared.svq1_enc_inter.inner.writing.WrittenMb.{WrittenMb}
 use Rattle.macroblock_enc.specs.Written.{MbWritten, mbChoice}
 use Rattle.plane.specs.Run.{after}
 use Rattle.plane.specs.Plane.{written, stepStated, writingAt}

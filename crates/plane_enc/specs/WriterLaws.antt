@@ -23,10 +23,10 @@ use Rattle.macroblock.specs.Choice.{Task, target, weightOf}
 use Rattle.macroblock.specs.Slices.{Slices, near, laid}
 use Rattle.macroblock.specs.Inner.{Held}
 use Rattle.macroblock.specs.InnerLaws.{book-passes, wide}
-use Rattle.macroblock_enc.specs.declared.inner.writing.WrittenMb.{WrittenMb}
+use Rattle.macroblock_enc.specs.declared.svq1_enc_inter.inner.writing.WrittenMb.{WrittenMb}
 use Rattle.macroblock_enc.specs.Written.{MbReady, MbWritten, mbChoice, mbWeight, fitsIn}
 use Rattle.plane_enc.specs.declared.svq1_enc_inter.WriteEnd.{WriteEnd}
-use Rattle.plane.specs.declared.inner.SliceLengths.{SliceLengths}
+use Rattle.plane.specs.declared.svq1_plane.inner.SliceLengths.{SliceLengths}
 use Rattle.plane.specs.Run.{on, stop}
 use Rattle.plane.specs.RunLaws.{set-out, gone-on, ends-early, ends-last}
 use Rattle.plane.specs.Plane.{count, Writing, fits, written, toWrite, writeStep, writePlane}

@@ -1,16 +1,18 @@
 // The plane writer.
+pub mod inner;
+
 ghost use Rattle.macroblock_choice.specs.Chosen.{taskBy};
 ghost use Rattle.macroblock.specs.Inner.{givenBy};
 ghost use Rattle.plane.specs.Calls.{PlaneWritten};
 ghost use Rattle.plane_enc.specs.Stated.{PlaneStated};
 ghost use Rattle.plane_enc.specs.Writer.{endOf};
 ghost use Rattle.macroblock.specs.Slices.{slicesBy};
-use super::inner::write_accepted;
-use super::inner::write_refusal;
+use super::svq1_enc_inter::inner::write_accepted;
+use super::svq1_enc_inter::inner::write_refusal;
 use canvas::svq1_plane::Svq1PlaneCanvas;
 use macroblock::svq1_enc_inter::Settings;
-use macroblock_enc::inner::limit::BitLimit;
-use plane::inner::SliceLengths;
+use macroblock_enc::svq1_enc_inter::inner::limit::BitLimit;
+use plane::svq1_plane::inner::SliceLengths;
 
 // What writing a plane answers: the number of a refusal, or 0; the macroblocks done, which with 22 is the index of the one that does not fit;
 // the next bit; and the bits and the squared error of the macroblocks done.

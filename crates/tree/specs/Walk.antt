@@ -16,8 +16,8 @@ use Rattle.leaf.specs.LeafBitsLaws.{Coded}
 use Rattle.tree.specs.Blocks.{level}
 use Rattle.tree.specs.TreeBits.{Node, Off, Split, Ends, asNode, nodeBits, treeBits, readNode, readTree}
 use Rattle.tree.specs.Nodes.{nodeOf, treeOf}
-use Rattle.tree.specs.declared.walk.ReadNode.{ReadNode}
-use Rattle.tree.specs.declared.walk.ReadTree.{ReadTree}
+use Rattle.tree.specs.declared.svq1_enc_tree.inner.walk.ReadNode.{ReadNode}
+use Rattle.tree.specs.declared.svq1_enc_tree.inner.walk.ReadTree.{ReadTree}
 
 -- ---- writing
 -- the flag before a leaf: 0, and none at L0

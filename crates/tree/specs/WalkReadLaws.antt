@@ -20,7 +20,7 @@ use Rattle.leaf.specs.Leaf.{Leaf}
 use Rattle.leaf.specs.Lent.{lentTables, LeafRead}
 use Rattle.leaf.specs.LentReadLaws.{book-read}
 use Rattle.leaf.specs.Raised.{leafOf}
-use Rattle.leaf.specs.declared.inner.reading.ReadLeaf.{ReadLeaf}
+use Rattle.leaf.specs.declared.svq1_plane.inner.ReadLeaf.{ReadLeaf}
 use Rattle.leaf.specs.LeafBits.{readLeaf}
 use Rattle.tree.specs.Blocks.{blockCount, level, first}
 use Rattle.tree.specs.TreeBits.{Node, Off, Split, Ends, reached, asNode, readNode, readIf, readFrom, readTree}
@@ -29,7 +29,7 @@ use Rattle.tree.specs.Walk.{nodeGot, LeafHere, NodeHere, TreeHere}
 use Rattle.tree.specs.WalkLaws.{tree-set, reached-front}
 use Rattle.tree.specs.declared.svq1_enc_tree.TreeNode.the-variants as node
 use Rattle.tree.specs.declared.svq1_enc_tree.Block.{Block}
-use Rattle.tree.specs.declared.walk.ReadNode.{ReadNode}
+use Rattle.tree.specs.declared.svq1_enc_tree.inner.walk.ReadNode.{ReadNode}
 
 -- ---- one block
 node-done : (bits : List ℕ) (g : ReadNode) → g .refused ≡ 0 → got (nodeOf (g .block)) (drop (g .next) bits) ≡ nodeGot bits g

@@ -1,4 +1,2 @@
 // The block tree: its 63 blocks, its bits and its reading.
-pub mod inner;
 pub mod svq1_enc_tree;
-pub mod walk;

@@ -1,4 +1,6 @@
 // The tree's records.
+pub mod inner;
+
 ghost use mathlib.Core.Path.{_≡_};
 ghost use lib.ListN.{replicate};
 ghost use Rattle.tree.specs.Blocks.{blockCount};

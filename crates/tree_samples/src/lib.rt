@@ -1,3 +1,2 @@
 // The samples that a block tree shows.
-pub mod inner;
-pub mod rebuild;
+pub mod svq1_enc_tree;

@@ -1,3 +1,5 @@
+pub mod inner;
+
 ghost use mathlib.Core.Path.{_≡_};
 ghost use lib.IntN.{_+ℤ_};
 ghost use Rattle.vectors.specs.Vectors.{zeroMv, minZ, maxZ, median, medianMv, predicted, clipped, finalMv};

@@ -1,10 +1,10 @@
 // The cards of the mean: one leaf at L0, inter half, without stages and without skip.
 ghost use Prim.Native.Nat.{_≤_};
-use super::line::print_line;
-use super::line::put_number;
-use super::line::put_short;
-use super::line::put_signed;
-use super::sums::residual_sum;
+use super::super::inner::line::print_line;
+use super::super::inner::line::put_number;
+use super::super::inner::line::put_short;
+use super::super::inner::line::put_signed;
+use super::super::inner::sums::residual_sum;
 use leaf::svq1_enc_leaf::LeafCode;
 use leaf_call::svq1_enc_leaf::search_leaf;
 use text::put_text;

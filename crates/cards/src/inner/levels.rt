@@ -1,8 +1,8 @@
 // What document 01 lists of the levels and of the clamp, asked of the calls: sizes, parts, pages, and the sample that a sum shows.
 ghost use Prim.Native.Nat.{_≤_};
-use super::line::print_line;
-use super::line::put_number;
-use super::line::put_short;
+use super::super::inner::line::print_line;
+use super::super::inner::line::put_number;
+use super::super::inner::line::put_short;
 use book::svq1_blocktree::Subdivision;
 use book::svq1_blocktree::Svq1Level;
 use book::svq1_vlc::Svq1Half;

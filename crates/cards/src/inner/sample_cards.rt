@@ -1,12 +1,12 @@
 // The cards of raster places and of means of samples.
 ghost use Prim.Native.Nat.{_≤_};
-use super::line::print_line;
-use super::line::put_number;
+use super::super::inner::line::print_line;
+use super::super::inner::line::put_number;
 use book::svq1_blocktree::Svq1Level;
 use codebook::svq1_codebook::Place;
 use codebook::svq1_codebook::vector_byte_to_raster;
-use compensation::inner::error::mean2;
-use compensation::inner::error::mean4;
+use compensation::svq1_enc_inter::inner::mean2;
+use compensation::svq1_enc_inter::inner::mean4;
 use text::put_text;
 
 fn put_place(line: &mut [u8], at: usize, place: Place) -> usize {

@@ -4,7 +4,7 @@ ghost use Prim.Native.Nat.{_≤_};
 ghost use lib.ListN.{length};
 ghost use Rattle.codebook.specs.Mean.{residual};
 ghost use Rattle.cards.specs.Numbers.{oneIf, countOf};
-use leaf_search::inner::sum_of;
+use leaf_search::svq1_enc_leaf::inner::sum_of;
 
 fn one_if(a: u8, b: u8) -> usize
     ensures { λ r. ⌜ (r ≡ oneIf a b) × (r ≤ 1) ⌝ }

@@ -1,0 +1,72 @@
+-- The sum of the first i gaps; 16 of them stay below 2^16.
+use mathlib.Core.Path.{_≡_, refl, _∙_}
+use Prim.Native.Nat.{_-_, _*_, _≤_}
+use lib.ListN.{getD}
+use Rattle.bits.specs.Basics.{sum, gap}
+use Rattle.compensation.specs.Compensation.{mean2}
+use Rattle.bits.specs.SumLaws.{sum-more}
+use native.Mathlib.Omega.{arith}
+use borrow.Author.Needs.{needs}
+use Rattle.compensation.proofs.svq1_enc_inter.inner.sum_two.Statement.{statement}
+use Rattle.compensation.proofs.svq1_enc_inter.inner.sum_two.Tie as tie
+
+abbrev Inv-loop : tie.InvT-loop
+Inv-loop t a b n total₀ i₀ total i =
+    (i ≤ n) × (total ≡ sum (λ k. gap (getD t k 0) (mean2 (getD a k 0) (getD b k 0))) i) × (total ≤ 255 * i)
+
+abbrev μ-loop : tie.MeasureT-loop
+μ-loop t a b n total₀ i₀ total i = n - i
+
+loop-holds : tie.Need-loop-holds Inv-loop μ-loop
+unfolding sum
+loop-holds c = (omega arith, refl, omega arith)
+
+shared-slice-read-gap : tie.Need-shared-slice-read-gap Inv-loop μ-loop
+shared-slice-read-gap c = search needs
+
+shared-slice-read-mean2 : tie.Need-shared-slice-read-mean2 Inv-loop μ-loop
+shared-slice-read-mean2 c = search needs
+
+shared-slice-read-mean2-2 : tie.Need-shared-slice-read-mean2-2 Inv-loop μ-loop
+shared-slice-read-mean2-2 c = search needs
+
+mean2-requires : tie.Need-mean2-requires Inv-loop μ-loop
+mean2-requires c κs = search needs
+
+gap-requires : tie.Need-gap-requires Inv-loop μ-loop
+gap-requires c κs = search needs
+
+add-sum : tie.Need-add-sum Inv-loop μ-loop
+add-sum c = search needs
+
+add-i : tie.Need-add-i Inv-loop μ-loop
+add-i c = search needs
+
+loop-less : tie.Need-loop-less Inv-loop μ-loop
+loop-less c = search needs
+
+loop-again : tie.Need-loop-again Inv-loop μ-loop
+loop-again c =
+    (omega arith, sum-more _ _ _ _ (c .before .before .before .before .before .before .loop .inv .1) (simp (c .before .mean2 .ensures) at (c .gap .ensures .0)), omega arith)
+
+returns : tie.Need-returns Inv-loop μ-loop
+returns c =
+    let e : c .before .loop .i ≡ c .before .before .before .before .before .args .n = omega arith in (c .before .loop .inv .1 ∙ rw e, omega arith)
+
+pub sum-two-spec : {M : Type 1} → statement M
+sum-two-spec =
+    tie.close
+    (tie.spec
+    Inv-loop
+    μ-loop
+    loop-holds
+    shared-slice-read-gap
+    shared-slice-read-mean2
+    shared-slice-read-mean2-2
+    mean2-requires
+    gap-requires
+    add-sum
+    add-i
+    loop-less
+    loop-again
+    returns)

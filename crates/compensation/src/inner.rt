@@ -1,3 +1,0 @@
-// Functions that only the crates of this repository call. Most have a `requires`: the caller, proved too, meets it.
-pub mod error;
-pub mod mc;

@@ -1,0 +1,113 @@
+-- As the error of a block, with the vector's sample added to each sum; the two biases add up.
+use native.Mathlib.Omega.{arith}
+use mathlib.Core.Path.{_≡_}
+use Prim.Native.Nat.{_≤_, _*_, _-_, _+_}
+use lib.ListN.{length, drop}
+use lib.Seq.{drop-length}
+use Rattle.leaf.specs.Leaf.{sse, plus, samples}
+use Rattle.leaf.specs.Raised.{less}
+use Rattle.leaf_samples.specs.RaisedLaws.{vector-step}
+use borrow.Author.Needs.{needs}
+use Rattle.leaf_search.proofs.svq1_enc_leaf.inner.vector_sse.Statement.{statement}
+use Rattle.leaf_search.proofs.svq1_enc_leaf.inner.vector_sse.Tie as tie
+
+abbrev Inv-loop : tie.InvT-loop
+Inv-loop t a w bias low₀ high₀ i₀ low high i =
+    (i ≤ length t) × (low ≤ 255 * i) × (high ≤ 254 * i) ×
+    (low + 256 * high + sse (drop i t) (samples (plus (less (bias - 128) (drop i a)) (less 128 (drop i w)))) ≡ sse t (samples (plus (less (bias - 128) a) (less 128 w))))
+
+abbrev μ-loop : tie.MeasureT-loop
+μ-loop t a w bias low₀ high₀ i₀ low high i = length t - i
+
+loop-holds : tie.Need-loop-holds Inv-loop μ-loop
+loop-holds c = search needs
+
+shared-slice-read-error-at : tie.Need-shared-slice-read-error-at Inv-loop μ-loop
+shared-slice-read-error-at c = search needs
+
+mul-error-at : tie.Need-mul-error-at Inv-loop μ-loop
+mul-error-at c = search needs
+
+shared-slice-read-error-at-2 : tie.Need-shared-slice-read-error-at-2 Inv-loop μ-loop
+shared-slice-read-error-at-2 c = search needs
+
+shared-slice-read-wide : tie.Need-shared-slice-read-wide Inv-loop μ-loop
+shared-slice-read-wide c = search needs
+
+wide-requires : tie.Need-wide-requires Inv-loop μ-loop
+wide-requires c κs = search needs
+
+add-error-at : tie.Need-add-error-at Inv-loop μ-loop
+add-error-at c =
+    let s = c .before .before .before .before .before .before .before .before .before in
+    omega (arith, s .pre .3 (c .before .before .before .before .before .loop .i))
+
+error-at-requires : tie.Need-error-at-requires Inv-loop μ-loop
+error-at-requires c κs = search needs
+
+add-low : tie.Need-add-low Inv-loop μ-loop
+add-low c = search needs
+
+add-high : tie.Need-add-high Inv-loop μ-loop
+add-high c = search needs
+
+add-i : tie.Need-add-i Inv-loop μ-loop
+add-i c = search needs
+
+loop-less : tie.Need-loop-less Inv-loop μ-loop
+loop-less c = search needs
+
+loop-again : tie.Need-loop-again Inv-loop μ-loop
+loop-again c =
+    let i = c .before .before .before .before .before .before .loop .i in
+    let s = c .before .before .before .before .before .before .before .before .before .before in
+    let a = s .args in
+    omega (
+      arith,
+      rw (c .before .wide .ensures .0) at (c .error-at .ensures .0),
+      vector-step (a .t .now) (a .a .now) (a .w .now) (a .bias) i (search needs) (search needs) (search needs) (s .pre .4),
+    )
+
+cast-result : tie.Need-cast-result Inv-loop μ-loop
+cast-result c = search needs
+
+cast-result-2 : tie.Need-cast-result-2 Inv-loop μ-loop
+cast-result-2 c = search needs
+
+mul-result : tie.Need-mul-result Inv-loop μ-loop
+mul-result c = search needs
+
+add-result : tie.Need-add-result Inv-loop μ-loop
+add-result c = search needs
+
+returns : tie.Need-returns Inv-loop μ-loop
+unfolding sse
+returns c =
+    let a = c .before .before .before .before .before .args in
+    let e : c .before .loop .i ≡ length (a .t .now) = omega arith in
+    omega (arith, rw (e, drop-length) at (c .before .loop .inv .3))
+
+pub vector-sse-spec : {M : Type 1} → statement M
+vector-sse-spec =
+    tie.close
+    (tie.spec
+    Inv-loop
+    μ-loop
+    loop-holds
+    shared-slice-read-error-at
+    mul-error-at
+    shared-slice-read-error-at-2
+    shared-slice-read-wide
+    wide-requires
+    add-error-at
+    error-at-requires
+    add-low
+    add-high
+    add-i
+    loop-less
+    loop-again
+    cast-result
+    cast-result-2
+    mul-result
+    add-result
+    returns)

@@ -1,0 +1,3 @@
+// Functions that only the crates of this repository call. Most have a `requires`: the caller, proved too, meets it.
+pub mod motions;
+pub mod searches;
