@@ -10,7 +10,7 @@ use borrow.Author.Tests.{eq-eqb, ne-eqb, leb-true, le-leb}
 use Rattle.bits.specs.Basics.{unless}
 use Rattle.bits.specs.BasicsLaws.{both-true, or-none, unless-none}
 use Rattle.bits.specs.Bits.{bitsOf, putBits}
-use Rattle.bits.specs.Inner.{Fits}
+use Rattle.bits.specs.BitNeeds.{Fits}
 use Rattle.bits.specs.Calls.{Answer, done, refused, unlessRefused, startRefusal, roomRefusal, bitsRefusal, Put}
 use Rattle.bits.specs.declared.svq1_enc.Pushed.the-variants.{Next, Refused}
 

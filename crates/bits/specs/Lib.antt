@@ -7,8 +7,8 @@ pub mod FillLaws
 pub mod Bits
 pub mod BitsLaws
 pub mod ReadLaws
-pub mod Inner
-pub mod InnerLaws
+pub mod BitNeeds
+pub mod BitNeedsLaws
 pub mod Calls
 pub mod CallsLaws
 pub mod DifferenceLaws

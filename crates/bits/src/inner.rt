@@ -4,7 +4,7 @@ ghost use mathlib.Core.Path.{_≡_};
 ghost use Prim.Native.Nat.{_+_, _*_, _/_, _%_, _-_, _^_, _<_, _≤_, min};
 ghost use lib.ListN.{length, take, drop};
 ghost use Rattle.bits.specs.Bits.{msb, valOf, bitsOf, putBits};
-ghost use Rattle.bits.specs.Inner.{Fits, Wrote};
+ghost use Rattle.bits.specs.BitNeeds.{Fits, Wrote};
 ghost use Rattle.bits.specs.Calls.{startRefusal, roomRefusal, bitsRefusal};
 
 // The byte b with its low k bits replaced by v shifted up by z.

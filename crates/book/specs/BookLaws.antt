@@ -13,7 +13,7 @@ use borrow.Author.Tests.{eqb-true}
 use Rattle.bits.specs.Basics.{every, unless}
 use Rattle.bits.specs.BasicsLaws.{both-true, or-none, unless-none}
 use Rattle.code_tables.specs.Codes.{code, codesOf, goodTable, prefixFree}
-use Rattle.code_tables.specs.Inner.{GoodEntry}
+use Rattle.code_tables.specs.CodeNeeds.{GoodEntry}
 use Rattle.code_tables.specs.Calls.{oneOf, tableBytes}
 use Rattle.code_tables.specs.CodesLaws.{length-codesOf, code-most, good-is, good-take, good-drop}
 use Rattle.book.specs.Book.{bookBytes, codebookBytes, entries, modeTable, vectorTable, meanTable, stageFamily, stageTable, Tables, tablesOf, codeTableSizes, eachPrefixFree, codesRefusal, bookRefusal, dataRefusal}

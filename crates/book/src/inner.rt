@@ -1,6 +1,7 @@
 // The sizes of a lent book and codebook in bytes, and a lent book's tables by name.
 // Functions that only the crates of this repository call. Most have a `requires`: the caller, proved too, meets it.
 ghost use mathlib.Core.Path.{_≡_};
+ghost use Prim.Native.Nat.{_≤_};
 ghost use lib.ListN.{length};
 ghost use Rattle.book.specs.Book.{bookBytes, modeTable, vectorTable, meanTable, stageFamily, stageTable};
 ghost use Rattle.book.specs.Level.{levelNumber};
@@ -25,6 +26,21 @@ pub const BOOK_BYTES: usize = 3 * BOOK_ENTRIES;
 
 // Bytes of a codebook.
 pub const CODEBOOK_BYTES: usize = 23040;
+
+// The level of this number.
+pub fn level_at(d: usize) -> Svq1Level
+    requires { ⌜ d ≤ 5 ⌝ }
+    ensures { λ r. ⌜ levelNumber r ≡ d ⌝ }
+{
+    match d {
+        0 => Svq1Level::L0,
+        1 => Svq1Level::L1,
+        2 => Svq1Level::L2,
+        3 => Svq1Level::L3,
+        4 => Svq1Level::L4,
+        _ => Svq1Level::L5,
+    }
+}
 
 // The codes of the modes.
 pub fn mode_table(book: &[u8]) -> &[u8]

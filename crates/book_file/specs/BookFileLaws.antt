@@ -19,7 +19,7 @@ use Rattle.book.specs.BookLaws.{good-book}
 use Rattle.book.specs.Book.{bookEntries, bookBytes, codeTableSizes, eachPrefixFree, bookRefusal}
 use Rattle.book_file.specs.BookFile.{Line, lineRead, ontoLines, linesRead, ofLines, fileLines, mentions, onceEach, bytesAt, bytesFrom, bookOf, linesRefusal, refusalRead, fileRefusal, fileBook}
 use Rattle.book_file.specs.FileText.{fileOf, Says, LinesOf}
-use Rattle.book_file.specs.ScanLaws.{LineFits, line-fits}
+use Rattle.book_file.specs.BookFileFormsLaws.{LineFits, line-fits}
 use Rattle.book_file.specs.HeldLaws.{goodLine}
 use Rattle.book_file.specs.BytesLaws.{threeAt, bytes-are}
 use Rattle.book_file.specs.CallLaws.{one-line, lines-book}

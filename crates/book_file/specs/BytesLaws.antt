@@ -15,7 +15,7 @@ use Rattle.bits.specs.Basics.{pick, every}
 use Rattle.code_tables.specs.Codes.{goodEntry, goodTable}
 use Rattle.bits.specs.BasicsLaws.{both-true}
 use Rattle.book_file.specs.BookFile.{Line, mentions, bytesAt, bytesFrom}
-use Rattle.book_file.specs.Scan.{Held, withEntry, kept, scanLines}
+use Rattle.book_file.specs.BookFileForms.{BookHeld, withEntry, kept, scanLines}
 use Rattle.book_file.specs.HeldLaws.{goodLine, scan-split, scan-last, length-with}
 
 -- ---- the bytes
@@ -54,7 +54,7 @@ three-same b e n v r h =
     rw (x₀, x₁, x₂)
 
 -- an entry that no line speaks of keeps its bytes
-scan-keeps : (ls : List Line) (s t : Held) (e : ℕ) (r : List ℕ) → scanLines ls s ≡ some t → mentions e ls ≡ 0 → threeAt (t .book) e r ≡ threeAt (s .book) e r
+scan-keeps : (ls : List Line) (s t : BookHeld) (e : ℕ) (r : List ℕ) → scanLines ls s ≡ some t → mentions e ls ≡ 0 → threeAt (t .book) e r ≡ threeAt (s .book) e r
 unfolding mentions kept
 scan-keeps [] s t e r q h = rw (scan-last s t q)
 scan-keeps (l ∷ ls) s t e r q h = go (eqb (l .entry) e) refl h (scan-keeps ls (kept l s) t e r (scan-split l ls s t q .1))
@@ -78,7 +78,7 @@ pick-right true b e = e
 pick-right false b e = absurd (true≢false (sym e))
 
 -- an entry that one line speaks of has that line's bytes
-pub scan-bytes : (ls : List Line) (s t : Held) (e : ℕ) (r : List ℕ) → scanLines ls s ≡ some t → mentions e ls ≡ 1 → 3 * e + 2 < length (s .book)
+pub scan-bytes : (ls : List Line) (s t : BookHeld) (e : ℕ) (r : List ℕ) → scanLines ls s ≡ some t → mentions e ls ≡ 1 → 3 * e + 2 < length (s .book)
     → every goodLine ls ≡ true → bytesAt e ls r ≡ threeAt (t .book) e r
 unfolding mentions kept bytesAt every
 scan-bytes [] s t e r q h k g = absurd (omega arith)

@@ -12,7 +12,7 @@ use Rattle.code_tables.specs.Codes.{goodTable}
 use Rattle.text.specs.TextLaws.{none-some}
 use Rattle.book.specs.Book.{bookEntries, bookBytes, codeTableSizes, eachPrefixFree, codesRefusal, bookRefusal}
 use Rattle.book_file.specs.BookFile.{Line, mentions, onceEach, bookOf, linesRefusal, refusalRead, bookRead, fileLines, fileRefusal, fileBook}
-use Rattle.book_file.specs.Scan.{Held, Unmet, begun, BookFileRead, readFileRefusal, readFileBook, scanLines, scanned, allMet}
+use Rattle.book_file.specs.BookFileForms.{BookHeld, Unmet, begun, BookFileRead, readFileRefusal, readFileBook, scanLines, scanned, allMet}
 use Rattle.book_file.specs.HeldLaws.{goodLine, scan-good, scan-lengths, scan-met, Doubled, scan-doubled, once-at, once-is}
 use Rattle.book_file.specs.BytesLaws.{scan-bytes, bytes-are, table-good}
 
@@ -54,13 +54,13 @@ module _ (ls : List Line) (book met : List ℕ) (fresh : Unmet met) where
       go false e = refl
 
   -- each entry has one line where each is marked at the end
-  scan-once : (t : Held) → scanLines ls (begun book met) ≡ some t → onceEach bookEntries 0 ls ≡ allMet (t .met)
+  scan-once : (t : BookHeld) → scanLines ls (begun book met) ≡ some t → onceEach bookEntries 0 ls ≡ allMet (t .met)
   scan-once t q =
       once-is (t .met) bookEntries 0 ls (scan-lengths ls (begun book met) t q .0 ∙ fresh .size)
       (λ k h. let z : 0 + k ≡ k = omega arith in rw z (scan-met ls (begun book met) t k q (omega (arith, fresh .size)) ∙ omega (arith, fresh .zeros k)))
 
   -- the book at the end
-  scan-book : (t : Held) → scanLines ls (begun book met) ≡ some t → length book ≡ bookBytes → allMet (t .met) ≡ true → every goodLine ls ≡ true → bookOf ls ≡ t .book
+  scan-book : (t : BookHeld) → scanLines ls (begun book met) ≡ some t → length book ≡ bookBytes → allMet (t .met) ≡ true → every goodLine ls ≡ true → bookOf ls ≡ t .book
   unfolding bookOf
   scan-book t q h m g =
       let once : onceEach bookEntries 0 ls ≡ true = scan-once t q ∙ m in
@@ -78,7 +78,7 @@ module _ (o : Option (List Line)) (book met : List ℕ) (fresh : Unmet met) wher
       go (some ls) q = stopped ls book met fresh q
 
   -- a line missing
-  read-missing : (t : Held) → scanned o (begun book met) ≡ some t → allMet (t .met) ≡ false → refusalRead o ≡ 5
+  read-missing : (t : BookHeld) → scanned o (begun book met) ≡ some t → allMet (t .met) ≡ false → refusalRead o ≡ 5
   unfolding linesRefusal
   read-missing t q m = go o q
     where
@@ -87,7 +87,7 @@ module _ (o : Option (List Line)) (book met : List ℕ) (fresh : Unmet met) wher
       go (some ls) q = rw (scan-once ls book met fresh t q, m)
 
   -- a bad code
-  read-bad : (t : Held) → scanned o (begun book met) ≡ some t → allMet (t .met) ≡ true → t .good ≡ false → refusalRead o ≡ 6
+  read-bad : (t : BookHeld) → scanned o (begun book met) ≡ some t → allMet (t .met) ≡ true → t .good ≡ false → refusalRead o ≡ 6
   unfolding linesRefusal
   read-bad t q m g = go o q
     where
@@ -96,7 +96,7 @@ module _ (o : Option (List Line)) (book met : List ℕ) (fresh : Unmet met) wher
       go (some ls) q = rw (scan-once ls book met fresh t q, m, sym (scan-good ls (begun book met) t q) ∙ g)
 
   -- the book that the lines hold, refused as a lent one is
-  read-whole : (t : Held) → scanned o (begun book met) ≡ some t → length book ≡ bookBytes → allMet (t .met) ≡ true → t .good ≡ true
+  read-whole : (t : BookHeld) → scanned o (begun book met) ≡ some t → length book ≡ bookBytes → allMet (t .met) ≡ true → t .good ≡ true
       → (refusalRead o ≡ bookRefusal (t .book)) × (bookRead o ≡ t .book)
   read-whole t q h m g = go o q
     where
@@ -114,15 +114,15 @@ module _ (file book met : List ℕ) (fresh : Unmet met) where
   unfolding fileRefusal
   file-stopped q = read-stopped (fileLines file) book met fresh q
 
-  pub file-missing : (t : Held) → scanned (fileLines file) (begun book met) ≡ some t → allMet (t .met) ≡ false → fileRefusal file ≡ 5
+  pub file-missing : (t : BookHeld) → scanned (fileLines file) (begun book met) ≡ some t → allMet (t .met) ≡ false → fileRefusal file ≡ 5
   unfolding fileRefusal
   file-missing t q m = read-missing (fileLines file) book met fresh t q m
 
-  pub file-bad-code : (t : Held) → scanned (fileLines file) (begun book met) ≡ some t → allMet (t .met) ≡ true → t .good ≡ false → fileRefusal file ≡ 6
+  pub file-bad-code : (t : BookHeld) → scanned (fileLines file) (begun book met) ≡ some t → allMet (t .met) ≡ true → t .good ≡ false → fileRefusal file ≡ 6
   unfolding fileRefusal
   file-bad-code t q m g = read-bad (fileLines file) book met fresh t q m g
 
-  pub file-whole : (t : Held) → scanned (fileLines file) (begun book met) ≡ some t → length book ≡ bookBytes → allMet (t .met) ≡ true → t .good ≡ true
+  pub file-whole : (t : BookHeld) → scanned (fileLines file) (begun book met) ≡ some t → length book ≡ bookBytes → allMet (t .met) ≡ true → t .good ≡ true
       → (fileRefusal file ≡ bookRefusal (t .book)) × (fileBook file ≡ t .book)
   unfolding fileRefusal fileBook
   file-whole t q h m g = read-whole (fileLines file) book met fresh t q h m g

@@ -9,12 +9,12 @@ use lib.Dec.{T, leb, ltb, lit≤}
 use borrow.Author.Tests.{ltb-true, ltb-false, lt-ltb}
 use Rattle.bits.specs.Basics.{pick, every, All}
 use Rattle.text.specs.Text.{comma, lineFeed, decimal, joined, lineOf, fieldsOf, linesOf, same}
-use Rattle.text.specs.Reading.{without}
-use Rattle.text.specs.WritingLaws.{decimal-digits, decimal-back, digits-without, fields-joined, joined-without, lines-joined}
+use Rattle.text.specs.ReadingForms.{without}
+use Rattle.text.specs.WritingFormsLaws.{decimal-digits, decimal-back, digits-without, fields-joined, joined-without, lines-joined}
 use Rattle.book.specs.Book.{bookEntries}
 use Rattle.book_file.specs.BookFile.{Table, Line, fileTables, entryNamed, lineNumber, lineRead, ontoLines, ofLines, fileLines}
 use Rattle.book_file.specs.FileText.{placeFields, fieldsFor, fileOf}
-use Rattle.book_file.specs.ScanLaws.{LineFits, onto-before, file-end}
+use Rattle.book_file.specs.BookFileFormsLaws.{LineFits, onto-before, file-end}
 
 -- ---- an entry's name and position
 record Placed (e : ℕ) (fs : List (List ℕ)) : Type 0 where

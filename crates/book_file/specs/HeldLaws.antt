@@ -14,13 +14,13 @@ use Rattle.code_tables.specs.Codes.{goodEntry}
 use Rattle.bits.specs.BasicsLaws.{both-true}
 use Rattle.text.specs.TextLaws.{none-some}
 use Rattle.book_file.specs.BookFile.{Line, mentions, onceEach}
-use Rattle.book_file.specs.Scan.{Held, withEntry, kept, scanLines, allMet}
+use Rattle.book_file.specs.BookFileForms.{BookHeld, withEntry, kept, scanLines, allMet}
 
 abbrev pub goodLine : Line → Bool
 goodLine l = goodEntry (l .value) (l .long)
 
 -- ---- a scan that goes through
-pub scan-split : (l : Line) (ls : List Line) (s t : Held) → scanLines (l ∷ ls) s ≡ some t → (getD (s .met) (l .entry) 0 ≡ 0) × (scanLines ls (kept l s) ≡ some t)
+pub scan-split : (l : Line) (ls : List Line) (s t : BookHeld) → scanLines (l ∷ ls) s ≡ some t → (getD (s .met) (l .entry) 0 ≡ 0) × (scanLines ls (kept l s) ≡ some t)
 unfolding scanLines
 scan-split l ls s t q = go (eqb (getD (s .met) (l .entry) 0) 0) refl q
   where
@@ -29,7 +29,7 @@ scan-split l ls s t q = go (eqb (getD (s .met) (l .entry) 0) 0) refl q
     go true e h = (eqb-true (getD (s .met) (l .entry) 0) 0 e, h)
     go false e h = none-some h
 
-pub scan-last : (s t : Held) → scanLines [] s ≡ some t → s ≡ t
+pub scan-last : (s t : BookHeld) → scanLines [] s ≡ some t → s ≡ t
 unfolding scanLines
 scan-last s t q = cc
 
@@ -43,16 +43,16 @@ and-and true false c = refl
 and-and false b c = refl
 
 -- every code was good
-pub scan-good : (ls : List Line) (s t : Held) → scanLines ls s ≡ some t → t .good ≡ (s .good && every goodLine ls)
+pub scan-good : (ls : List Line) (s t : BookHeld) → scanLines ls s ≡ some t → t .good ≡ (s .good && every goodLine ls)
 unfolding every kept
-scan-good [] s t q = ap (λ (h : Held). h .good) (sym (scan-last s t q)) ∙ sym (and-true (s .good))
+scan-good [] s t q = ap (λ (h : BookHeld). h .good) (sym (scan-last s t q)) ∙ sym (and-true (s .good))
 scan-good (l ∷ ls) s t q = scan-good ls (kept l s) t (scan-split l ls s t q .1) ∙ and-and (s .good) (goodLine l) (every goodLine ls)
 
 pub length-with : (b : List ℕ) (e n v : ℕ) → length (withEntry b e n v) ≡ length b
 unfolding withEntry
 length-with b e n v = simp length-set
 
-pub scan-lengths : (ls : List Line) (s t : Held) → scanLines ls s ≡ some t → (length (t .met) ≡ length (s .met)) × (length (t .book) ≡ length (s .book))
+pub scan-lengths : (ls : List Line) (s t : BookHeld) → scanLines ls s ≡ some t → (length (t .met) ≡ length (s .met)) × (length (t .book) ≡ length (s .book))
 unfolding kept
 scan-lengths [] s t q = let e = scan-last s t q in (rw e, rw e)
 scan-lengths (l ∷ ls) s t q =
@@ -67,7 +67,7 @@ met-step m i e z h = go (eqb i e) refl
     go false q = getD-set-other m i e 1 0 (λ p. eqb-false i e q (sym p)) ∙ omega arith
 
 -- the marks count the lines of each entry
-pub scan-met : (ls : List Line) (s t : Held) (e : ℕ) → scanLines ls s ≡ some t → e < length (s .met) → getD (t .met) e 0 ≡ getD (s .met) e 0 + mentions e ls
+pub scan-met : (ls : List Line) (s t : BookHeld) (e : ℕ) → scanLines ls s ≡ some t → e < length (s .met) → getD (t .met) e 0 ≡ getD (s .met) e 0 + mentions e ls
 unfolding kept mentions
 scan-met [] s t e q h = rw (scan-last s t q) (omega arith)
 scan-met (l ∷ ls) s t e q h =
@@ -101,13 +101,13 @@ met-most m i e h = go (eqb i e) refl
     go true q = rw (eqb-true i e q) (rw (getD-set-same m e 1 0 h) (omega arith))
     go false q = omega (arith, getD-set-other m i e 1 0 (λ p. eqb-false i e q (sym p)))
 
-doubled-before : (l : Line) (ls : List Line) (s : Held) → Doubled (kept l s .met) ls → Doubled (s .met) (l ∷ ls)
+doubled-before : (l : Line) (ls : List Line) (s : BookHeld) → Doubled (kept l s .met) ls → Doubled (s .met) (l ∷ ls)
 unfolding mentions kept
 doubled-before l ls s d =
     let h : d .entry < length (s .met) = rw (length-set (s .met) (l .entry) 1) at (d .below) in
     record { entry = d .entry; below = h; twice = omega (arith, d .twice, met-most (s .met) (l .entry) (d .entry) h) }
 
-pub scan-doubled : (ls : List Line) (s : Held) → scanLines ls s ≡ none → Doubled (s .met) ls
+pub scan-doubled : (ls : List Line) (s : BookHeld) → scanLines ls s ≡ none → Doubled (s .met) ls
 unfolding scanLines
 scan-doubled [] s q = none-some (sym q)
 scan-doubled (l ∷ ls) s q = go (eqb (getD (s .met) (l .entry) 0) 0) refl q (scan-doubled ls (kept l s))

@@ -9,7 +9,7 @@ ghost use Rattle.bits.specs.Basics.{pick};
 ghost use Rattle.text.specs.Text.{fieldsOf};
 ghost use Rattle.book.specs.Book.{bookEntries, bookBytes};
 ghost use Rattle.book_file.specs.BookFile.{fileTables, entryNamed, lineRead, fileLines};
-ghost use Rattle.book_file.specs.Scan.{Unmet, begun, FileHeld, BookFileRead, entryTold, lineTold, heldTold, codeAt, withEntry, scanned, allMet};
+ghost use Rattle.book_file.specs.BookFileForms.{Unmet, begun, FileHeld, BookFileRead, entryTold, lineTold, heldTold, fileCodeAt, withEntry, scanned, allMet};
 use book::inner::BOOK_BYTES;
 use book::inner::BOOK_ENTRIES;
 use code_tables::inner;
@@ -72,7 +72,7 @@ fn entry_named(name: &[u8], p: u64) -> EntryRead
 
 // The two last fields of a line, behind its entry: a length and a code.
 fn read_code(t: &[u8], e: usize) -> LineRead
-    ensures { λ r. ⌜ lineTold r ≡ codeAt (some e) (fieldsOf (now (t .entry))) ⌝ }
+    ensures { λ r. ⌜ lineTold r ≡ fileCodeAt (some e) (fieldsOf (now (t .entry))) ⌝ }
 {
     let a = text::find(t, b',');
     if a == t.len() {

@@ -2,7 +2,7 @@
 ghost use Rattle.book.specs.Book.{codebookBytes};
 ghost use Rattle.house.specs.Fill.{Filled, BookFilled};
 ghost use Rattle.house.specs.House.{houseCodebook};
-ghost use Rattle.book_file.specs.Scan.{BookFileRead};
+ghost use Rattle.book_file.specs.BookFileForms.{BookFileRead};
 use book_file::read_book_file;
 use house::fill_house_book;
 use house::fill_house_codebook;

@@ -6,7 +6,7 @@ use lib.ListN.{length, replicate}
 use Rattle.bits.specs.Calls.{Answer, done, refused}
 use Rattle.leaf.specs.Leaf.{Leaf}
 use Rattle.leaf.specs.LeafCall.{LeafChosen}
-use Rattle.leaf.specs.Lent.{sixOf}
+use Rattle.leaf.specs.LentNeeds.{sixOf}
 use Rattle.call_entries.specs.Node.{kindOf, meanOf, countOf}
 use Rattle.call_entries.specs.declared.leaf_part.LeafPart.{LeafPart}
 

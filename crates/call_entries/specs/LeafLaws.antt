@@ -8,7 +8,7 @@ use lib.ListN.{length, take, drop, replicate, length-take, take-append-drop}
 use borrow.Author.Tests.{eq-eqb, ne-eqb}
 use Rattle.leaf.specs.LeafCall.{BlockIn, leafAnswer}
 use Rattle.leaf_call.specs.LeafAnswer.{LeafAnswered}
-use Rattle.leaf.specs.Raised.{leafOf}
+use Rattle.leaf.specs.LeafForms.{leafOf}
 use Rattle.leaf_call.specs.declared.svq1_enc_leaf.LeafAnswer.{LeafAnswer}
 use Rattle.call_entries.specs.Leaf.{filled, partOf, nothing, leafPart}
 

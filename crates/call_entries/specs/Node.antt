@@ -3,7 +3,7 @@ use Prim.Native.Nat.{ℕ}
 use lib.IntN.{ℤ, pos}
 use lib.ListN.{length, replicate}
 use Rattle.leaf.specs.Leaf.{Leaf, skip, coded}
-use Rattle.leaf.specs.Lent.{sixOf}
+use Rattle.leaf.specs.LentNeeds.{sixOf}
 use Rattle.tree.specs.TreeBits.{Node, Off, Split, Ends}
 use Rattle.call_entries.specs.declared.inner.NodePart.{NodePart}
 

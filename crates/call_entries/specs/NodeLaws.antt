@@ -10,7 +10,7 @@ use lib.IntN.{ℤ}
 use lib.ListN.{length, take, set, getD, replicate, length-take}
 use lib.Seq.{length-take-le, take-all, take-suc, append-snoc, set-at}
 use Rattle.leaf.specs.Leaf.{coded}
-use Rattle.leaf.specs.Lent.{padded}
+use Rattle.leaf.specs.LentNeeds.{padded}
 use Rattle.call_entries.specs.Node.{leafNode}
 use Rattle.call_entries.specs.declared.inner.NodePart.{NodePart}
 

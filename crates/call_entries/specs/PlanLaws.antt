@@ -10,7 +10,7 @@ use lib.Seq.{take-all, take-suc, take-suc-set}
 use borrow.Author.Tests.{eq-eqb, ne-eqb}
 use Rattle.leaf.specs.LeafCall.{BlockIn}
 use Rattle.tree.specs.Blocks.{blockCount}
-use Rattle.tree.specs.Nodes.{treeOf}
+use Rattle.tree.specs.NodeForms.{treeOf}
 use Rattle.plan_call.specs.PlanCall.{PlanAnswered}
 use Rattle.tree.specs.TreeBits.{Node, Off, planAnswer}
 use Rattle.plan_call.specs.declared.svq1_enc_tree.PlanAnswer.{PlanAnswer}

@@ -3,8 +3,8 @@
 ghost use mathlib.Core.Path.{_≡_};
 ghost use Prim.Native.Nat.{_≤_, min};
 ghost use lib.ListN.{length, take};
-ghost use Rattle.leaf.specs.Lent.{padded};
-ghost use Rattle.leaf.specs.Raised.{leafOf};
+ghost use Rattle.leaf.specs.LentNeeds.{padded};
+ghost use Rattle.leaf.specs.LeafForms.{leafOf};
 ghost use Rattle.call_entries.specs.Node.{leafNode};
 use leaf::svq1_enc_leaf::LeafCode;
 

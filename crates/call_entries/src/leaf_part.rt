@@ -4,7 +4,7 @@ ghost use mathlib.Core.Bool.{not};
 ghost use lib.Dec.{eqb};
 ghost use lib.ListN.{length};
 ghost use Rattle.leaf.specs.LeafCall.{leafAnswer};
-ghost use Rattle.leaf.specs.Raised.{leafOf};
+ghost use Rattle.leaf.specs.LeafForms.{leafOf};
 ghost use Rattle.call_entries.specs.Leaf.{partOf, nothing, leafPart};
 use super::inner::leaf_node;
 use leaf::svq1_enc_leaf::LeafCode;

@@ -3,7 +3,7 @@ ghost use mathlib.Core.Path.{_≡_};
 ghost use mathlib.Core.Bool.{not};
 ghost use lib.Dec.{eqb};
 ghost use lib.ListN.{length};
-ghost use Rattle.tree.specs.Nodes.{nodeOf, treeOf};
+ghost use Rattle.tree.specs.NodeForms.{nodeOf, treeOf};
 ghost use Rattle.tree.specs.TreeBits.{planAnswer};
 ghost use Rattle.call_entries.specs.Node.{bareNode, nodePart};
 ghost use Rattle.call_entries.specs.Plan.{nodeParts, madePart, noPlan, planPart};

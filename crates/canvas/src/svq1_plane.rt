@@ -1,4 +1,6 @@
-// Planes and their canvases, and refusals 1, 3 and 4.
+// Planes and their canvases, and refusals 1 to 4.
+pub mod inner;
+
 ghost use mathlib.Core.Path.{_≡_};
 ghost use Prim.Native.Nat.{_≤_};
 ghost use Rattle.bits.specs.Basics.{orElse, firstOf};

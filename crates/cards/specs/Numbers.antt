@@ -23,8 +23,8 @@ oneIf a b = pick (eqb a b) 1 0
 unfoldable pub countTo : ℕ → List ℕ → ℕ → ℕ
 countTo v s n = sum (λ k. oneIf (getD s k 0) v) n
 
-abbrev pub countOf : ℕ → List ℕ → ℕ
-countOf v s = countTo v s (length s)
+abbrev pub countIn : ℕ → List ℕ → ℕ
+countIn v s = countTo v s (length s)
 
 -- the position of a code that was read; 4, which is no mode's, where there is none
 abbrev pub positionOf : Answer Read → ℕ

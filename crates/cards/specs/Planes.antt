@@ -10,8 +10,8 @@ use Rattle.motion.specs.Search.{Search}
 use Rattle.macroblock.specs.Macroblock.{Given}
 use Rattle.macroblock.specs.Choice.{Task}
 use Rattle.macroblock.specs.Slices.{Slices, slicesBy}
-use Rattle.macroblock.specs.Inner.{givenBy}
-use Rattle.macroblock_choice.specs.Chosen.{taskBy}
+use Rattle.macroblock.specs.MacroblockNeeds.{givenBy}
+use Rattle.macroblock_choice.specs.ChosenNeeds.{taskBy}
 use Rattle.plane.specs.Calls.{PlaneAnswer, writeAnswer, writeOut, readPlaneAnswer, readSlices}
 
 -- 16×16, source 100, reference 0, radius 8, four vectors; the vector slices 0 before
@@ -32,8 +32,8 @@ unfoldable pub wideSlices : List ℕ → Slices
 wideSlices recon = slicesBy recon (replicate 260 0) (replicate 260 0)
 
 -- a search of radius 8 for a block of 16×16 in a flat plane of 32×32
-unfoldable pub flatSearch : ℕ → ℕ → Svq1Mv → Search
-flatSearch x y p = record {
+unfoldable pub cardSearch : ℕ → ℕ → Svq1Mv → Search
+cardSearch x y p = record {
   reference = record { samples = replicate 1024 100; stride = 32; rows = 32 };
   width = 32;
   height = 32;
@@ -46,7 +46,7 @@ flatSearch x y p = record {
 }
 
 -- what the writer answers and the bits that it leaves; what the reader answers and the samples that it leaves
-pub record Wrote (g : Given) (t : Task) (out : List ℕ) (start : ℕ) (s : Slices) (r : PlaneAnswer) (out' : List ℕ) : Type 0 where
+pub record CardWrote (g : Given) (t : Task) (out : List ℕ) (start : ℕ) (s : Slices) (r : PlaneAnswer) (out' : List ℕ) : Type 0 where
   pub answer : r ≡ writeAnswer g t out start s
   pub left : bitsOf out' ≡ writeOut g t out start s
 

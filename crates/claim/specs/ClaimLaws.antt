@@ -24,7 +24,7 @@ use Rattle.macroblock.specs.Choice.{Task, paddedSource, targetOf, target, motio
 use Rattle.bits.specs.ListLaws.{all-any}
 use Rattle.macroblock.specs.MacroblockLaws.{Good, chosen-good, chosen-least, under-skip, unpruned}
 use Rattle.macroblock.specs.LimitLaws.{skip-fits}
-use Rattle.macroblock.specs.InnerLaws.{four-each}
+use Rattle.macroblock.specs.MacroblockNeedsLaws.{four-each}
 use Rattle.macroblock.specs.Reading.{readMacroblock}
 use Rattle.plane.specs.Run.{on, End, after}
 use Rattle.plane.specs.RunLaws.{run-on}

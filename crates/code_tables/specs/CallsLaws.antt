@@ -12,15 +12,15 @@ use Rattle.bits.specs.Basics.{All, orElse, unless}
 use Rattle.bits.specs.BasicsLaws.{or-none, or-next, unless-none}
 use Rattle.bits.specs.Bits.{bitsOf, putBits}
 use Rattle.bits.specs.BitsLaws.{length-bitsOf, drop-put}
-use Rattle.bits.specs.Inner.{Fits}
-use Rattle.bits.specs.InnerLaws.{wrote-size}
+use Rattle.bits.specs.BitNeeds.{Fits}
+use Rattle.bits.specs.BitNeedsLaws.{wrote-size}
 use Rattle.bits.specs.Calls.{done, startRefusal, roomRefusal, Put}
 use Rattle.bits.specs.CallsLaws.{room-passes, start-is, answer-given}
 use Rattle.bits.specs.declared.svq1_enc.Pushed.{Pushed}
 use Rattle.code_tables.specs.Codes.{code, codeLen, codesOf, goodTable, prefixFree}
 use Rattle.code_tables.specs.CodesLaws.{code-length, length-codesOf, good-is}
 use Rattle.code_tables.specs.CodeReadLaws.{read-at}
-use Rattle.code_tables.specs.Inner.{GoodEntry}
+use Rattle.code_tables.specs.CodeNeeds.{GoodEntry}
 use Rattle.code_tables.specs.Calls.{oneOf, tableBytes, readAnswer, tableRefusal, codeRefusal, codeAt}
 
 -- ---- one of some numbers

@@ -2,8 +2,8 @@
 pub mod Codes
 pub mod CodesLaws
 pub mod CodeReadLaws
-pub mod Ranges
-pub mod RangesLaws
-pub mod Inner
+pub mod RangeForms
+pub mod RangeFormsLaws
+pub mod CodeNeeds
 pub mod Calls
 pub mod CallsLaws

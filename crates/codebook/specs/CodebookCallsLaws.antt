@@ -10,7 +10,7 @@ use Rattle.book.specs.declared.svq1_vlc.Svq1Half.{Svq1Half}
 use Rattle.book.specs.declared.svq1_vlc.Svq1Half.the-variants.{Intra, Inter}
 use Rattle.codebook.specs.Codebook.{pageOffset, rasterOf}
 use Rattle.codebook.specs.CodebookCalls.{pagePlace, rasterPlace}
-use Rattle.codebook.specs.Raised.{pageStart}
+use Rattle.codebook.specs.CodebookForms.{pageStart}
 
 pub page-at : (d : ℕ) (h : Svq1Half) (x : ℕ) → d < 4 → x ≡ pageStart h d → some x ≡ pagePlace d h
 unfolding pagePlace

@@ -5,5 +5,5 @@ pub mod Mean
 pub mod MeanLaws
 pub mod CodebookCalls
 pub mod CodebookCallsLaws
-pub mod Raised
-pub mod RaisedLaws
+pub mod CodebookForms
+pub mod CodebookFormsLaws

@@ -9,7 +9,7 @@ use lib.Dec.{leb}
 use borrow.Author.Tests.{le-leb, lt-leb, leb-true}
 use Rattle.bits.specs.Basics.{pick, sum}
 use Rattle.compensation.specs.declared.svq1_enc_inter.inner.Taken.{Taken}
-use Rattle.compensation.specs.Rows.{early}
+use Rattle.compensation.specs.RowForms.{early}
 use Rattle.bits.specs.SumLaws.{sum-le}
 
 early-none : (f : ℕ → ℕ) (limit n i s : ℕ) → n ≡ 0 → early f limit n i s ≡ record { error = s; rows = i }

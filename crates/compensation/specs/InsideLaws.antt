@@ -19,11 +19,11 @@ use Rattle.canvas.specs.Canvas.{Canvas}
 use Rattle.compensation.specs.Compensation.{mean2, mean4, halfSample, movedSample}
 use Rattle.mv_cache.specs.Grid.{entryOf, putPart}
 use Rattle.mv_cache.specs.PutLaws.{putTo, put-all}
-use Rattle.compensation.specs.Rows.{cell}
-use Rattle.compensation.specs.RowsLaws.{half-in, row-fits}
+use Rattle.compensation.specs.RowForms.{cell}
+use Rattle.compensation.specs.RowFormsLaws.{half-in, row-fits}
 use Rattle.bits.specs.DifferenceLaws.{pos-sub, sub-pos}
-use Rattle.compensation.specs.Moved.{movedPart, Parts, down, downMv, rowSet, InCanvas, cellPart, insideUp}
-use Rattle.compensation.specs.MovedLaws.{side-some, cols-some, part-steps}
+use Rattle.compensation.specs.MovedForms.{movedPart, Parts, down, downMv, rowSet, InCanvas, cellPart, insideUp}
+use Rattle.compensation.specs.MovedFormsLaws.{side-some, cols-some, part-steps}
 
 -- ---- a row set, one sample after the other
 pub row-none : (o : ℕ) (f : ℕ → ℕ) (xs : List ℕ) → xs ≡ rowSet o f 0 xs

@@ -17,7 +17,7 @@ use Rattle.compensation.specs.Compensation.{movedSample, movedBlock}
 use Rattle.mv_cache.specs.Grid.{owner, placeIn, entryOf, putPart}
 use Rattle.mv_cache.specs.GridLaws.{length-put, put-own, put-other, owner-in}
 use Rattle.mv_cache.specs.PutLaws.{entry-back, place-lt}
-use Rattle.compensation.specs.Moved.{movedPart}
+use Rattle.compensation.specs.MovedForms.{movedPart}
 
 module _ (s cols : ℕ) (some : 0 < s) (wide : 0 < cols) where
   -- part q of xs, its sample at place p being f p

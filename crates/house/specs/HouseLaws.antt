@@ -15,7 +15,7 @@ use Rattle.code_tables.specs.Codes.{codeVal, codeLen, codesOf, goodTable}
 use Rattle.book.specs.Book.{bookEntries, bookBytes, codebookBytes, codeTableSizes, eachPrefixFree, codesRefusal, bookRefusal}
 use Rattle.house.specs.House.{logUnder, signedRank, rank, houseValue, houseLength, houseFrom, houseBook, HouseBook, houseSample, houseCodebook}
 use Rattle.bits.specs.Basics.{signedByte}
-use Rattle.house.specs.Trie.{none, free, enter, allFree, free-is}
+use Rattle.house.specs.TrieForms.{none, free, enter, allFree, free-is}
 
 -- ---- the rule, entry by entry
 length-house : (n p : ℕ) → length (houseFrom n p) ≡ 3 * n

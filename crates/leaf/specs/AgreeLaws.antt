@@ -20,10 +20,10 @@ use Rattle.codebook.specs.Codebook.{pageOffset, vectorAt}
 use Rattle.codebook.specs.Mean.{residual, meanOf}
 use Rattle.leaf.specs.Leaf.{skip, coded, Vectors, sse, plus, seeded, staged, samples, leafShown, argmin, stageError, bestVector, stages, codedLeaf, leafRule, capAt, termsAt}
 use Rattle.leaf.specs.LeafLaws.{Small, argmin-le, stages-few, stages-small}
-use Rattle.leaf.specs.Raised.{vectorsIn}
-use Rattle.codebook.specs.Raised.{raisedCodebook, pageStart}
+use Rattle.leaf.specs.LeafForms.{vectorsIn}
+use Rattle.codebook.specs.CodebookForms.{raisedCodebook, pageStart}
 use Rattle.leaf.specs.PagesLaws.{vectors-raised}
-use Rattle.leaf.specs.Inner.{Chosen, LeafFound}
+use Rattle.leaf.specs.LeafNeeds.{Chosen, LeafFound}
 use Rattle.leaf.specs.declared.svq1_enc_leaf.LeafCode.{LeafCode}
 use Rattle.leaf.specs.declared.svq1_enc_leaf.LeafTerms.{LeafTerms}
 

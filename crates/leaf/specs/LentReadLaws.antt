@@ -16,7 +16,7 @@ use mir.Syntax.{w16}
 use mir.Val.{SFits}
 use Rattle.bits.specs.Bits.{valOf, bitsOf}
 use Rattle.bits.specs.BitsLaws.{length-bitsOf}
-use Rattle.bits.specs.Inner.{Fits}
+use Rattle.bits.specs.BitNeeds.{Fits}
 use Rattle.code_tables.specs.Codes.{begins, firstCode, anyStart, readCode, Got, got, bad, then, takeCode, takeBits, codesOf}
 use Rattle.code_tables.specs.CodesLaws.{begins-true, length-codesOf}
 use Rattle.code_tables.specs.CodeReadLaws.{code-at-bit, bits-at-bit, bits-short}
@@ -30,7 +30,7 @@ use Rattle.leaf.specs.SignedLaws.{sub-sfits}
 use Rattle.codebook.specs.Mean.{meanAt}
 use Rattle.leaf.specs.Leaf.{skip}
 use Rattle.leaf.specs.LeafBits.{readStages, readSkip, readRest, readLeaf}
-use Rattle.leaf.specs.Lent.{lentTables, padded, refusedLeaf, LeafRead, nibbles, readIndices, readMean, lentRest}
+use Rattle.leaf.specs.LentNeeds.{lentTables, padded, refusedLeaf, LeafRead, nibbles, readIndices, readMean, lentRest}
 use Rattle.leaf.specs.declared.svq1_plane.inner.ReadLeaf.{ReadLeaf}
 use Rattle.leaf.specs.declared.svq1_enc_leaf.LeafCode.the-variants.{Skip, Coded}
 

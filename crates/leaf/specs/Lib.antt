@@ -4,11 +4,11 @@ pub mod LeafBits
 pub mod LeafBitsLaws
 pub mod LeafLaws
 pub mod LeafCall
-pub mod Raised
+pub mod LeafForms
 pub mod PagesLaws
 pub mod SignedLaws
-pub mod Inner
+pub mod LeafNeeds
 pub mod AgreeLaws
-pub mod Lent
-pub mod LentLaws
+pub mod LentNeeds
+pub mod LentNeedsLaws
 pub mod LentReadLaws

@@ -15,9 +15,9 @@ use Rattle.book.specs.Level.{area}
 use Rattle.book.specs.declared.svq1_vlc.Svq1Half.{Svq1Half}
 use Rattle.book.specs.declared.svq1_vlc.Svq1Half.the-variants.{Intra, Inter}
 use Rattle.codebook.specs.Codebook.{pageOffset, byteOf, vectorAt}
-use Rattle.leaf.specs.Raised.{less, vector, vectorsIn}
-use Rattle.codebook.specs.Raised.{originOf, raisedCodebook}
-use Rattle.codebook.specs.RaisedLaws.{origin-l3, origin-l2, origin-plain}
+use Rattle.leaf.specs.LeafForms.{less, vector, vectorsIn}
+use Rattle.codebook.specs.CodebookForms.{originOf, raisedCodebook}
+use Rattle.codebook.specs.CodebookFormsLaws.{origin-l3, origin-l2, origin-plain}
 
 -- ---- runs of values
 -- the same values, wherever they are counted from

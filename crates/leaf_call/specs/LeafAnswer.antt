@@ -9,10 +9,10 @@ use Rattle.bits.specs.Basics.{pick}
 use Rattle.bits.specs.Calls.{Answer, done, refused}
 use Rattle.book.specs.Level.{area}
 use Rattle.leaf.specs.LeafCall.{BlockIn, LeafChosen, leafAnswer}
-use Rattle.leaf.specs.Raised.{leafOf}
+use Rattle.leaf.specs.LeafForms.{leafOf}
 use Rattle.leaf.specs.LeafBits.{leafBits}
-use Rattle.leaf.specs.Lent.{Clean}
-use Rattle.leaf.specs.Inner.{LeafFound}
+use Rattle.leaf.specs.LentNeeds.{Clean}
+use Rattle.leaf.specs.LeafNeeds.{LeafFound}
 use Rattle.book.specs.Book.{tablesOf, codebookBytes, bookRefusal}
 use Rattle.book.specs.declared.svq1_vlc.Svq1Half.the-variants.{Inter}
 use Rattle.leaf_call.specs.declared.svq1_enc_leaf.LeafAnswer.{LeafAnswer}
@@ -31,8 +31,8 @@ leafAnswerOf n r =
     pick (eqb (r .refused) 0) (done (record { leaf = leafOf (r .code) (r .stages); bits = r .bits; error = r .error; shown = take n (r .samples) })) (refused (r .refused))
 
 -- what a refused call answers
-abbrev pub refusedAnswer : ℕ → LeafAnswer
-refusedAnswer n = record { refused = n; code = Skip; stages = replicate 6 0; bits = 0; error = 0; samples = replicate 256 0 }
+abbrev pub refusedLeafAnswer : ℕ → LeafAnswer
+refusedLeafAnswer n = record { refused = n; code = Skip; stages = replicate 6 0; bits = 0; error = 0; samples = replicate 256 0 }
 
 -- and an accepted one
 abbrev pub foundAnswer : LeafCode → List ℕ → ℕ → ℕ → List ℕ → LeafAnswer
@@ -42,7 +42,7 @@ foundAnswer c stages bits error samples = record { refused = 0; code = c; stages
 pub record LeafAnswered (b : BlockIn) (r : LeafAnswer) : Type 0 where
   pub answer : leafAnswerOf (length (b .target)) r ≡ leafAnswer b
   pub behind : drop (length (b .target)) (r .samples) ≡ replicate (256 - length (b .target)) 0
-  pub bare : (r .refused ≡ 0 → ⊥) → r ≡ refusedAnswer (r .refused)
+  pub bare : (r .refused ≡ 0 → ⊥) → r ≡ refusedLeafAnswer (r .refused)
   pub clean : Clean (r .code) (r .stages)
 
 -- what an accepted call asks of its parts: a book and a codebook that pass, room for the copy, and a block of its level
@@ -56,7 +56,7 @@ pub record Searchable (book codebook raised : List ℕ) (d : ℕ) (terms : LeafT
   pub skips : terms .skip ≡ true → terms .half ≡ Inter
 
 -- and what it finds: the leaf by the codebook, its bits by the book, zeros behind its samples
-pub record Found (book codebook : List ℕ) (d : ℕ) (terms : LeafTerms) (t p : List ℕ) (r : LeafAnswer) : Type 0 where
+pub record SearchFound (book codebook : List ℕ) (d : ℕ) (terms : LeafTerms) (t p : List ℕ) (r : LeafAnswer) : Type 0 where
   pub accepted : r .refused ≡ 0
   pub leaf : LeafFound codebook terms d t p (r .code) (r .stages) (r .error) (take (length t) (r .samples))
   pub counted : r .bits ≡ length (leafBits (tablesOf book (terms .half)) d (leafOf (r .code) (r .stages)))

@@ -15,17 +15,17 @@ use Rattle.book.specs.BookLaws.{data-passes}
 use Rattle.book.specs.Level.{area}
 use Rattle.book.specs.declared.svq1_vlc.Svq1Half.the-variants.{Inter}
 use Rattle.leaf.specs.LeafBits.{leafBits}
-use Rattle.leaf.specs.Raised.{leafOf}
-use Rattle.codebook.specs.Raised.{raisedCodebook}
-use Rattle.leaf.specs.Inner.{LeafFound}
-use Rattle.leaf.specs.LentLaws.{skip-clean}
+use Rattle.leaf.specs.LeafForms.{leafOf}
+use Rattle.codebook.specs.CodebookForms.{raisedCodebook}
+use Rattle.leaf.specs.LeafNeeds.{LeafFound}
+use Rattle.leaf.specs.LentNeedsLaws.{skip-clean}
 use Rattle.leaf.specs.AgreeLaws.{leaf-found}
 use Rattle.leaf_call.specs.declared.svq1_enc_leaf.LeafAnswer.{LeafAnswer}
 use Rattle.leaf.specs.declared.svq1_enc_leaf.LeafTerms.{LeafTerms}
 use Rattle.leaf_search.specs.declared.svq1_enc_leaf.LeafChoice.{LeafChoice}
 use Rattle.leaf.specs.LeafCall.{BlockIn, halfAt, termsOf, blockOk, blockRefusal, leafChosen, leafAnswer}
-use Rattle.leaf_call.specs.LeafAnswer.{blockFits, refusedAnswer, LeafAnswered}
-use Rattle.leaf_search.specs.LevelLeaf.{LevelChosen}
+use Rattle.leaf_call.specs.LeafAnswer.{blockFits, refusedLeafAnswer, LeafAnswered}
+use Rattle.leaf_search.specs.LevelLeafNeeds.{LevelChosen}
 
 -- ---- 8, test by test
 module _ (level half target predictor cap : ℕ) (skip : Bool) where
@@ -131,7 +131,7 @@ drop-replicate (suc k) (suc n) =
     let z : suc n - suc k ≡ n - k = omega arith in
     rw z (drop-replicate k n)
 
-pub answer-refused : (b : BlockIn) (n : ℕ) → n ≡ blockRefusal b → (n ≡ 0 → ⊥) → LeafAnswered b (refusedAnswer n)
+pub answer-refused : (b : BlockIn) (n : ℕ) → n ≡ blockRefusal b → (n ≡ 0 → ⊥) → LeafAnswered b (refusedLeafAnswer n)
 unfolding leafAnswer
 answer-refused b n e h =
     record {

@@ -2,18 +2,18 @@
 pub mod inner;
 
 ghost use mathlib.Core.Path.{_≡_};
-ghost use Prim.Native.Nat.{_<_};
 ghost use lib.ListN.{length};
 ghost use Rattle.book.specs.Level.{levelNumber};
 ghost use Rattle.leaf.specs.LeafCall.{blockRefusal};
-ghost use Rattle.leaf_call.specs.LeafAnswer.{blockFits, refusedAnswer, foundAnswer, LeafAnswered, Searchable, Found};
+ghost use Rattle.leaf_call.specs.LeafAnswer.{blockFits, refusedLeafAnswer, foundAnswer, LeafAnswered, Searchable, SearchFound};
 use super::svq1_enc_leaf::inner::terms_of;
 use book::inner::CODEBOOK_BYTES;
+use book::inner::level_at;
 use book::svq1_blocktree::Svq1Level;
 use codebook::svq1_codebook::inner::raise_codebook;
-use leaf::svq1_enc_leaf::inner::book_leaf_bits;
 use leaf::svq1_enc_leaf::LeafCode;
 use leaf::svq1_enc_leaf::LeafTerms;
+use leaf::svq1_enc_leaf::inner::book_leaf_bits;
 use leaf_search::svq1_enc_leaf::inner::level_leaf;
 
 // What the search answers: 0 and the leaf, its bits, its error and the samples that it shows; or a refusal's number and nothing else.
@@ -26,21 +26,6 @@ pub struct LeafAnswer {
     pub samples: [u8; 256],
 }
 
-// The level of a number.
-fn level_of(level: u8) -> Svq1Level
-    requires { ⌜ level < 6 ⌝ }
-    ensures { λ r. ⌜ levelNumber r ≡ level ⌝ }
-{
-    match level {
-        0 => Svq1Level::L0,
-        1 => Svq1Level::L1,
-        2 => Svq1Level::L2,
-        3 => Svq1Level::L3,
-        4 => Svq1Level::L4,
-        _ => Svq1Level::L5,
-    }
-}
-
 // Whether 8 passes: a known level and half, blocks of its length, a cap of at most 6, no skip with intra.
 fn block_fits(level: u8, half: u8, target: usize, predictor: usize, cap: u8, skip: bool) -> bool
     ensures { λ r. ⌜ r ≡ blockFits level half target predictor cap skip ⌝ }
@@ -51,7 +36,7 @@ fn block_fits(level: u8, half: u8, target: usize, predictor: usize, cap: u8, ski
     if 1 < half {
         return false;
     }
-    let n = level_of(level).vector_length();
+    let n = level_at(level as usize).vector_length();
     if target != n {
         return false;
     }
@@ -91,7 +76,7 @@ pub fn block_refusal(
 }
 
 fn refused_answer(refused: u8) -> LeafAnswer
-    ensures { λ r. ⌜ r ≡ refusedAnswer refused ⌝ }
+    ensures { λ r. ⌜ r ≡ refusedLeafAnswer refused ⌝ }
 {
     LeafAnswer {
         refused,
@@ -134,7 +119,7 @@ fn searched(
     predictor: &[u8],
 ) -> LeafAnswer
     requires { ⌜ Searchable (now book) (now codebook) (now raised) (levelNumber level) terms (now target) (now predictor) ⌝ }
-    ensures { λ r. ⌜ Found (now (book .entry)) (now (codebook .entry)) (levelNumber level) terms (now (target .entry)) (now (predictor .entry)) r ⌝ }
+    ensures { λ r. ⌜ SearchFound (now (book .entry)) (now (codebook .entry)) (levelNumber level) terms (now (target .entry)) (now (predictor .entry)) r ⌝ }
 {
     raise_codebook(codebook, raised);
     let mut sums = [0u16; 256];
@@ -177,7 +162,7 @@ pub fn search_leaf(
         book,
         codebook,
         &mut raised,
-        level_of(level),
+        level_at(level as usize),
         terms_of(half, cap, skip),
         target,
         predictor,

@@ -17,7 +17,7 @@ use Rattle.book.specs.declared.svq1_vlc.Svq1Half.{Svq1Half}
 use Rattle.book.specs.declared.svq1_vlc.Svq1Half.the-variants.{Intra, Inter}
 use Rattle.codebook.specs.Mean.{residual, rounded, clampMean, meanOf, saturate}
 use Rattle.leaf.specs.Leaf.{sse, plus, samples, seeded, argmin, stageError, bestVector, stages}
-use Rattle.leaf.specs.Raised.{less, vector, vectorsIn, vectorError, total, plusN, sqd}
+use Rattle.leaf.specs.LeafForms.{less, vector, vectorsIn, vectorError, sampleSum, plusN, sqd}
 
 pub gap-le : {t c : ℕ} → t ≤ 255 → c ≤ 255 → gap t c ≤ 255
 gap-le ht hc = omega arith
@@ -117,17 +117,17 @@ mean-down-inter st sp n h =
     simp (lt-ltb _ _ h, low-inter, e)
 
 -- the residual's sum is the difference of the sums
-pub residual-sums : (ts ps : List ℕ) → length ps ≡ length ts → residual ts ps ≡ subℕ (total ts) (total ps)
-unfolding residual total
+pub residual-sums : (ts ps : List ℕ) → length ps ≡ length ts → residual ts ps ≡ subℕ (sampleSum ts) (sampleSum ps)
+unfolding residual sampleSum
 residual-sums [] [] e = refl
 residual-sums [] (p ∷ ps) e = absurd (omega (arith, e))
 residual-sums (t ∷ ts) [] e = absurd (omega (arith, e))
 residual-sums (t ∷ ts) (p ∷ ps) e =
     let f : length ps ≡ length ts = omega (arith, e) in
-    rw (residual-sums ts ps f) (sub-add t p (total ts) (total ps))
+    rw (residual-sums ts ps f) (sub-add t p (sampleSum ts) (sampleSum ps))
 
-pub total-step : (t : List ℕ) (i : ℕ) → i < length t → total (drop i t) ≡ getD t i 0 + total (drop (i + 1) t)
-unfolding total
+pub total-step : (t : List ℕ) (i : ℕ) → i < length t → sampleSum (drop i t) ≡ getD t i 0 + sampleSum (drop (i + 1) t)
+unfolding sampleSum
 total-step t i h = simp (add-one, drop-cons t i 0 h)
 
 -- ---- a vector added in place

@@ -13,9 +13,9 @@ use Rattle.leaf.specs.declared.svq1_enc_leaf.LeafTerms.{LeafTerms}
 use Rattle.leaf.specs.declared.svq1_enc_leaf.LeafCode.the-variants.{Skip, Coded}
 use Rattle.codebook.specs.Mean.{residual, meanOf}
 use Rattle.leaf.specs.Leaf.{Vectors, coded, sse, seeded, staged, samples, leafShown, stages, codedLeaf, leafRule}
-use Rattle.leaf.specs.Raised.{less, vectorsIn, Searched}
-use Rattle.leaf.specs.Inner.{Coding, Chosen}
-use Rattle.leaf.specs.LentLaws.{coded-clean, skip-clean}
+use Rattle.leaf.specs.LeafForms.{less, vectorsIn, Searched}
+use Rattle.leaf.specs.LeafNeeds.{Coding, Chosen}
+use Rattle.leaf.specs.LentNeedsLaws.{coded-clean, skip-clean}
 
 -- a mean, sums seeded with it, and a stage search from there make the coded leaf
 pub coded-done : (terms : LeafTerms) (t p book a b index out : List ℕ) (base mean count error bias : ℕ) (m : ℤ)

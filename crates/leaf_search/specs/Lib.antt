@@ -1,5 +1,5 @@
 -- The definitions that the contracts of this crate cite.
 pub mod InnerLaws
 pub mod StagesLaws
-pub mod LevelLeafLaws
-pub mod LevelLeaf
+pub mod LevelLeafNeedsLaws
+pub mod LevelLeafNeeds

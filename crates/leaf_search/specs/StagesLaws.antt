@@ -9,7 +9,7 @@ use lib.ListN.{length, take, drop, getD, set, replicate, length-set}
 use lib.Seq.{take-suc-set, drop-set-lt, drop-cons}
 use lib.IntN.{ℤ}
 use Rattle.leaf.specs.Leaf.{Vectors, sse, plus, samples, argmin, stages, staged}
-use Rattle.leaf.specs.Raised.{less, vector, vectorsIn, vectorError, plusN, Searched}
+use Rattle.leaf.specs.LeafForms.{less, vector, vectorsIn, vectorError, plusN, Searched}
 use Rattle.leaf_samples.specs.RaisedLaws.{greedy-go, stage-sums, next-part}
 
 pub record Going (t a₀ book : List ℕ) (base bias cap : ℕ) (a index : List ℕ) (count at p least : ℕ) : Type 0 where

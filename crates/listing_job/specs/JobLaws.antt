@@ -11,13 +11,13 @@ use borrow.Author.Tests.{eqb-true, eqb-false, lt-ltb, le-ltb, ltb-true, ltb-fals
 use Rattle.bits.specs.Basics.{pick, every}
 use Rattle.bits.specs.BasicsLaws.{both-true, partFrom, part-from}
 use Rattle.text.specs.Text.{comma, lineFeed, isDigit, isNumber, valueFrom, numberUpTo, linesOf, fieldsOf}
-use Rattle.text.specs.Reading.{countBefore, lineBefore}
+use Rattle.text.specs.ReadingForms.{countBefore, lineBefore}
 use Rattle.text.specs.TextLaws.{none-some, number-le, count-le, count-all, some-piece, pieces-last, pieces-next, lines-none, lines-open, lines-next}
-use Rattle.text.specs.WritingLaws.{digits-without}
+use Rattle.text.specs.WritingFormsLaws.{digits-without}
 use Rattle.listing_job.specs.Job.{Job, mostWidth, mostHeight, jobOf, jobRead, oneLine, jobIn, jobAnswer}
 use Rattle.listing_job.specs.declared.JobRead.{JobRead}
 use Rattle.listing_job.specs.declared.FieldRead.the-variants.{Field, NoField}
-use Rattle.listing_job.specs.JobReading.{jobGiven, jobTold, Taken, takenOf, fieldIn, FieldFound, onto, eachUpTo, ontoRest, fieldsIn, bounds, jobMade}
+use Rattle.listing_job.specs.JobForms.{jobGiven, jobTold, Taken, takenOf, fieldIn, FieldFound, onto, eachUpTo, ontoRest, fieldsIn, bounds, jobMade}
 
 -- ---- all fields
 -- a job is read where each field is a number within its bound

@@ -1,4 +1,4 @@
 -- The definitions that the contracts of this crate cite; the laws that callers cite stand in the files named `..Laws`.
 pub mod Job
-pub mod JobReading
+pub mod JobForms
 pub mod JobLaws

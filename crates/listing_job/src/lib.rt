@@ -2,7 +2,7 @@
 ghost use mathlib.Core.Path.{_≡_};
 ghost use Rattle.text.specs.Text.{fieldsOf};
 ghost use Rattle.listing_job.specs.Job.{jobIn, jobRead, jobAnswer};
-ghost use Rattle.listing_job.specs.JobReading.{FieldFound, jobGiven, jobTold};
+ghost use Rattle.listing_job.specs.JobForms.{FieldFound, jobGiven, jobTold};
 use text::NumberRead;
 
 // What a job line asks for.

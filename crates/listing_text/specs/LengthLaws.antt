@@ -13,12 +13,12 @@ use Rattle.bits.specs.Basics.{pick, All, every, sum, orElse, unless}
 use Rattle.code_tables.specs.Codes.{goodEntry}
 use Rattle.text.specs.Text.{numberUpTo, linesOf, fieldsOf, digitsBefore, decimal, joined, lineOf}
 use Rattle.text.specs.TextLaws.{none-some, number-le}
-use Rattle.text.specs.WritingLaws.{tenth-below}
+use Rattle.text.specs.WritingFormsLaws.{tenth-below}
 use Rattle.text.specs.OneTextLaws.{number-decimal, joined-fields, ended, lines-ended}
 use Rattle.book.specs.Book.{bookEntries, codeTableSizes, eachPrefixFree}
 use Rattle.book_file.specs.BookFile.{Line, fileTables, fileLines, mentions, onceEach, bookOf, linesRefusal, refusalRead, fileRefusal}
 use Rattle.book_file.specs.FileText.{placeFields, fieldsFor, fileOf}
-use Rattle.book_file.specs.ScanLaws.{LineFits}
+use Rattle.book_file.specs.BookFileFormsLaws.{LineFits}
 use Rattle.book_file.specs.CallLaws.{one-line}
 use Rattle.book_file.specs.OneFileLaws.{file-text}
 use Rattle.book_file.specs.BookFileLaws.{file-fits}

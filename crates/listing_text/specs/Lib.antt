@@ -3,8 +3,8 @@ pub mod Cut
 pub mod CutLaws
 pub mod FilesLaws
 pub mod LengthLaws
-pub mod Lines
-pub mod LinesLaws
+pub mod LineForms
+pub mod LineFormsLaws
 pub mod Listed
 pub mod ListedLaws
 pub mod Listing

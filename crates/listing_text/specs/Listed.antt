@@ -14,7 +14,7 @@ use Rattle.plane_enc.specs.declared.svq1_enc_inter.WriteEnd.{WriteEnd}
 use Rattle.plane.specs.Refusals.{writeRefusal}
 use Rattle.listing_job.specs.Job.{mostWidth, mostHeight}
 use Rattle.listing_text.specs.Listing.{Files, outputBytes, noSlices, totalLine, refusedText, listing}
-use Rattle.listing_text.specs.Lines.{linesFrom}
+use Rattle.listing_text.specs.LineForms.{linesFrom}
 
 -- the bytes that a listing needs at most: 99 lines of 94 bytes and a total of 48 fit (law `listing-fits`)
 abbrev pub listingRoom : ℕ
@@ -61,7 +61,7 @@ pub record Fresh (out recon vx vy stated : List ℕ) : Type 0 where
   pub numbers : length stated ≡ 3 * mostBlocks
 
 -- a plane written as far as r says, with what was stated of its macroblocks
-pub record Ended (cols : ℕ) (stated : List ℕ) (r : WriteEnd) : Type 0 where
+pub record ListedEnd (cols : ℕ) (stated : List ℕ) (r : WriteEnd) : Type 0 where
   pub wide : 0 < cols
   pub few : r .done ≤ mostBlocks
   pub numbers : length stated ≡ 3 * mostBlocks

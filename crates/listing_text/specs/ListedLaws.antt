@@ -28,13 +28,13 @@ use Rattle.plane.specs.Plane.{count, Writing, stepStated, fits, written, toWrit
 use Rattle.plane.specs.Refusals.{writeRefusal}
 use Rattle.plane.specs.RefusalsLaws.{write-accepted}
 use Rattle.plane.specs.Calls.{PlaneAnswer, PlaneWritten, writtenAnswer, writeAnswer}
-use Rattle.plane_enc.specs.Writer.{endOf}
+use Rattle.plane_enc.specs.WriterNeeds.{writeEndOf}
 use Rattle.plane_enc.specs.Stated.{threeOf, statedTo, statedIn, PlaneStated}
 use Rattle.listing_job.specs.Job.{mostWidth, mostHeight}
 use Rattle.listing_text.specs.Listing.{outputBytes, modeName, noSlices, macroblockLine, linesTo, totalLine, refusedText, textInto, planeText}
-use Rattle.listing_text.specs.Lines.{Put, nameAt, lineText, lineAt, linesFrom}
-use Rattle.listing_text.specs.LinesLaws.{put-two}
-use Rattle.listing_text.specs.Listed.{listingRoom, mostBlocks, Listable, Fresh, Ended, endText}
+use Rattle.listing_text.specs.LineForms.{TextPut, nameAt, lineText, listingLineAt, linesFrom}
+use Rattle.listing_text.specs.LineFormsLaws.{put-two}
+use Rattle.listing_text.specs.Listed.{listingRoom, mostBlocks, Listable, Fresh, ListedEnd, endText}
 use Rattle.listing_text.specs.FilesLaws.{count-small, area-small}
 
 -- ---- what is stated of the macroblocks gives their lines
@@ -77,7 +77,7 @@ module _ (g : Given) (t : Task) (out : List ℕ) (start : ℕ) (s : Slices) wher
 
 -- the lines of a plane from what is stated of it
 module _ (g : Given) (t : Task) (out held : List ℕ) where
-  stated-line : (n k : ℕ) → 3 * n ≤ length held → k < n → lineAt (cols g) (statedIn g t out 0 (noSlices g) held n) k ≡ macroblockLine g t out k
+  stated-line : (n k : ℕ) → 3 * n ≤ length held → k < n → listingLineAt (cols g) (statedIn g t out 0 (noSlices g) held n) k ≡ macroblockLine g t out k
   unfolding macroblockLine lineText
   stated-line n k h l =
       let m = stepStated g t k (writingAt g t out 0 (noSlices g) k) in
@@ -102,8 +102,8 @@ module _ (g : Given) (t : Task) (out : List ℕ) (passes : writeRefusal g t out 
   unfolding writePlane after
   stands = run-stands 22 (fits g t) (written g t) (toWrite (bitsOf out) 0 (noSlices g)) (count g) 0
 
-  module _ (r : WriteEnd) (out' : List ℕ) (s' : Slices) (p : PlaneWritten g t out 0 (noSlices g) (endOf r) out' s') where
-    answered : endOf r ≡ writtenAnswer end
+  module _ (r : WriteEnd) (out' : List ℕ) (s' : Slices) (p : PlaneWritten g t out 0 (noSlices g) (writeEndOf r) out' s') where
+    answered : writeEndOf r ≡ writtenAnswer end
     unfolding writeAnswer
     answered = p .answer ∙ rw (eq-eqb (writeRefusal g t out 0 (noSlices g)) 0 passes)
 
@@ -139,12 +139,12 @@ module _ (g : Given) (t : Task) (out : List ℕ) (passes : writeRefusal g t out 
 
 -- ---- the text put into a slice
 module _ (cols : ℕ) (stated : List ℕ) (e : WriteEnd) (bytes : List ℕ) (room : listingRoom ≤ length bytes) (r : ℕ) (after : List ℕ) where
-  pub put-refused-end : (e .refused ≡ 0 → ⊥) → Put 29 bytes 0 (refusedText (e .refused)) r after → Put listingRoom bytes 0 (endText cols stated e) r after
+  pub put-refused-end : (e .refused ≡ 0 → ⊥) → TextPut 29 bytes 0 (refusedText (e .refused)) r after → TextPut listingRoom bytes 0 (endText cols stated e) r after
   unfolding endText
   put-refused-end h p = rw (ne-eqb (e .refused) 0 h) (record { next = p .next; short = omega (arith, p .short); bytes-after = p .bytes-after })
 
-  pub put-listed-end : (at : ℕ) (mid : List ℕ) → e .refused ≡ 0 → e .done ≤ mostBlocks → Put (94 * e .done) bytes 0 (linesFrom cols stated (e .done)) at mid
-      → Put 48 mid at (totalLine (e .bits) (e .error)) r after → Put listingRoom bytes 0 (endText cols stated e) r after
+  pub put-listed-end : (at : ℕ) (mid : List ℕ) → e .refused ≡ 0 → e .done ≤ mostBlocks → TextPut (94 * e .done) bytes 0 (linesFrom cols stated (e .done)) at mid
+      → TextPut 48 mid at (totalLine (e .bits) (e .error)) r after → TextPut listingRoom bytes 0 (endText cols stated e) r after
   unfolding endText
   put-listed-end at mid h few p q =
       let both = put-two (94 * e .done) bytes 0 _ at mid p (omega arith) 48 _ r after q in
@@ -203,14 +203,14 @@ module _ (g : Given) (t : Task) (ok : Listable g t) where
         let y : take (4 * count g) vy ≡ replicate (4 * count g) 0 = ap (take (4 * count g)) (f .vectors-y) ∙ zeros-taken _ _ few in
         rw (sizes .blocks-are, samples, x, y)
 
-    module _ (r : WriteEnd) (out' : List ℕ) (s' : Slices) (stated : List ℕ) (p : PlaneStated g t out 0 lent held (endOf r) out' s' stated) where
-      own : PlaneStated g t (replicate outputBytes 0) 0 (noSlices g) held (endOf r) out' s' stated
+    module _ (r : WriteEnd) (out' : List ℕ) (s' : Slices) (stated : List ℕ) (p : PlaneStated g t out 0 lent held (writeEndOf r) out' s' stated) where
+      own : PlaneStated g t (replicate outputBytes 0) 0 (noSlices g) held (writeEndOf r) out' s' stated
       own = rw (← f .output, ← lent-are) p
 
       room : 3 * count g ≤ length held
       room = omega (arith, f .numbers, sizes .few-blocks)
 
-      pub plane-ended : length stated ≡ length held → Ended (g .reference .stride / 16) stated r
+      pub plane-ended : length stated ≡ length held → ListedEnd (g .reference .stride / 16) stated r
       plane-ended e = record {
         wide = omega (arith, sizes .cols-are, sizes .some-cols);
         few = omega (arith, done-most g t (replicate outputBytes 0) (ok .passes) r out' s' (own .written), sizes .few-blocks);

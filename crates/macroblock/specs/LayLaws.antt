@@ -8,7 +8,7 @@ use native.Mathlib.Omega.{arith}
 use lib.ListN.{length, getD}
 use Rattle.bits.specs.Basics.{All, signedOf}
 use Rattle.vectors.specs.declared.svq1_motion_predictor.Svq1Mv.{Svq1Mv}
-use Rattle.mv_cache.specs.Cache as cache
+use Rattle.mv_cache.specs.CacheNeeds as cache
 use Rattle.canvas.specs.Canvas.{Canvas, blocksAlong}
 use Rattle.mv_cache.specs.Grid.{part, putPart}
 use Rattle.mv_cache.specs.GridLaws.{length-put}
@@ -18,9 +18,9 @@ use Rattle.tree.specs.TreeBits.{Node}
 use Rattle.canvas.specs.declared.svq1_plane.Svq1PlaneCanvas.{Svq1PlaneCanvas}
 use Rattle.macroblock.specs.Macroblock.{Given, cols, rows, Motion, Choice, coded, vectorsOf, shown}
 use Rattle.macroblock.specs.Slices.{Slices, slicesBy, BlockSlice, xSlice, ySlice, blocksIn, storedIn, laid}
-use Rattle.macroblock.specs.Laying.{choiceBy, Laying, LaysChoice}
-use Rattle.macroblock.specs.Samples.{Stands, Room, Laid, Shows}
-use Rattle.macroblock.specs.SamplesLaws.{cols-is, skip-shown}
+use Rattle.macroblock.specs.LayingNeeds.{choiceBy, Laying, LaysChoice}
+use Rattle.macroblock.specs.SampleNeeds.{Stands, ReconRoom, Laid, Shows}
+use Rattle.macroblock.specs.SampleNeedsLaws.{cols-is, skip-shown}
 
 -- ---- shown
 pub stands-by : (c : Canvas) (cols k : ℕ) → Stands c cols k → Stands c (c .stride / 16) k
@@ -44,7 +44,7 @@ module _ (c : Svq1PlaneCanvas) (k : ℕ) (vs : List Svq1Mv) (recon vx vy : List 
   rows-by : c .rows / 16 ≡ blocksAlong (c .height)
   rows-by = omega (arith, g .rows-are)
 
-  pub lay-asks : Room (c .stride / 16) k recon × cache.Slices (c .stride / 16) (c .rows / 16) vx vy × (k < c .rows / 16 * (c .stride / 16)) × All Inside vs
+  pub lay-asks : ReconRoom (c .stride / 16) k recon × cache.VectorSlices (c .stride / 16) (c .rows / 16) vx vy × (k < c .rows / 16 * (c .stride / 16)) × All Inside vs
   lay-asks = rw (cols-by, rows-by) (g .recon-room, g .vectors-room, g .number, g .inside)
 
   pub lays : (reference raised : List ℕ) (d : Choice) (out recon' vx' vy' : List ℕ) → Shows c reference raised k d out → Laid (c .stride / 16) k out vs recon vx vy recon' vx' vy'

@@ -13,8 +13,8 @@ use Rattle.macroblock.specs.Choice.{Task, tried, fittingIn, fitting, motionsTri
 use Rattle.macroblock.specs.ChoiceLaws.{Fits, best-one}
 use Rattle.bits.specs.ListLaws.{all-passing, passing-all, passing-same}
 use Rattle.macroblock.specs.MacroblockLaws.{Fine, Good, tried-good}
-use Rattle.macroblock_choice.specs.Candidates.{codedFor, inRoom, chosenIn}
-use Rattle.macroblock_choice.specs.Chosen.{Allows}
+use Rattle.macroblock_choice.specs.CandidateNeeds.{codedFor, inRoom, chosenIn}
+use Rattle.macroblock_choice.specs.ChosenNeeds.{Allows}
 
 module _ (g : Given) (t : Task) (ok : Fine g t) (k : ℕ) (n : Near) (room : ℕ) where
   abbrev others : List Choice

@@ -1,6 +1,6 @@
 -- The definitions that the contracts of this crate cite; the laws that callers cite stand in the files named `..Laws`.
-pub mod Finding
-pub mod MacroblockRead
-pub mod FindingLaws
-pub mod MacroblockReadLaws
+pub mod FindingNeeds
+pub mod ReadNeeds
+pub mod FindingNeedsLaws
+pub mod ReadNeedsLaws
 pub mod ReadCallLaws

@@ -9,27 +9,27 @@ use borrow.Author.Tests.{eq-eqb, ne-eqb}
 use Rattle.bits.specs.Basics.{Bytes}
 use Rattle.bits.specs.Bits.{bitsOf}
 use Rattle.code_tables.specs.Codes.{Got, got, bad}
-use Rattle.mv_cache.specs.Cache as cache
+use Rattle.mv_cache.specs.CacheNeeds as cache
 use Rattle.canvas.specs.Canvas.{blocksAlong}
 use Rattle.mv_cache.specs.Neighbours.{nearOf}
-use Rattle.tree.specs.Nodes.{treeOf}
-use Rattle.tree.specs.Walk.{Reads}
+use Rattle.tree.specs.NodeForms.{treeOf}
+use Rattle.tree.specs.WalkNeeds.{Reads}
 use Rattle.canvas.specs.declared.svq1_plane.Svq1PlaneCanvas.{Svq1PlaneCanvas}
 use Rattle.macroblock_dec.specs.declared.svq1_plane.inner.reading.ReadChoice.{ReadChoice}
 use Rattle.macroblock.specs.Macroblock.{Given, cols, rows, Choice, halfOf}
 use Rattle.macroblock.specs.Reading.{readMacroblock}
 use Rattle.macroblock.specs.Slices.{Slices, slicesBy, near}
-use Rattle.macroblock.specs.Inner.{givenBy, byBook}
-use Rattle.macroblock.specs.InnerLaws.{fits, book-passes, stands, vectors-held, recon-held}
-use Rattle.macroblock_dec.specs.Finding.{readMotionOf, choiceOf, modeDifference, ChoiceFound}
-use Rattle.macroblock_dec.specs.MacroblockReadLaws.{by-book}
-use Rattle.macroblock.specs.Laying.{ShowingIf, Laying, LaysChoice}
-use Rattle.macroblock_dec.specs.MacroblockRead.{Ready, MbRead}
-use Rattle.codebook.specs.RaisedLaws.{raised-length}
+use Rattle.macroblock.specs.MacroblockNeeds.{givenBy, byBook}
+use Rattle.macroblock.specs.MacroblockNeedsLaws.{fits, book-passes, stands, vectors-held, recon-held}
+use Rattle.macroblock_dec.specs.FindingNeeds.{readMotionOf, choiceFound, modeDifference, ChoiceFound}
+use Rattle.macroblock_dec.specs.ReadNeedsLaws.{by-book}
+use Rattle.macroblock.specs.LayingNeeds.{ShowingIf, Laying, LaysChoice}
+use Rattle.macroblock_dec.specs.ReadNeeds.{ReadReady, MbRead}
+use Rattle.codebook.specs.CodebookFormsLaws.{raised-length}
 use Rattle.macroblock.specs.LayLaws.{laid-is}
 
 module _ (c : Svq1PlaneCanvas) (reference book codebook raised s : List ℕ) (at k : ℕ) (u : Slices)
-    (go : Ready (givenBy c reference book codebook) raised u k (length s) at) where
+    (go : ReadReady (givenBy c reference book codebook) raised u k (length s) at) where
   abbrev g : Given
   g = givenBy c reference book codebook
 
@@ -39,7 +39,7 @@ module _ (c : Svq1PlaneCanvas) (reference book codebook raised s : List ℕ) (at
   rows-call : c .rows / 16 ≡ rows g
   rows-call = omega (arith, fits g raised (go .ok) .rows)
 
-  pub among-asks : Reads book 5 (length s) at × cache.Slices (c .stride / 16) (c .rows / 16) (u .vx) (u .vy) × (k < c .rows / 16 * (c .stride / 16))
+  pub among-asks : Reads book 5 (length s) at × cache.VectorSlices (c .stride / 16) (c .rows / 16) (u .vx) (u .vy) × (k < c .rows / 16 * (c .stride / 16))
   among-asks = rw (cols-call, rows-call) (
     record { passes = book-passes g raised (go .ok); deep = omega arith; from = go .from },
     vectors-held g raised (go .ok) u (go .held),
@@ -59,7 +59,7 @@ module _ (c : Svq1PlaneCanvas) (reference book codebook raised s : List ℕ) (at
         let no = ne-eqb (r .refused) 0 e in
         let is : bad (r .refused) ≡ here = rw no at (f .found .is) in
         record {
-          choice = choiceOf r;
+          choice = choiceFound r;
           is = rw no (is ∙ here-is);
           within = omega (arith, go .from .bits-fit);
           slices = rw no;
@@ -80,13 +80,13 @@ module _ (c : Svq1PlaneCanvas) (reference book codebook raised s : List ℕ) (at
         },
       )
 
-      pub call-laid : (recon' vx' vy' : List ℕ) → Bytes codebook → LaysChoice c reference raised k (choiceOf r) (r .vectors) (u .recon) (u .vx) (u .vy) recon' vx' vy'
+      pub call-laid : (recon' vx' vy' : List ℕ) → Bytes codebook → LaysChoice c reference raised k (choiceFound r) (r .vectors) (u .recon) (u .vx) (u .vy) recon' vx' vy'
           → MbRead g s at k u (record { refused = 0; next = r .next }) (slicesBy recon' vx' vy')
       call-laid recon' vx' vy' bytes l =
-          let is : got (choiceOf r) (drop (r .next) (bitsOf s)) ≡ here = rw (eq-eqb (r .refused) 0 z) at (f .found .is) in
+          let is : got (choiceFound r) (drop (r .next) (bitsOf s)) ≡ here = rw (eq-eqb (r .refused) 0 z) at (f .found .is) in
           record {
-            choice = choiceOf r;
+            choice = choiceFound r;
             is = is ∙ here-is;
             within = f .found .within;
-            slices = laid-is g k (choiceOf r) u (r .vectors) recon' vx' vy' (f .vectors-are) (l book codebook bytes (go .ok .copy));
+            slices = laid-is g k (choiceFound r) u (r .vectors) recon' vx' vy' (f .vectors-are) (l book codebook bytes (go .ok .copy));
           }

@@ -1,6 +1,6 @@
 -- The definitions that the contracts of this crate cite.
-pub mod Limits
-pub mod LimitsLaws
-pub mod Written
-pub mod WrittenLaws
+pub mod LimitForms
+pub mod LimitFormsLaws
+pub mod WrittenNeeds
+pub mod WrittenNeedsLaws
 pub mod MbWrittenLaws

@@ -8,12 +8,12 @@ use native.Mathlib.Omega.{arith}
 use native.Mathlib.Nat.{mul-le-mul}
 use lib.ListN.{length}
 use Rattle.bits.specs.Basics.{All, Bytes}
-use Rattle.codebook.specs.RaisedLaws.{raised-length}
+use Rattle.codebook.specs.CodebookFormsLaws.{raised-length}
 use Rattle.mv_cache.specs.Neighbours.{Near}
 use Rattle.mv_cache.specs.NeighboursLaws.{Around, around}
-use Rattle.tree.specs.Nodes.{treeOf}
+use Rattle.tree.specs.NodeForms.{treeOf}
 use Rattle.plan.specs.SoundLaws.{plan-sound}
-use Rattle.tree.specs.Walk.{SoundTree}
+use Rattle.tree.specs.WalkNeeds.{SoundTree}
 use Rattle.macroblock_choice.specs.declared.svq1_enc_inter.inner.candidates.MbCandidate.{MbCandidate}
 use Rattle.canvas.specs.Canvas.{largestSide, blocksAlong}
 use Rattle.canvas.specs.declared.svq1_plane.Svq1PlaneCanvas.{Svq1PlaneCanvas}
@@ -24,20 +24,20 @@ use Rattle.bits.specs.ListLaws.{all-map}
 use Rattle.macroblock.specs.MacroblockLaws.{Fine, Good, tried-good, Codables, planned-for, motions-codable}
 use Rattle.macroblock.specs.LimitLaws.{skip-fits}
 use Rattle.macroblock.specs.Choice.{Task, planningFor, motionsTried, tried, weightOf}
-use Rattle.macroblock.specs.Motions.{motionOf}
+use Rattle.macroblock.specs.MotionForms.{motionOf}
 use Rattle.macroblock.specs.Slices.{Slices, slicesBy, xSlice, ySlice, near}
-use Rattle.macroblock.specs.Inner.{givenBy}
-use Rattle.macroblock.specs.InnerLaws.{fits, book-passes, stands, vectors-held, recon-held}
-use Rattle.macroblock_choice.specs.Candidates.{skips, choiceOf, codedFor}
+use Rattle.macroblock.specs.MacroblockNeeds.{givenBy}
+use Rattle.macroblock.specs.MacroblockNeedsLaws.{fits, book-passes, stands, vectors-held, recon-held}
+use Rattle.macroblock_choice.specs.CandidateNeeds.{skips, choiceOf, codedFor}
 use Rattle.macroblock_choice.specs.RoomLaws.{room-one, room-limit}
-use Rattle.macroblock_choice.specs.CandidatesLaws.{choice-of-book}
-use Rattle.macroblock_enc.specs.WrittenLaws.{is-coded}
+use Rattle.macroblock_choice.specs.CandidateNeedsLaws.{choice-of-book}
+use Rattle.macroblock_enc.specs.WrittenNeedsLaws.{is-coded}
 use Rattle.macroblock_enc.specs.declared.svq1_enc_inter.inner.writing.WrittenMb.{WrittenMb}
 use Rattle.macroblock_enc.specs.declared.svq1_enc_inter.inner.limit.BitLimit.{BitLimit}
-use Rattle.macroblock_enc.specs.Limits.{limitOf, roomOf, Reserving, Spends}
-use Rattle.macroblock_enc.specs.LimitsLaws.{reserved, allows}
-use Rattle.macroblock_enc.specs.Written.{Codes, LayReady, WriteReady, CandidateWritten, CandidateLaid, MbReady, mbChoice, mbWeight, MbWritten}
-use Rattle.macroblock_choice.specs.Chosen.{taskIn, Sourced, ChosenBy}
+use Rattle.macroblock_enc.specs.LimitForms.{limitOf, roomUnder, Reserving, Spends}
+use Rattle.macroblock_enc.specs.LimitFormsLaws.{reserved, allows}
+use Rattle.macroblock_enc.specs.WrittenNeeds.{Codes, LayReady, WriteReady, CandidateWritten, CandidateLaid, MbReady, mbChoice, mbWeight, MbWritten}
+use Rattle.macroblock_choice.specs.ChosenNeeds.{taskIn, Sourced, ChosenBy}
 
 -- ---- what is chosen can be written
 module _ (g : Given) (t : Task) (ok : Fine g t) (k : ℕ) (n : Near) where
@@ -83,7 +83,7 @@ module _ (v : Svq1PlaneCanvas) (reference book codebook raised source : List ℕ
   all-fine : Fine g t
   all-fine = record { book = book-passes g raised (ready .ok); source-bytes = source-bytes; reference-bytes = reference-bytes }
 
-  module _ (n : Near) (en : n ≡ near g s k) (c : MbCandidate) (room : ℕ) (er : room ≡ roomOf limit spent (length (modeBits g Skip)) (rows g * cols g - k - 1)) (h : ChosenBy g t room k n c) where
+  module _ (n : Near) (en : n ≡ near g s k) (c : MbCandidate) (room : ℕ) (er : room ≡ roomUnder limit spent (length (modeBits g Skip)) (rows g * cols g - k - 1)) (h : ChosenBy g t room k n c) where
     codes-it : Codes n (choiceOf c)
     codes-it = rw (h .is) (room-one g t all-fine k n room (Codes n) (tried-codes g t all-fine k n))
 

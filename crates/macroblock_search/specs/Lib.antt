@@ -1,5 +1,5 @@
 -- The definitions that the contracts of this crate cite; the laws that callers cite stand in the files named `..Laws`.
-pub mod Searches
-pub mod SearchesLaws
-pub mod Target
-pub mod TargetLaws
+pub mod SearchNeeds
+pub mod SearchNeedsLaws
+pub mod TargetForms
+pub mod TargetFormsLaws

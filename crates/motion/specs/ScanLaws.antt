@@ -15,8 +15,8 @@ use Rattle.motion.specs.declared.svq1_enc_inter.inner.Spot.{Spot}
 use Rattle.motion.specs.declared.svq1_enc_inter.inner.Candidate.{Candidate}
 use Rattle.motion.specs.declared.svq1_enc_inter.inner.Span.{Span}
 use Rattle.motion.specs.Search.{Search, Best, nothing, consider, rowTo, rowsTo, fullAt, fullSearch, aroundTo, searchBest}
-use Rattle.motion.specs.Candidates.{lowered, loweredMv, spotSearch, codableUp, axisUp, shown, Held, fullUp, Spans, Clipped, refined}
-use Rattle.motion.specs.CandidatesLaws.{full-is, near-is, not-x, not-y, centre-is}
+use Rattle.motion.specs.CandidateForms.{lowered, loweredMv, spotSearch, codableUp, axisUp, bestSoFar, BestHeld, fullUp, Spans, Clipped, refined}
+use Rattle.motion.specs.CandidateFormsLaws.{full-is, near-is, not-x, not-y, centre-is}
 
 -- ---- steps that change nothing, over any of the scans: f after the first n steps of a scan
 module _ (f : ℕ → Best) (idle : ℕ → Type 0) (step : (k : ℕ) → idle k → f (suc k) ≡ f k) where
@@ -75,8 +75,8 @@ module _ (t ref : List ℕ) (p : Spot) (small : p .radius ≤ 255) (px : 992 ≤
   unfolding rowTo
   row-next y f k = ap (λ (x : ℤ). consider g (record { x = x; y = y }) (rowTo g y f k)) (x-is k)
 
-  pub row-more : (uy : ℕ) (f : Best) (k : ℕ) (b r : Candidate) → shown b ≡ rowTo g (lowered uy) f k
-      → shown r ≡ consider g (loweredMv (fullUp (p .px) (p .radius) k) uy) (shown b) → shown r ≡ rowTo g (lowered uy) f (k + 1)
+  pub row-more : (uy : ℕ) (f : Best) (k : ℕ) (b r : Candidate) → bestSoFar b ≡ rowTo g (lowered uy) f k
+      → bestSoFar r ≡ consider g (loweredMv (fullUp (p .px) (p .radius) k) uy) (bestSoFar b) → bestSoFar r ≡ rowTo g (lowered uy) f (k + 1)
   row-more uy f k b r e q =
       rw add-one (q ∙ ap (consider g (loweredMv (fullUp (p .px) (p .radius) k) uy)) e ∙ sym (row-next (lowered uy) f k))
 
@@ -103,8 +103,8 @@ module _ (t ref : List ℕ) (p : Spot) (small : p .radius ≤ 255) (px : 992 ≤
   unfolding rowsTo spotSearch
   rows-next f k = ap (λ (y : ℤ). rowTo g y (rowsTo g f k) (2 * p .radius + 1)) (y-is k)
 
-  pub rows-more : (f : Best) (k : ℕ) (b r : Candidate) → shown b ≡ rowsTo g f k
-      → shown r ≡ rowTo g (lowered (fullUp (p .py) (p .radius) k)) (shown b) (2 * p .radius + 1) → shown r ≡ rowsTo g f (k + 1)
+  pub rows-more : (f : Best) (k : ℕ) (b r : Candidate) → bestSoFar b ≡ rowsTo g f k
+      → bestSoFar r ≡ rowTo g (lowered (fullUp (p .py) (p .radius) k)) (bestSoFar b) (2 * p .radius + 1) → bestSoFar r ≡ rowsTo g f (k + 1)
   rows-more f k b r e q =
       rw add-one (q ∙ ap (λ (h : Best). rowTo g (lowered (fullUp (p .py) (p .radius) k)) h (2 * p .radius + 1)) e ∙ sym (rows-next f k))
 
@@ -127,13 +127,13 @@ pub around-none : (g : Search) (v : Svq1Mv) (f : Best) → f ≡ aroundTo g v f 
 unfolding aroundTo
 around-none g v f = refl
 
-module _ (g : Search) (f : Best) (c : Candidate) (k : ℕ) (b r : Candidate) (so-far : shown b ≡ aroundTo g (loweredMv (c .ux) (c .uy)) f k) where
-  around-skip : k ≡ 4 → shown b ≡ aroundTo g (loweredMv (c .ux) (c .uy)) f (k + 1)
+module _ (g : Search) (f : Best) (c : Candidate) (k : ℕ) (b r : Candidate) (so-far : bestSoFar b ≡ aroundTo g (loweredMv (c .ux) (c .uy)) f k) where
+  around-skip : k ≡ 4 → bestSoFar b ≡ aroundTo g (loweredMv (c .ux) (c .uy)) f (k + 1)
   unfolding aroundTo
   around-skip q = rw add-one (so-far ∙ simp (eq-eqb k 4 q))
 
-  around-more : (ux uy : ℕ) → (k ≡ 4 → ⊥) → ux + 1 ≡ c .ux + k % 3 → uy + 1 ≡ c .uy + k / 3 → shown r ≡ consider g (loweredMv ux uy) (shown b)
-      → shown r ≡ aroundTo g (loweredMv (c .ux) (c .uy)) f (k + 1)
+  around-more : (ux uy : ℕ) → (k ≡ 4 → ⊥) → ux + 1 ≡ c .ux + k % 3 → uy + 1 ≡ c .uy + k / 3 → bestSoFar r ≡ consider g (loweredMv ux uy) (bestSoFar b)
+      → bestSoFar r ≡ aroundTo g (loweredMv (c .ux) (c .uy)) f (k + 1)
   unfolding aroundTo
   around-more ux uy q hx hy w =
       let rest : Best = aroundTo g (loweredMv (c .ux) (c .uy)) f k in
@@ -143,22 +143,22 @@ module _ (g : Search) (f : Best) (c : Candidate) (k : ℕ) (b r : Candidate) (so
       ∙ ap (λ (y : ℤ). consider g (record { x = lowered (c .ux) +ℤ subℕ (k % 3) 1; y = y }) rest) (sym (near-is (c .uy) (k / 3) uy hy))
       ∙ simp (ne-eqb k 4 q))
 
-  pub around-step : Held c → (k ≡ 4 → r ≡ b)
-      → ((k ≡ 4 → ⊥) → shown r ≡ consider g (loweredMv (c .ux + k % 3 - 1) (c .uy + k / 3 - 1)) (shown b))
-      → shown r ≡ aroundTo g (loweredMv (c .ux) (c .uy)) f (k + 1)
+  pub around-step : BestHeld c → (k ≡ 4 → r ≡ b)
+      → ((k ≡ 4 → ⊥) → bestSoFar r ≡ consider g (loweredMv (c .ux + k % 3 - 1) (c .uy + k / 3 - 1)) (bestSoFar b))
+      → bestSoFar r ≡ aroundTo g (loweredMv (c .ux) (c .uy)) f (k + 1)
   around-step h same more = go (eqb k 4) refl
     where
-      go : (t : Bool) → eqb k 4 ≡ t → shown r ≡ aroundTo g (loweredMv (c .ux) (c .uy)) f (k + 1)
-      go true q = let z = eqb-true k 4 q in ap shown (same z) ∙ around-skip z
+      go : (t : Bool) → eqb k 4 ≡ t → bestSoFar r ≡ aroundTo g (loweredMv (c .ux) (c .uy)) f (k + 1)
+      go true q = let z = eqb-true k 4 q in ap bestSoFar (same z) ∙ around-skip z
       go false q =
           let z = eqb-false k 4 q in
           around-more (c .ux + k % 3 - 1) (c .uy + k / 3 - 1) z (omega (arith, h)) (omega (arith, h)) (more z)
 
-pub around-all : (g : Search) (c r : Candidate) → Held c → shown r ≡ aroundTo g (loweredMv (c .ux) (c .uy)) (shown c) 9 → shown r ≡ refined g (shown c)
-around-all g c r h e = e ∙ ap (λ (v : Svq1Mv). aroundTo g v (shown c) 9) (sym (centre-is c h))
+pub around-all : (g : Search) (c r : Candidate) → BestHeld c → bestSoFar r ≡ aroundTo g (loweredMv (c .ux) (c .uy)) (bestSoFar c) 9 → bestSoFar r ≡ refined g (bestSoFar c)
+around-all g c r h e = e ∙ ap (λ (v : Svq1Mv). aroundTo g v (bestSoFar c) 9) (sym (centre-is c h))
 
 -- ---- the whole
-pub whole : (g : Search) (z f r : Candidate) → shown z ≡ consider g (loweredMv 1024 1024) nothing → shown f ≡ rowsTo g (shown z) (2 * g .radius + 1)
-    → shown r ≡ refined g (shown f) → shown r ≡ searchBest g
+pub whole : (g : Search) (z f r : Candidate) → bestSoFar z ≡ consider g (loweredMv 1024 1024) nothing → bestSoFar f ≡ rowsTo g (bestSoFar z) (2 * g .radius + 1)
+    → bestSoFar r ≡ refined g (bestSoFar f) → bestSoFar r ≡ searchBest g
 unfolding searchBest fullSearch
 whole g z f r a b c = c ∙ ap (refined g) (b ∙ ap (λ (w : Best). rowsTo g w (2 * g .radius + 1)) a)

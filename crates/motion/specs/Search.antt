@@ -109,10 +109,10 @@ searchRefusal g =
     (orElse (canvasRefusal (g .width) (g .height) (g .reference)) (unless (searchOk g) 9))
 
 -- 23: no vector tried is codable and in the window
-abbrev pub foundAnswer : Option Svq1Mv → Answer Svq1Mv
-foundAnswer none = refused 23
-foundAnswer (some v) = done v
+abbrev pub vectorAnswer : Option Svq1Mv → Answer Svq1Mv
+vectorAnswer none = refused 23
+vectorAnswer (some v) = done v
 
 -- the search as a call
 unfoldable pub searchAnswer : Search → Answer Svq1Mv
-searchAnswer g = unlessRefused (searchRefusal g) (foundAnswer (searched g))
+searchAnswer g = unlessRefused (searchRefusal g) (vectorAnswer (searched g))

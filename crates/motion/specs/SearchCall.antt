@@ -8,7 +8,7 @@ use Rattle.bits.specs.Calls.{Answer, done, refused}
 use Rattle.vectors.specs.declared.svq1_motion_predictor.Svq1Mv.{Svq1Mv}
 use Rattle.motion.specs.declared.svq1_enc_inter.Searched.{Searched}
 use Rattle.motion.specs.declared.svq1_enc_inter.Searched.the-variants.{Vector, Refused}
-use Rattle.motion.specs.Candidates.{lowered}
+use Rattle.motion.specs.CandidateForms.{lowered}
 
 -- the vector, or the number of the refusal
 abbrev pub searchedAnswer : Searched → Answer Svq1Mv
@@ -20,8 +20,8 @@ abbrev pub eitherSide : ℕ → Bool
 eitherSide side = eqb side 8 || eqb side 16
 
 -- not refused by 9 for its side, its place or the length of its target
-abbrev pub blockOk : ℕ → ℕ → ℕ → ℕ → ℕ → ℕ → Bool
-blockOk len side x y stride rows = (eitherSide side && (eqb (x % side) 0 && eqb (y % side) 0)) && ((ltb x stride && ltb y rows) && eqb len (side * side))
+abbrev pub searchBlockOk : ℕ → ℕ → ℕ → ℕ → ℕ → ℕ → Bool
+searchBlockOk len side x y stride rows = (eitherSide side && (eqb (x % side) 0 && eqb (y % side) 0)) && ((ltb x stride && ltb y rows) && eqb len (side * side))
 
 -- a component in -32..31, raised by 1024
 pub record Raised (z : ℤ) (u : ℕ) : Type 0 where

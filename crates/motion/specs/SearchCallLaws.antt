@@ -16,10 +16,10 @@ use Rattle.vectors.specs.Vectors.{inRange}
 use Rattle.vectors.specs.VectorsLaws.{InRange, range-pos, range-neg}
 use Rattle.canvas.specs.CanvasLaws.{Fitting, plane-passes}
 use Rattle.canvas.specs.Canvas.{Canvas, largestSide, padded16, sizeRefusal, canvasRefusal}
-use Rattle.motion.specs.Search.{Search, searchOk, searchRefusal, searchBest, vectorOf, searched, foundAnswer, searchAnswer}
-use Rattle.compensation.specs.Rows.{Sides}
-use Rattle.motion.specs.Candidates.{spotSearch, Ready}
-use Rattle.motion.specs.SearchCall.{eitherSide, blockOk, Raised}
+use Rattle.motion.specs.Search.{Search, searchOk, searchRefusal, searchBest, vectorOf, searched, vectorAnswer, searchAnswer}
+use Rattle.compensation.specs.RowForms.{Sides}
+use Rattle.motion.specs.CandidateForms.{spotSearch, MotionReady}
+use Rattle.motion.specs.SearchCall.{eitherSide, searchBlockOk, Raised}
 
 -- ---- components
 -- raised by 1024
@@ -57,7 +57,7 @@ module _ (g : Search) where
   plane = orElse (sizeRefusal (g .width) (g .height)) (canvasRefusal (g .width) (g .height) (g .reference))
 
   abbrev block : Bool
-  block = blockOk (length (g .target)) (g .side) (g .x) (g .y) (g .reference .stride) (g .reference .rows)
+  block = searchBlockOk (length (g .target)) (g .side) (g .x) (g .y) (g .reference .stride) (g .reference .rows)
 
   abbrev vector : Bool
   vector = inRange (g .predictor .x) && inRange (g .predictor .y)
@@ -166,7 +166,7 @@ module _ (g : Search) (ux uy : ℕ) (a : Raised (g .predictor .x) ux) (b : Raise
     radius = g .radius;
   }
 
-  pub ready : searchRefusal g ≡ 0 → g .radius ≤ 255 → Ready (g .target) (g .reference .samples) (spotOf g ux uy)
+  pub ready : searchRefusal g ≡ 0 → g .radius ≤ 255 → MotionReady (g .target) (g .reference .samples) (spotOf g ux uy)
   ready e small =
       let s = passes g e in
       record {
@@ -192,7 +192,7 @@ pub answer-refused : (g : Search) (n : ℕ) → n ≡ searchRefusal g → (n ≡
 unfolding searchAnswer
 answer-refused g n e h = rw e (simp (ne-eqb (searchRefusal g) 0 (λ q. h (e ∙ q))))
 
-pub answer-found : (g : Search) → searchRefusal g ≡ 0 → foundAnswer (vectorOf (searchBest g)) ≡ searchAnswer g
+pub answer-found : (g : Search) → searchRefusal g ≡ 0 → vectorAnswer (vectorOf (searchBest g)) ≡ searchAnswer g
 unfolding searchAnswer searched
 answer-found g e = simp (eq-eqb (searchRefusal g) 0 e)
 
@@ -223,6 +223,6 @@ not-refused g s =
     let v : vector g ≡ true = simp (s .px, s .py) in
     sym (by-none g (fits-plane (g .width) (g .height) (g .reference) (s .fits)) b v)
 
-pub answer-searched : (g : Search) → Passes g → searchAnswer g ≡ foundAnswer (searched g)
+pub answer-searched : (g : Search) → Passes g → searchAnswer g ≡ vectorAnswer (searched g)
 unfolding searchAnswer
 answer-searched g s = simp (eq-eqb (searchRefusal g) 0 (not-refused g s))

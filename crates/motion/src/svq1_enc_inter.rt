@@ -5,9 +5,9 @@ ghost use mathlib.Core.Bool.{_&&_};
 ghost use Prim.Native.Nat.{_≤_};
 ghost use Rattle.vectors.specs.Vectors.{inRange};
 ghost use Rattle.vectors.specs.VectorsLaws.{InRange};
-ghost use Rattle.motion.specs.Search.{vectorOf, foundAnswer, searchRefusal, searchAnswer};
-ghost use Rattle.motion.specs.Candidates.{lowered, shown, Held};
-ghost use Rattle.motion.specs.SearchCall.{searchedAnswer, eitherSide, blockOk, Raised};
+ghost use Rattle.motion.specs.Search.{vectorOf, vectorAnswer, searchRefusal, searchAnswer};
+ghost use Rattle.motion.specs.CandidateForms.{lowered, bestSoFar, BestHeld};
+ghost use Rattle.motion.specs.SearchCall.{searchedAnswer, eitherSide, searchBlockOk, Raised};
 use super::svq1_enc_inter::inner::Candidate;
 use super::svq1_enc_inter::inner::Spot;
 use super::svq1_enc_inter::inner::search_best;
@@ -27,7 +27,7 @@ fn either_side(side: usize) -> bool
 }
 
 fn block_ok(len: usize, side: usize, x: usize, y: usize, stride: usize, rows: usize) -> bool
-    ensures { λ r. ⌜ r ≡ blockOk len side x y stride rows ⌝ }
+    ensures { λ r. ⌜ r ≡ searchBlockOk len side x y stride rows ⌝ }
 {
     if !either_side(side) {
         return false;
@@ -106,8 +106,8 @@ fn lower(u: usize) -> i32
 }
 
 fn answered(b: Candidate) -> Searched
-    requires { ⌜ Held b ⌝ }
-    ensures { λ r. ⌜ searchedAnswer r ≡ foundAnswer (vectorOf (shown b)) ⌝ }
+    requires { ⌜ BestHeld b ⌝ }
+    ensures { λ r. ⌜ searchedAnswer r ≡ vectorAnswer (vectorOf (bestSoFar b)) ⌝ }
 {
     if b.error < 65536 {
         let x = lower(b.ux);

@@ -4,5 +4,5 @@ pub mod GridLaws
 pub mod PutLaws
 pub mod Neighbours
 pub mod NeighboursLaws
-pub mod Cache
-pub mod CacheLaws
+pub mod CacheNeeds
+pub mod CacheNeedsLaws

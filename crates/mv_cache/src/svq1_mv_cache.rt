@@ -2,7 +2,7 @@ pub mod inner;
 
 ghost use mathlib.Core.Path.{_≡_};
 ghost use Rattle.mv_cache.specs.Neighbours.{forOne, forFirst, forSecond, forThird, forFourth};
-ghost use Rattle.mv_cache.specs.Cache.{nearFrom};
+ghost use Rattle.mv_cache.specs.CacheNeeds.{nearFrom};
 use vectors::svq1_motion_predictor::Neighbour;
 use vectors::svq1_motion_predictor::Svq1Mv;
 use vectors::svq1_motion_predictor::predict;

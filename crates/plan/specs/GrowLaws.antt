@@ -9,10 +9,10 @@ use lib.ListN.{set, replicate}
 use lib.Seq.{append-snoc, set-at}
 use Rattle.bits.specs.Basics.{pick, All}
 use Rattle.tree.specs.Blocks.{blockCount}
-use Rattle.tree.specs.Nodes.{nodeOf, treeOf, offBlock, CleanBlock}
+use Rattle.tree.specs.NodeForms.{nodeOf, treeOf, offBlock, CleanBlock}
 use Rattle.tree.specs.TreeBits.{Node, Off, reached, grow}
 use Rattle.tree.specs.TreeLaws.{length-grow}
-use Rattle.tree.specs.WalkLaws.{tree-set, reached-front}
+use Rattle.tree.specs.WalkNeedsLaws.{tree-set, reached-front}
 use Rattle.tree.specs.declared.svq1_enc_tree.Block.{Block}
 use Rattle.bits.specs.ListLaws.{all-set, all-repeat}
 

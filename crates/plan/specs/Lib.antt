@@ -3,11 +3,11 @@ pub mod PlanLaws
 pub mod ChoiceLaws
 pub mod PlanClaim
 pub mod PlanClaimLaws
-pub mod Planned
-pub mod PlannedLaws
+pub mod PlannedForms
+pub mod PlannedFormsLaws
 pub mod GrowLaws
-pub mod Planning
-pub mod PlanningLaws
+pub mod PlanNeeds
+pub mod PlanNeedsLaws
 pub mod SoundLaws
-pub mod FrontLaws
-pub mod Front
+pub mod FrontNeedsLaws
+pub mod FrontNeeds

@@ -14,7 +14,7 @@ use Rattle.plan.specs.PlanClaimLaws.{Planned, allowed}
 use Rattle.tree_samples.specs.ShownLaws.{allowed-sound}
 use Rattle.tree.specs.TreeBits.{Node, Off, Split, Ends, reached, grow, planTree}
 use Rattle.tree.specs.TreeLaws.{length-grow, grown}
-use Rattle.tree.specs.Walk.{SoundNode, SoundTree}
+use Rattle.tree.specs.WalkNeeds.{SoundNode, SoundTree}
 
 module _ (g : Planning) (p : Planned g) where
   choice-sound : (i : ℕ) (f : Bool) → SoundNode (g .tables .half) (level i) (pick f Split (Ends (leafAt g i)))

@@ -12,10 +12,10 @@ use Rattle.leaf_call.specs.LeafAnswer.{Searchable}
 use Rattle.leaf.specs.LeafCall.{BlockIn}
 use Rattle.leaf.specs.declared.svq1_enc_leaf.LeafTerms.{LeafTerms}
 use Rattle.tree.specs.Blocks.{blockCount}
-use Rattle.tree.specs.Nodes.{treeOf, offBlock, CleanBlock}
+use Rattle.tree.specs.NodeForms.{treeOf, offBlock, CleanBlock}
 use Rattle.plan.specs.PlanClaim.{PlanClaim}
-use Rattle.plan.specs.Planned.{weight}
-use Rattle.plan.specs.Planning.{planningIn, PlanFound}
+use Rattle.plan.specs.PlannedForms.{weight}
+use Rattle.plan.specs.PlanNeeds.{planningIn, PlanFound}
 use Rattle.tree.specs.TreeBits.{PlanMade, planAnswer, planTree, treeShown}
 use Rattle.plan.specs.declared.svq1_enc_tree.MbPlan.{MbPlan}
 use Rattle.plan_call.specs.declared.svq1_enc_tree.PlanAnswer.{PlanAnswer}

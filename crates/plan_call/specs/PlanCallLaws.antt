@@ -12,18 +12,18 @@ use Rattle.codebook.specs.Codebook.{vectorAt}
 use Rattle.leaf.specs.LeafCall.{BlockIn, termsOf, blockRefusal}
 use Rattle.leaf.specs.declared.svq1_enc_leaf.LeafTerms.{LeafTerms}
 use Rattle.leaf_call.specs.LeafAnswerLaws.{block-passes, drop-replicate}
-use Rattle.codebook.specs.Raised.{raisedCodebook}
-use Rattle.codebook.specs.RaisedLaws.{raised-length}
+use Rattle.codebook.specs.CodebookForms.{raisedCodebook}
+use Rattle.codebook.specs.CodebookFormsLaws.{raised-length}
 use Rattle.tree.specs.Blocks.{blockCount}
 use Rattle.tree.specs.GeometryLaws.{area-most}
 use Rattle.tree.specs.Plan.{Planning}
-use Rattle.plan.specs.Planning.{PlanReady, planningIn, PlanFound}
-use Rattle.plan.specs.PlanningLaws.{plan-ready}
+use Rattle.plan.specs.PlanNeeds.{PlanReady, planningIn, PlanFound}
+use Rattle.plan.specs.PlanNeedsLaws.{plan-ready}
 use Rattle.tree_samples.specs.ShownLaws.{rebuilt-shown}
 use Rattle.tree.specs.TreeBits.{treeShown, planMade, planAnswer}
-use Rattle.tree.specs.Nodes.{treeOf, offBlock, CleanBlock}
-use Rattle.tree.specs.Walk.{SoundTree}
-use Rattle.plan.specs.Front.{FrontReady, FrontShown}
+use Rattle.tree.specs.NodeForms.{treeOf, offBlock, CleanBlock}
+use Rattle.tree.specs.WalkNeeds.{SoundTree}
+use Rattle.plan.specs.FrontNeeds.{FrontReady, FrontShown}
 use Rattle.plan_call.specs.PlanCall.{Plannable, PlanShown, refusedPlan, PlanAnswered}
 use Rattle.plan.specs.declared.svq1_enc_tree.MbPlan.{MbPlan}
 use Rattle.bits.specs.ListLaws.{all-repeat}

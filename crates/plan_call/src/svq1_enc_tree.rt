@@ -4,11 +4,11 @@ ghost use Rattle.plan_call.specs.PlanCall.{refusedPlan, Plannable, PlanS
 use book::inner::CODEBOOK_BYTES;
 use codebook::svq1_codebook::inner::raise_codebook;
 use leaf::svq1_enc_leaf::LeafTerms;
-use leaf_call::svq1_enc_leaf::inner::terms_of;
 use leaf_call::svq1_enc_leaf::block_refusal;
+use leaf_call::svq1_enc_leaf::inner::terms_of;
+use plan::svq1_enc_tree::MbPlan;
 use plan::svq1_enc_tree::inner::plan;
 use plan::svq1_enc_tree::inner::plan_reconstruction;
-use plan::svq1_enc_tree::MbPlan;
 use tree::svq1_enc_tree::Block;
 use tree::svq1_enc_tree::TreeNode;
 

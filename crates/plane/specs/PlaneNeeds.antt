@@ -3,13 +3,13 @@ use Prim.Native.Nat.{ℕ, _≤_}
 use mathlib.Core.List.{List}
 use mathlib.Core.Path.{_≡_}
 use lib.ListN.{length}
-use Rattle.bits.specs.Inner.{Fits}
+use Rattle.bits.specs.BitNeeds.{Fits}
 use Rattle.book.specs.Book.{dataRefusal}
 use Rattle.canvas.specs.Canvas.{largestSide, padded16, sizeRefusal, canvasRefusal}
 use Rattle.canvas.specs.declared.svq1_plane.Svq1PlaneCanvas.{Svq1PlaneCanvas}
 use Rattle.macroblock.specs.Macroblock.{Given}
 use Rattle.macroblock.specs.Slices.{Slices, BlockSlice, blocksIn}
-use Rattle.macroblock.specs.Inner.{Accepted, Held}
+use Rattle.macroblock.specs.MacroblockNeeds.{Accepted, Held}
 
 -- a size that passes, and the canvas rounded up from it
 pub record Padded (c : Svq1PlaneCanvas) : Type 0 where

@@ -12,15 +12,15 @@ use borrow.Author.Tests.{eq-eqb, ne-eqb, eqb-true, leb-true, le-leb, lt-leb}
 use Rattle.bits.specs.Basics.{All, orElse, firstOf}
 use Rattle.bits.specs.BasicsLaws.{both-true, or-next, unless-none, first-passed, first-last, chain-passed, first-none}
 use Rattle.bits.specs.Calls.{startRefusal}
-use Rattle.bits.specs.Inner.{Fits}
+use Rattle.bits.specs.BitNeeds.{Fits}
 use Rattle.book.specs.Book.{dataRefusal}
 use Rattle.canvas.specs.Canvas.{Canvas, largestSide, blocksAlong, padded16, sizeRefusal, canvasRefusal, canvasLinks, sourceLinks}
 use Rattle.canvas.specs.CanvasLaws.{Fitting, plane-passes}
 use Rattle.canvas.specs.declared.svq1_plane.Svq1PlaneCanvas.{Svq1PlaneCanvas}
 use Rattle.macroblock.specs.Macroblock.{Given, cols, rows}
 use Rattle.macroblock.specs.Slices.{Slices, BlockSlice, xSlice, ySlice, blocksIn}
-use Rattle.macroblock.specs.Inner.{givenBy, Accepted, Held}
-use Rattle.macroblock.specs.InnerLaws.{fits}
+use Rattle.macroblock.specs.MacroblockNeeds.{givenBy, Accepted, Held}
+use Rattle.macroblock.specs.MacroblockNeedsLaws.{fits}
 use Rattle.plane.specs.declared.svq1_plane.inner.SliceLengths.{SliceLengths}
 use Rattle.plane.specs.Plane.{count}
 use Rattle.plane.specs.Refusals.{lengthsOf, lengthsRefusal, slicesRefusal, lentLinks, writeRefusalBy, readRefusalBy, midPlane}

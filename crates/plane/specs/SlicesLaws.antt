@@ -11,8 +11,8 @@ use Rattle.mv_cache.specs.GridLaws.{Agree, Holds, agree-put, in-owner, put-past
 use Rattle.mv_cache.specs.NeighboursLaws.{near-same, Ranged, ranged-put}
 use Rattle.macroblock.specs.Macroblock.{Given, cols, rows, Choice, vectorsOf, shown}
 use Rattle.macroblock.specs.Slices.{Slices, BlockSlice, xSlice, ySlice, blocksIn, storedIn, near, laid}
-use Rattle.macroblock.specs.Inner.{Held}
-use Rattle.macroblock.specs.InnerLaws.{four-each}
+use Rattle.macroblock.specs.MacroblockNeeds.{Held}
+use Rattle.macroblock.specs.MacroblockNeedsLaws.{four-each}
 use Rattle.macroblock.specs.LayLaws.{laid-recon, laid-blocks, recon-kept, blocks-kept, stored-ranged}
 use Rattle.plane.specs.Plane.{count}
 use Rattle.plane.specs.PlaneNeeds.{SameLengths}

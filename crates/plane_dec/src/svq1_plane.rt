@@ -1,10 +1,10 @@
 // The plane reader.
 pub mod inner;
 
-ghost use Rattle.macroblock.specs.Inner.{givenBy};
+ghost use Rattle.macroblock.specs.MacroblockNeeds.{givenBy};
 ghost use Rattle.macroblock.specs.Slices.{slicesBy};
 ghost use Rattle.plane.specs.Calls.{PlaneRead};
-ghost use Rattle.plane_dec.specs.Reader.{endOf};
+ghost use Rattle.plane_dec.specs.ReaderNeeds.{readEndOf};
 use super::svq1_plane::inner::read_accepted;
 use super::svq1_plane::inner::read_refusal;
 use canvas::svq1_plane::Svq1PlaneCanvas;
@@ -31,7 +31,7 @@ pub fn decode_inter_plane(
     vx: &mut [u8],
     vy: &mut [u8],
 ) -> ReadEnd
-    ensures { λ r. ⌜ PlaneRead (givenBy canvas (now (reference .entry)) (now (book .entry)) (now (codebook .entry))) (now (bytes .entry)) start (slicesBy (now (recon .entry)) (now (vx .entry)) (now (vy .entry))) (endOf r) (slicesBy (now (recon .exit)) (now (vx .exit)) (now (vy .exit))) ⌝ }
+    ensures { λ r. ⌜ PlaneRead (givenBy canvas (now (reference .entry)) (now (book .entry)) (now (codebook .entry))) (now (bytes .entry)) start (slicesBy (now (recon .entry)) (now (vx .entry)) (now (vy .entry))) (readEndOf r) (slicesBy (now (recon .exit)) (now (vx .exit)) (now (vy .exit))) ⌝ }
 {
     let slices = SliceLengths {
         recon: recon.len(),

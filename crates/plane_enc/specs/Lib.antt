@@ -1,5 +1,5 @@
 -- The definitions that the contracts of this crate cite; the laws that callers cite stand in the files named `..Laws`.
-pub mod Writer
+pub mod WriterNeeds
 pub mod Stated
-pub mod WriterLaws
+pub mod WriterNeedsLaws
 pub mod StatedLaws

@@ -14,7 +14,7 @@ use Rattle.macroblock.specs.Slices.{Slices}
 use Rattle.plane_enc.specs.declared.svq1_enc_inter.WriteEnd.{WriteEnd}
 use Rattle.plane.specs.Plane.{StepStated, stepStated, writingAt}
 use Rattle.plane.specs.Calls.{PlaneAnswer, PlaneWritten}
-use Rattle.plane_enc.specs.Writer.{WrittenThrough}
+use Rattle.plane_enc.specs.WriterNeeds.{WrittenThrough}
 
 -- what a step states as three numbers: its mode's position in the mode table, its bits, its error
 abbrev pub threeOf : StepStated → List ℕ

@@ -14,10 +14,10 @@ use Rattle.macroblock.specs.Macroblock.{Given}
 use Rattle.macroblock.specs.Choice.{Task}
 use Rattle.macroblock.specs.Slices.{Slices, laid}
 use Rattle.macroblock_enc.specs.declared.svq1_enc_inter.inner.writing.WrittenMb.{WrittenMb}
-use Rattle.macroblock_enc.specs.Written.{MbWritten, mbChoice}
+use Rattle.macroblock_enc.specs.WrittenNeeds.{MbWritten, mbChoice}
 use Rattle.plane.specs.Run.{after}
 use Rattle.plane.specs.Plane.{written, stepStated, writingAt}
-use Rattle.plane_enc.specs.WriterLaws.{fits-if}
+use Rattle.plane_enc.specs.WriterNeedsLaws.{fits-if}
 use Rattle.plane_enc.specs.Stated.{threeOf, statedTo, statedIn, told, Telling}
 
 -- ---- three numbers in a list

@@ -11,7 +11,7 @@ use Rattle.plane.specs.declared.svq1_plane.ReadEnd.{ReadEnd}
 use Rattle.replay.specs.declared.inner.file.Job.{Job}
 use Rattle.replay.specs.declared.inner.compare.Difference.{Difference}
 use Rattle.replay.specs.declared.inner.compare.Difference.the-variants.{Same, Refusal, Done, Next, Count, Bits, Steps, Samples, X, Y}
-use Rattle.replay.specs.Layout.{partOf, numberOf, bytesFor}
+use Rattle.replay.specs.Layout.{partIn, numberIn, bytesFor}
 
 abbrev pub isSame : Difference → Bool
 isSame Same = true
@@ -27,13 +27,13 @@ isSame Y = false
 
 -- the first n bytes of a list are those at a place of the file
 abbrev pub samePart : List ℕ → List ℕ → ℕ → ℕ → Bool
-samePart own file at n = same (partOf own 0 n) (partOf file at n)
+samePart own file at n = same (partIn own 0 n) (partIn file at n)
 
 -- macroblock k states the same: mode, bits and error stand in 1, 2 and 4 bytes of the original's steps, and are three of our numbers
 unfoldable pub sameStep : List ℕ → List ℕ → ℕ → Bool
 sameStep t s k =
-    pick (eqb (numberOf (partOf t (7 * k) 1)) (getD s (3 * k) 0))
-    (pick (eqb (numberOf (partOf t (7 * k + 1) 2)) (getD s (3 * k + 1) 0)) (eqb (numberOf (partOf t (7 * k + 3) 4)) (getD s (3 * k + 2) 0)) false)
+    pick (eqb (numberIn (partIn t (7 * k) 1)) (getD s (3 * k) 0))
+    (pick (eqb (numberIn (partIn t (7 * k + 1) 2)) (getD s (3 * k + 1) 0)) (eqb (numberIn (partIn t (7 * k + 3) 4)) (getD s (3 * k + 2) 0)) false)
     false
 
 -- the first n macroblocks do
@@ -57,7 +57,7 @@ slicesDiffer f size j recon vx vy =
 unfoldable pub codedDiffer : List ℕ → ℕ → Job → List ℕ → List ℕ → Difference → Difference
 codedDiffer f size j out stated rest =
     let blocks = size / 256 in
-    pick (samePart out f (j .bits) (bytesFor (j .count))) (pick (sameSteps (partOf f (j .steps) (7 * blocks)) stated blocks) rest Steps) Bits
+    pick (samePart out f (j .bits) (bytesFor (j .count))) (pick (sameSteps (partIn f (j .steps) (7 * blocks)) stated blocks) rest Steps) Bits
 
 -- of the writer's answer
 unfoldable pub writtenDiffer : ℕ → ℕ → WriteEnd → Difference → Difference

@@ -11,7 +11,7 @@ use lib.Dec.{eqb}
 use lib.ListN.{getD}
 use borrow.Author.Tests.{eq-eqb, ne-eqb}
 use Rattle.bits.specs.Basics.{pick}
-use Rattle.replay.specs.Layout.{partOf, numberOf}
+use Rattle.replay.specs.Layout.{partIn, numberIn}
 use Rattle.replay.specs.Compare.{sameStep, sameSteps, modesIn}
 
 both-on : (a b : Bool) → a ≡ true → b ≡ true → (a && b) ≡ true
@@ -51,16 +51,16 @@ module _ (s : List ℕ) (mode : ℕ) where
   unfolding modesIn
   modes-more k c x e f = rw (add-one k, e, f)
 
-module _ (t s : List ℕ) (k a b c x y z : ℕ) (mode : a ≡ numberOf (partOf t (7 * k) 1)) (told-mode : x ≡ getD s (3 * k) 0) where
+module _ (t s : List ℕ) (k a b c x y z : ℕ) (mode : a ≡ numberIn (partIn t (7 * k) 1)) (told-mode : x ≡ getD s (3 * k) 0) where
   pub mode-differs : (a ≡ x → ⊥) → false ≡ sameStep t s k
   unfolding sameStep
   mode-differs n = rw (← mode, ← told-mode, ne-eqb a x n)
 
-  module _ (same-mode : a ≡ x) (bits : b ≡ numberOf (partOf t (7 * k + 1) 2)) (told-bits : y ≡ getD s (3 * k + 1) 0) where
+  module _ (same-mode : a ≡ x) (bits : b ≡ numberIn (partIn t (7 * k + 1) 2)) (told-bits : y ≡ getD s (3 * k + 1) 0) where
     pub bits-differ : (b ≡ y → ⊥) → false ≡ sameStep t s k
     unfolding sameStep
     bits-differ n = rw (← mode, ← told-mode, eq-eqb a x same-mode, ← bits, ← told-bits, ne-eqb b y n)
 
-    pub error-decides : b ≡ y → c ≡ numberOf (partOf t (7 * k + 3) 4) → z ≡ getD s (3 * k + 2) 0 → eqb c z ≡ sameStep t s k
+    pub error-decides : b ≡ y → c ≡ numberIn (partIn t (7 * k + 3) 4) → z ≡ getD s (3 * k + 2) 0 → eqb c z ≡ sameStep t s k
     unfolding sameStep
     error-decides e error told-error = rw (← mode, ← told-mode, eq-eqb a x same-mode, ← bits, ← told-bits, eq-eqb b y e, error, told-error)

@@ -14,8 +14,8 @@ use Rattle.replay.specs.declared.inner.file.JobRead.{JobRead}
 use Rattle.replay.specs.declared.inner.file.JobRead.the-variants as job
 
 -- the n bytes at a place; none where they are not all there
-unfoldable pub partOf : List ℕ → ℕ → ℕ → List ℕ
-partOf t at n = pick (leb (at + n) (length t)) (take n (drop at t)) []
+unfoldable pub partIn : List ℕ → ℕ → ℕ → List ℕ
+partIn t at n = pick (leb (at + n) (length t)) (take n (drop at t)) []
 
 -- the number that bytes stand for, lowest first
 unfoldable pub little : List ℕ → ℕ
@@ -23,8 +23,8 @@ little [] = 0
 little (b ∷ t) = 256 * little t + b
 
 -- of at most eight bytes; more of them stand for 0
-unfoldable pub numberOf : List ℕ → ℕ
-numberOf t = pick (leb (length t) 8) (little t) 0
+unfoldable pub numberIn : List ℕ → ℕ
+numberIn t = pick (leb (length t) 8) (little t) 0
 
 -- how many bytes n bits take
 unfoldable pub bytesFor : ℕ → ℕ
@@ -38,8 +38,8 @@ abbrev pub mostSize : ℕ
 mostSize = 4096
 
 -- its macroblocks
-abbrev pub mostBlocks : ℕ
-mostBlocks = 16
+abbrev pub mostJobBlocks : ℕ
+mostJobBlocks = 16
 
 -- the first n bytes of what stands at a place are there
 abbrev pub Begun : ℕ → ℕ → ℕ → Type 0
@@ -66,8 +66,8 @@ sizedIn t at w h = pick (ltb (jobsAt at w h) (length t)) (scene.Whole (sceneOf t
 -- the scene at a place
 unfoldable pub sceneIn : List ℕ → ℕ → SceneRead
 sceneIn t at =
-    let w = numberOf (partOf t at 2) in
-    let h = numberOf (partOf t (at + 2) 2) in
+    let w = numberIn (partIn t at 2) in
+    let h = numberIn (partIn t (at + 2) 2) in
     pick (leb (at + 4) (length t)) (pick (leb w mostSide) (pick (leb h mostSide) (sizedIn t at w h) scene.TooLarge) scene.TooLarge) scene.Ends
 
 -- where a book and a codebook stand: the books behind the list's three numbers, the codebooks behind the books
@@ -89,7 +89,7 @@ measuredIn t books size at n =
     (job.Whole (record {
       book = bookAt (getD t at 0);
       codebook = codebookAt books (getD t (at + 1) 0);
-      lambda = numberOf (partOf t (at + 2) 8);
+      lambda = numberIn (partIn t (at + 2) 8);
       radius = getD t (at + 10) 0;
       four = not (eqb (getD t (at + 11) 0) 0);
       count = n;
@@ -103,5 +103,5 @@ measuredIn t books size at n =
     job.Ends
 
 -- the job at a place
-unfoldable pub jobIn : List ℕ → ℕ → ℕ → ℕ → JobRead
-jobIn t books size at = pick (leb (at + 16) (length t)) (measuredIn t books size at (numberOf (partOf t (at + 12) 4))) job.Ends
+unfoldable pub jobOfList : List ℕ → ℕ → ℕ → ℕ → JobRead
+jobOfList t books size at = pick (leb (at + 16) (length t)) (measuredIn t books size at (numberIn (partIn t (at + 12) 4))) job.Ends

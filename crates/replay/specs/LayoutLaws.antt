@@ -17,15 +17,15 @@ use Rattle.replay.specs.declared.inner.file.SceneRead.{SceneRead}
 use Rattle.replay.specs.declared.inner.file.SceneRead.the-variants as scene
 use Rattle.replay.specs.declared.inner.file.JobRead.{JobRead}
 use Rattle.replay.specs.declared.inner.file.JobRead.the-variants as job
-use Rattle.replay.specs.Layout.{partOf, little, numberOf, bytesFor, mostSide, mostSize, jobsAt, sceneOf, bookAt, codebookAt, sizedIn, sceneIn, measuredIn, jobIn}
+use Rattle.replay.specs.Layout.{partIn, little, numberIn, bytesFor, mostSide, mostSize, jobsAt, sceneOf, bookAt, codebookAt, sizedIn, sceneIn, measuredIn, jobOfList}
 
 -- ---- parts
-pub part-off : (t : List ℕ) (at n : ℕ) → length t < at + n → _≡_ {A = List ℕ} [] (partOf t at n)
-unfolding partOf
+pub part-off : (t : List ℕ) (at n : ℕ) → length t < at + n → _≡_ {A = List ℕ} [] (partIn t at n)
+unfolding partIn
 part-off t at n h = rw (lt-leb (at + n) (length t) h)
 
-pub part-on : (t : List ℕ) (at n : ℕ) → at + n ≤ length t → take (at + n - at) (drop at t) ≡ partOf t at n
-unfolding partOf
+pub part-on : (t : List ℕ) (at n : ℕ) → at + n ≤ length t → take (at + n - at) (drop at t) ≡ partIn t at n
+unfolding partIn
 part-on t at n h =
     let m : at + n - at ≡ n = omega arith in
     rw (le-leb (at + n) (length t) h, m)
@@ -61,12 +61,12 @@ pub no-byte : (t : List ℕ) → 0 ≡ little (drop (length t) t)
 unfolding little
 no-byte t = rw (drop-length t)
 
-pub number-many : (t : List ℕ) → 8 < length t → 0 ≡ numberOf t
-unfolding numberOf
+pub number-many : (t : List ℕ) → 8 < length t → 0 ≡ numberIn t
+unfolding numberIn
 number-many t h = rw (lt-leb (length t) 8 h)
 
-pub number-few : (t : List ℕ) → length t ≤ 8 → little t ≡ numberOf t
-unfolding numberOf
+pub number-few : (t : List ℕ) → length t ≤ 8 → little t ≡ numberIn t
+unfolding numberIn
 number-few t h = rw (le-leb (length t) 8 h)
 
 -- ---- bytes for bits
@@ -101,7 +101,7 @@ module _ (t : List ℕ) (at : ℕ) where
   unfolding sceneIn
   scene-short h = rw (lt-leb (at + 4) (length t) h)
 
-  module _ (begun : at + 4 ≤ length t) (w h : ℕ) (ew : w ≡ numberOf (partOf t at 2)) (eh : h ≡ numberOf (partOf t (at + 2) 2)) where
+  module _ (begun : at + 4 ≤ length t) (w h : ℕ) (ew : w ≡ numberIn (partIn t at 2)) (eh : h ≡ numberIn (partIn t (at + 2) 2)) where
     pub scene-wide : mostSide < w → scene.TooLarge ≡ sceneIn t at
     unfolding sceneIn
     scene-wide m = rw (le-leb (at + 4) (length t) begun, ← ew, lt-leb w mostSide m)
@@ -129,7 +129,7 @@ module _ (t : List ℕ) (books size at n bytes : ℕ) (e : bytes ≡ bytesFor n)
       let s : length t < at + 16 + bytesFor n + 7 * blocks + size + 4 * blocks + 4 * blocks = omega arith in
       rw (lt-leb (at + 16 + bytesFor n + 7 * blocks + size + 4 * blocks + 4 * blocks) (length t) s)
 
-  module _ (b k l r f : ℕ) (book : b ≡ getD t at 0) (codebook : k ≡ getD t (at + 1) 0) (lambda : l ≡ numberOf (partOf t (at + 2) 8)) (radius : r ≡ getD t (at + 10) 0) (flag : f ≡ getD t (at + 11) 0) where
+  module _ (b k l r f : ℕ) (book : b ≡ getD t at 0) (codebook : k ≡ getD t (at + 1) 0) (lambda : l ≡ numberIn (partIn t (at + 2) 8)) (radius : r ≡ getD t (at + 10) 0) (flag : f ≡ getD t (at + 11) 0) where
     pub measured-whole : at ≤ length t → 16 + bytes + 7 * blocks + size + 4 * blocks + 4 * blocks ≤ length t - at
         → job.Whole (record {
           book = bookAt b;
@@ -151,12 +151,12 @@ module _ (t : List ℕ) (books size at n bytes : ℕ) (e : bytes ≡ bytesFor n)
         rw (le-leb (at + 16 + bytesFor n + 7 * blocks + size + 4 * blocks + 4 * blocks) (length t) s, book, codebook, lambda, radius, flag, e)
 
 module _ (t : List ℕ) (books size at : ℕ) where
-  pub job-short : length t < at + 16 → job.Ends ≡ jobIn t books size at
-  unfolding jobIn
+  pub job-short : length t < at + 16 → job.Ends ≡ jobOfList t books size at
+  unfolding jobOfList
   job-short h = rw (lt-leb (at + 16) (length t) h)
 
-  pub job-measured : (n : ℕ) (r : JobRead) → at + 16 ≤ length t → n ≡ numberOf (partOf t (at + 12) 4) → r ≡ measuredIn t books size at n → r ≡ jobIn t books size at
-  unfolding jobIn
+  pub job-measured : (n : ℕ) (r : JobRead) → at + 16 ≤ length t → n ≡ numberIn (partIn t (at + 12) 4) → r ≡ measuredIn t books size at n → r ≡ jobOfList t books size at
+  unfolding jobOfList
   job-measured n r h e q = rw (le-leb (at + 16) (length t) h, ← e) q
 
 -- ---- a scene that is read is not too large
@@ -186,4 +186,4 @@ module _ (t : List ℕ) (at : ℕ) (s : Scene) where
 
   pub scene-small : sceneIn t at ≡ scene.Whole s → s .size ≤ mostSize
   unfolding sceneIn
-  scene-small e = by-tests (leb (at + 4) (length t)) _ _ (numberOf (partOf t at 2)) (numberOf (partOf t (at + 2) 2)) refl refl e
+  scene-small e = by-tests (leb (at + 4) (length t)) _ _ (numberIn (partIn t at 2)) (numberIn (partIn t (at + 2) 2)) refl refl e

@@ -1,8 +1,8 @@
 -- The definitions that the contracts of this crate cite; the laws that callers cite stand in the files named `..Laws`.
 pub mod Text
-pub mod Reading
-pub mod Writing
+pub mod ReadingForms
+pub mod WritingForms
 pub mod TextLaws
-pub mod WritingLaws
+pub mod WritingFormsLaws
 pub mod PutLaws
 pub mod OneTextLaws

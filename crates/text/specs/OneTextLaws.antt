@@ -12,7 +12,7 @@ use borrow.Author.Tests.{eqb-true, eqb-false, not-true, leb-true, lt-ltb, le-ltb
 use Rattle.bits.specs.Basics.{pick, every}
 use Rattle.bits.specs.BasicsLaws.{both-true}
 use Rattle.text.specs.Text.{comma, lineFeed, isDigit, isNumber, valueFrom, numberUpTo, onto, pieces, allEnded, linesOf, fieldsOf, same, digitsBefore, decimal, joined}
-use Rattle.text.specs.Reading.{lineBefore}
+use Rattle.text.specs.ReadingForms.{lineBefore}
 use Rattle.text.specs.TextLaws.{none-some, some-piece, ended-step}
 
 -- ---- a number

@@ -11,8 +11,8 @@ use lib.Seq.{take-all, take-take, take-set-le, drop-cons, drop-set-lt, getD-set-
 use borrow.Author.Tests.{le-leb, lt-leb, lt-ltb, le-ltb, ltb-true}
 use Rattle.bits.specs.Basics.{pick}
 use Rattle.text.specs.Text.{digitsBefore, decimal}
-use Rattle.text.specs.Writing.{putText, TextPut, digitCount, lastDigits}
-use Rattle.text.specs.WritingLaws.{tenth-below}
+use Rattle.text.specs.WritingForms.{putText, TextPut, digitCount, lastDigits}
+use Rattle.text.specs.WritingFormsLaws.{tenth-below}
 
 -- ---- a text
 -- no room: nothing is written

@@ -13,7 +13,7 @@ use borrow.Author.Tests.{eq-eqb, ne-eqb, leb-true, leb-false, le-leb, lt-leb}
 use Rattle.bits.specs.Basics.{pick, every}
 use Rattle.bits.specs.BasicsLaws.{both-true}
 use Rattle.text.specs.Text.{lineFeed, isDigit, isNumber, valueFrom, numberUpTo, onto, pieces, allEnded, linesOf, same}
-use Rattle.text.specs.Reading.{countBefore, digitOf, digitsFrom, lineBefore, without}
+use Rattle.text.specs.ReadingForms.{countBefore, digitOf, digitsFrom, lineBefore, without}
 
 -- ---- tests
 -- nothing is not something

@@ -1,8 +1,8 @@
 // Text in lent byte slices: decimal numbers, fields and lines.
 ghost use mathlib.Core.Path.{_≡_};
 ghost use Rattle.text.specs.Text.{numberUpTo, decimal, same as sameText};
-ghost use Rattle.text.specs.Reading.{Found, digitOf, digitsFrom, numberOf};
-ghost use Rattle.text.specs.Writing.{TextPut, Counted};
+ghost use Rattle.text.specs.ReadingForms.{TextFound, digitOf, digitsFrom, numberOf};
+ghost use Rattle.text.specs.WritingForms.{TextPut, DigitsCounted};
 
 // What reading a field as a number finds.
 pub enum NumberRead {
@@ -12,7 +12,7 @@ pub enum NumberRead {
 
 // How many bytes stand before the first b; all of them where there is none.
 pub fn find(t: &[u8], b: u8) -> usize
-    ensures { λ r. ⌜ Found b (now (t .entry)) r ⌝ }
+    ensures { λ r. ⌜ TextFound b (now (t .entry)) r ⌝ }
 {
     let mut i = 0;
     while i < t.len() {
@@ -113,7 +113,7 @@ pub fn put_text(out: &mut [u8], at: usize, t: &[u8]) -> usize
 
 // How many decimal digits a number has.
 fn digit_count(n: u64) -> usize
-    ensures { λ r. ⌜ Counted n r ⌝ }
+    ensures { λ r. ⌜ DigitsCounted n r ⌝ }
 {
     let mut k = 1;
     let mut m = n;

@@ -7,9 +7,9 @@ pub mod GeometryLaws
 pub mod SumLaws
 pub mod TreeBits
 pub mod TreeLaws
-pub mod Nodes
-pub mod Walk
-pub mod WalkLaws
+pub mod NodeForms
+pub mod WalkNeeds
+pub mod WalkNeedsLaws
 pub mod WalkReadLaws
 pub mod Queue
 pub mod QueueLaws

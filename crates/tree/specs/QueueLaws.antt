@@ -18,7 +18,7 @@ use Rattle.tree.specs.Blocks.{blockCount, left, right, level, first}
 use Rattle.tree.specs.TreeBits.{Node, Off, Split, Ends, isSplit, reached, grow, nodeBits, emit, treeBits}
 use Rattle.tree.specs.GeometryLaws.{at-first}
 use Rattle.tree.specs.TreeLaws.{length-grow, grown}
-use Rattle.tree.specs.WalkLaws.{reached-root}
+use Rattle.tree.specs.WalkNeedsLaws.{reached-root}
 use Rattle.tree.specs.Queue.{present, rowBits, next, queueBits}
 
 module _ (T : Tables) (b : ℕ → Node) where

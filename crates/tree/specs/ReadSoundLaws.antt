@@ -29,7 +29,7 @@ use Rattle.bits.specs.DifferenceLaws.{sub-add, sub-over}
 use Rattle.tree.specs.Blocks.{blockCount, level, first}
 use Rattle.tree.specs.BlocksLaws.{level-le}
 use Rattle.tree.specs.TreeBits.{Node, Off, Split, Ends, reached, asNode, readNode, readIf, readFrom, readTree}
-use Rattle.tree.specs.Walk.{Sound, SoundNode, SoundTree}
+use Rattle.tree.specs.WalkNeeds.{Sound, SoundNode, SoundTree}
 
 -- one reading after another, where neither was refused
 record Through {A B : Type 0} (g : Got A) (f : A → List ℕ → Got B) (b : B) (r : List ℕ) : Type 0 where

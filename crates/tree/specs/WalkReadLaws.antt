@@ -17,16 +17,16 @@ use Rattle.code_tables.specs.Codes.{Got, got, bad, then}
 use Rattle.book.specs.Book.{Tables, tablesOf, meanTable, stageFamily, stageTable}
 use Rattle.book.specs.declared.svq1_vlc.Svq1Half.{Svq1Half}
 use Rattle.leaf.specs.Leaf.{Leaf}
-use Rattle.leaf.specs.Lent.{lentTables, LeafRead}
+use Rattle.leaf.specs.LentNeeds.{lentTables, LeafRead}
 use Rattle.leaf.specs.LentReadLaws.{book-read}
-use Rattle.leaf.specs.Raised.{leafOf}
+use Rattle.leaf.specs.LeafForms.{leafOf}
 use Rattle.leaf.specs.declared.svq1_plane.inner.ReadLeaf.{ReadLeaf}
 use Rattle.leaf.specs.LeafBits.{readLeaf}
 use Rattle.tree.specs.Blocks.{blockCount, level, first}
 use Rattle.tree.specs.TreeBits.{Node, Off, Split, Ends, reached, asNode, readNode, readIf, readFrom, readTree}
-use Rattle.tree.specs.Nodes.{nodeOf, treeOf}
-use Rattle.tree.specs.Walk.{nodeGot, LeafHere, NodeHere, TreeHere}
-use Rattle.tree.specs.WalkLaws.{tree-set, reached-front}
+use Rattle.tree.specs.NodeForms.{nodeOf, treeOf}
+use Rattle.tree.specs.WalkNeeds.{nodeGot, LeafHere, NodeHere, TreeHere}
+use Rattle.tree.specs.WalkNeedsLaws.{tree-set, reached-front}
 use Rattle.tree.specs.declared.svq1_enc_tree.TreeNode.the-variants as node
 use Rattle.tree.specs.declared.svq1_enc_tree.Block.{Block}
 use Rattle.tree.specs.declared.svq1_enc_tree.inner.walk.ReadNode.{ReadNode}

@@ -4,7 +4,7 @@ pub mod inner;
 ghost use mathlib.Core.Path.{_≡_};
 ghost use lib.ListN.{replicate};
 ghost use Rattle.tree.specs.Blocks.{blockCount};
-ghost use Rattle.tree.specs.Nodes.{offBlock};
+ghost use Rattle.tree.specs.NodeForms.{offBlock};
 use leaf::svq1_enc_leaf::LeafCode;
 
 // A block of the tree: one that the tree does not reach, a split, or a leaf.

@@ -14,13 +14,13 @@ use Rattle.leaf.specs.AgreeLaws.{page-agrees, shown-same}
 use Rattle.codebook.specs.Codebook.{vectorAt}
 use Rattle.leaf.specs.Leaf.{Leaf, skip, coded, leafShown, capAt}
 use Rattle.leaf.specs.LeafBitsLaws.{Allowed}
-use Rattle.codebook.specs.Raised.{raisedCodebook}
+use Rattle.codebook.specs.CodebookForms.{raisedCodebook}
 use Rattle.tree.specs.Blocks.{left, right, level, first, blockOf, rebuilt}
 use Rattle.tree.specs.Plan.{shownAt}
 use Rattle.tree.specs.TreeBits.{Node, Off, Split, Ends, isSplit, nodeShows, treeShown}
-use Rattle.tree.specs.Walk.{Sound, SoundNode, SoundTree}
-use Rattle.tree_samples.specs.Rebuild.{raisedVectors, nodeAt, rebuiltBy}
-use Rattle.tree_samples.specs.RebuildLaws.{open-stages}
+use Rattle.tree.specs.WalkNeeds.{Sound, SoundNode, SoundTree}
+use Rattle.tree_samples.specs.RebuildNeeds.{raisedVectors, nodeAt, rebuiltBy}
+use Rattle.tree_samples.specs.RebuildNeedsLaws.{open-stages}
 
 -- a leaf that may stand in a tree of the half's can be written and shown
 pub allowed-sound : (T : Tables) (d : ℕ) (l : Leaf) → Allowed T d l → Sound (T .half) d l

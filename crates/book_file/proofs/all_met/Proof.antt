@@ -6,8 +6,8 @@ use denote.Ref.{now}
 use lib.Dec.{eqb}
 use lib.ListN.{length, drop}
 use borrow.Author.Tests.{eq-eqb, ne-eqb}
-use Rattle.book_file.specs.Scan.{allMet}
-use Rattle.book_file.specs.ScanLaws.{every-step, every-end}
+use Rattle.book_file.specs.BookFileForms.{allMet}
+use Rattle.book_file.specs.BookFileFormsLaws.{every-step, every-end}
 use Rattle.book_file.proofs.all_met.Statement.{statement}
 use Rattle.book_file.proofs.all_met.Tie as tie
 

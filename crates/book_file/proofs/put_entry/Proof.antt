@@ -2,7 +2,7 @@
 use native.Mathlib.Omega.{arith}
 use borrow.Author.Needs.{needs}
 use lib.ListN.{length-set}
-use Rattle.book_file.specs.Scan.{withEntry}
+use Rattle.book_file.specs.BookFileForms.{withEntry}
 use Rattle.book_file.proofs.put_entry.Statement.{statement}
 use Rattle.book_file.proofs.put_entry.Tie as tie
 

@@ -9,9 +9,9 @@ use lib.ListN.{take}
 use lib.Seq.{length-take-le}
 use Rattle.text.specs.Text.{fieldsOf}
 use Rattle.book_file.specs.BookFile.{lineAt, lineNumber}
-use Rattle.book_file.specs.Scan.{codeAt}
+use Rattle.book_file.specs.BookFileForms.{fileCodeAt}
 use Rattle.bits.specs.BasicsLaws.{partFrom}
-use Rattle.book_file.specs.ScanLaws.{code-short, code-long, code-two}
+use Rattle.book_file.specs.BookFileFormsLaws.{code-short, code-long, code-two}
 use Rattle.book_file.proofs.read_code.Statement.{statement}
 use Rattle.book_file.proofs.read_code.Tie as tie
 
@@ -63,7 +63,7 @@ two : (c : tie.Else2) →
     let f = c .before .before .before .before in
     let a = f .before .before .args in
     let t = now (a .t) in
-    codeAt (some (a .e)) (fieldsOf t)
+    fileCodeAt (some (a .e)) (fieldsOf t)
     ≡ lineAt (some (a .e)) (lineNumber (take (f .find .result) t)) (lineNumber (partFrom (f .find .result + 1) t))
 two c =
     let f = c .before .before .before .before in

@@ -5,7 +5,7 @@ use native.Mathlib.Omega.{arith}
 use borrow.Author.Needs.{needs}
 use denote.Ref.{now}
 use Rattle.book_file.specs.BookFile.{fileLines}
-use Rattle.book_file.specs.Scan.{Held, begun, heldTold, scanned}
+use Rattle.book_file.specs.BookFileForms.{BookHeld, begun, heldTold, scanned}
 use Rattle.book_file.specs.CallLaws.{file-stopped, file-missing, file-bad-code, file-whole}
 use Rattle.book_file.specs.declared.LinesRead.{LinesRead}
 use Rattle.book_file.proofs.read_into.Statement.{statement}
@@ -27,7 +27,7 @@ same-length-2 : tie.Need-same-length-2
 same-length-2 c = search needs
 
 -- what the lines leave
-abbrev left : tie.After-known-told → Held
+abbrev left : tie.After-known-told → BookHeld
 left d = record { book = d .before .before .before .before .before .before .before .read-lines .last .1 .0; met = d .before .before .before .before .before .before .before .read-lines .last .1 .1 .0; good = d .before .good2 .given .0 .0 }
 
 abbrev entry : tie.After-known-told → tie.Start

@@ -8,9 +8,9 @@ use lib.ListN.{take}
 use lib.Seq.{length-take-le}
 use Rattle.text.specs.Text.{fieldsOf}
 use Rattle.book_file.specs.BookFile.{lineRead}
-use Rattle.book_file.specs.Scan.{placeAt}
+use Rattle.book_file.specs.BookFileForms.{placeAt}
 use Rattle.bits.specs.BasicsLaws.{partFrom}
-use Rattle.book_file.specs.ScanLaws.{line-short, line-first, place-short, place-first, place-none}
+use Rattle.book_file.specs.BookFileFormsLaws.{line-short, line-first, place-short, place-first, place-none}
 use Rattle.book_file.proofs.read_line.Statement.{statement}
 use Rattle.book_file.proofs.read_line.Tie as tie
 

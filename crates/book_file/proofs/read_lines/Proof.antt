@@ -14,8 +14,8 @@ use Rattle.bits.specs.BasicsLaws.{partFrom, length-part}
 use lib.Seq.{length-take-le}
 use Rattle.text.specs.Text.{fieldsOf}
 use Rattle.book_file.specs.BookFile.{Line, lineRead, fileLines}
-use Rattle.book_file.specs.Scan.{Held, begun, lineTold, scanLines, scanned, kept}
-use Rattle.book_file.specs.ScanLaws.{LineFits, line-fits, file-end, file-open, file-bad, file-line, scan-step, kept-is}
+use Rattle.book_file.specs.BookFileForms.{BookHeld, begun, lineTold, scanLines, scanned, kept}
+use Rattle.book_file.specs.BookFileFormsLaws.{LineFits, line-fits, file-end, file-open, file-bad, file-line, scan-step, kept-is}
 use Rattle.book_file.proofs.read_lines.Statement.{statement}
 use Rattle.book_file.proofs.read_lines.Tie as tie
 
@@ -41,10 +41,10 @@ bytes d = d .before .before .before .before .before .before .find .result
 abbrev file : tie.At-loop Inv-loop μ-loop → List ℕ
 file u = now (u .before .before .before .before .args .file)
 
-abbrev state : tie.At-loop Inv-loop μ-loop → Held
+abbrev state : tie.At-loop Inv-loop μ-loop → BookHeld
 state u = record { book = u .loop .book; met = u .loop .met; good = u .loop .good }
 
-abbrev all : tie.At-loop Inv-loop μ-loop → Option Held
+abbrev all : tie.At-loop Inv-loop μ-loop → Option BookHeld
 all u = scanned (fileLines (file u)) (begun (now (u .before .before .before .before .args .book)) (now (u .before .before .before .before .args .met)))
 
 told : (d : tie.After-known-told Inv-loop μ-loop) → lineRead (fieldsOf (take (bytes d) (partFrom (head d .loop .at) (file (head d))))) ≡ some (line d)

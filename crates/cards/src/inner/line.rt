@@ -2,7 +2,7 @@
 ghost use mathlib.Core.Path.{_≡_};
 ghost use Prim.Native.Nat.{_≤_, _<_};
 ghost use lib.IntN.{natAbs};
-ghost use Rattle.text.specs.Writing.{TextPut};
+ghost use Rattle.text.specs.WritingForms.{TextPut};
 ghost use Rattle.cards.specs.Numbers.{hexDigit, hexByte};
 use libc::STDOUT_FILENO;
 use text::put_decimal;

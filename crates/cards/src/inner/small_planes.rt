@@ -1,8 +1,8 @@
 // The cards of a plane of 16 x 16 samples of 100 over a reference of 0.
 ghost use Prim.Native.Nat.{_≤_};
-ghost use Rattle.plane_enc.specs.Writer.{endOf as writeEnd};
-ghost use Rattle.plane_dec.specs.Reader.{endOf as readEnd};
-ghost use Rattle.cards.specs.Planes.{smallGiven, smallTask, smallSlices, freshSlices, Wrote, ReadOff};
+ghost use Rattle.plane_enc.specs.WriterNeeds.{writeEndOf as writeEnd};
+ghost use Rattle.plane_dec.specs.ReaderNeeds.{readEndOf as readEnd};
+ghost use Rattle.cards.specs.Planes.{smallGiven, smallTask, smallSlices, freshSlices, CardWrote, ReadOff};
 use super::super::inner::line::print_line;
 use super::super::inner::line::put_number;
 use super::super::inner::mode::put_mode;
@@ -34,7 +34,7 @@ const CANVAS: Svq1PlaneCanvas = Svq1PlaneCanvas {
 
 // The plane written into `out` from bit `start` on.
 fn write_plane(book: &[u8], codebook: &[u8], lambda: u64, out: &mut [u8], start: usize) -> WriteEnd
-    ensures { λ r. ⌜ Wrote (smallGiven (now (book .entry)) (now (codebook .entry))) (smallTask lambda) (now (out .entry)) start freshSlices (writeEnd r) (now (out .exit)) ⌝ }
+    ensures { λ r. ⌜ CardWrote (smallGiven (now (book .entry)) (now (codebook .entry))) (smallTask lambda) (now (out .entry)) start freshSlices (writeEnd r) (now (out .exit)) ⌝ }
 {
     let source = [SOURCE; 256];
     let reference = [REFERENCE; 256];

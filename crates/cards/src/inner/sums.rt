@@ -3,7 +3,7 @@ ghost use mathlib.Core.Path.{_≡_};
 ghost use Prim.Native.Nat.{_≤_};
 ghost use lib.ListN.{length};
 ghost use Rattle.codebook.specs.Mean.{residual};
-ghost use Rattle.cards.specs.Numbers.{oneIf, countOf};
+ghost use Rattle.cards.specs.Numbers.{oneIf, countIn};
 use leaf_search::svq1_enc_leaf::inner::sum_of;
 
 fn one_if(a: u8, b: u8) -> usize
@@ -14,7 +14,7 @@ fn one_if(a: u8, b: u8) -> usize
 
 // How many samples are v.
 pub fn count_of(s: &[u8], v: u8) -> usize
-    ensures { λ r. ⌜ r ≡ countOf v (now (s .entry)) ⌝ }
+    ensures { λ r. ⌜ r ≡ countIn v (now (s .entry)) ⌝ }
 {
     let mut n = 0;
     let mut i = 0;

@@ -3,7 +3,7 @@ ghost use mathlib.Core.Path.{_≡_};
 ghost use Prim.Native.Nat.{_≤_};
 ghost use Rattle.motion.specs.Search.{searchAnswer};
 ghost use Rattle.motion.specs.SearchCall.{searchedAnswer};
-ghost use Rattle.cards.specs.Planes.{flatSearch};
+ghost use Rattle.cards.specs.Planes.{cardSearch};
 use super::super::inner::line::print_line;
 use super::super::inner::line::put_number;
 use super::super::inner::line::put_vector;
@@ -63,7 +63,7 @@ fn put_searched(line: &mut [u8], at: usize, found: Searched) -> usize {
 
 // The search of a block of 16 x 16 samples in a plane of 32 x 32, all 100.
 fn search_flat(x: usize, y: usize, predictor: Svq1Mv) -> Searched
-    ensures { λ r. ⌜ searchedAnswer r ≡ searchAnswer (flatSearch x y predictor) ⌝ }
+    ensures { λ r. ⌜ searchedAnswer r ≡ searchAnswer (cardSearch x y predictor) ⌝ }
 {
     let reference = [100u8; 1024];
     let target = [100u8; 256];

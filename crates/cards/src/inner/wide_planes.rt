@@ -1,10 +1,10 @@
 // The cards of the largest width: planes of height 1, all samples 100, as the reference is.
 ghost use mathlib.Core.Bool.{true};
 ghost use Prim.Native.Nat.{_≤_};
-ghost use Rattle.macroblock.specs.Inner.{givenBy};
-ghost use Rattle.macroblock_choice.specs.Chosen.{taskBy};
-ghost use Rattle.plane_enc.specs.Writer.{endOf};
-ghost use Rattle.cards.specs.Planes.{wideSlices, Wrote};
+ghost use Rattle.macroblock.specs.MacroblockNeeds.{givenBy};
+ghost use Rattle.macroblock_choice.specs.ChosenNeeds.{taskBy};
+ghost use Rattle.plane_enc.specs.WriterNeeds.{writeEndOf};
+ghost use Rattle.cards.specs.Planes.{wideSlices, CardWrote};
 use super::super::inner::line::print_line;
 use super::super::inner::plane_text::LAMBDA;
 use super::super::inner::plane_text::RADIUS;
@@ -28,7 +28,7 @@ fn write_plane(
     out: &mut [u8],
     recon: &mut [u8],
 ) -> WriteEnd
-    ensures { λ r. ⌜ Wrote (givenBy canvas (now (reference .entry)) (now (book .entry)) (now (codebook .entry))) (taskBy (now (source .entry)) (record { lambda = 32; radius = 8; four = true })) (now (out .entry)) 0 (wideSlices (now (recon .entry))) (endOf r) (now (out .exit)) ⌝ }
+    ensures { λ r. ⌜ CardWrote (givenBy canvas (now (reference .entry)) (now (book .entry)) (now (codebook .entry))) (taskBy (now (source .entry)) (record { lambda = 32; radius = 8; four = true })) (now (out .entry)) 0 (wideSlices (now (recon .entry))) (writeEndOf r) (now (out .exit)) ⌝ }
 {
     let mut vx = [0u8; 260];
     let mut vy = [0u8; 260];

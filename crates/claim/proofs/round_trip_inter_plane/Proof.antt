@@ -3,9 +3,9 @@ use mathlib.Core.Path.{refl}
 use native.Mathlib.Omega.{arith}
 use Rattle.bits.specs.Basics.{Bytes}
 use Rattle.macroblock.specs.Macroblock.{Given}
-use Rattle.macroblock_choice.specs.Chosen.{taskBy}
+use Rattle.macroblock_choice.specs.ChosenNeeds.{taskBy}
 use Rattle.macroblock.specs.Choice.{Task}
-use Rattle.macroblock.specs.Inner.{givenBy}
+use Rattle.macroblock.specs.MacroblockNeeds.{givenBy}
 use Rattle.claim.specs.RoundTripLaws.{tripped}
 use borrow.Author.Needs.{needs}
 use Rattle.claim.proofs.round_trip_inter_plane.Statement.{statement}

@@ -5,7 +5,7 @@ ghost use Prim.Native.Nat.{_+_, _-_, _*_, _%_, _<_};
 ghost use lib.ListN.{length};
 ghost use Rattle.book.specs.Book.{codebookBytes};
 ghost use Rattle.codebook.specs.Codebook.{byteOf};
-ghost use Rattle.codebook.specs.Raised.{originOf, raisedCodebook, pageStart};
+ghost use Rattle.codebook.specs.CodebookForms.{originOf, raisedCodebook, pageStart};
 use book::svq1_vlc::Svq1Half;
 
 // The byte of a vector that goes to place p, of blocks 8 samples wide: L2 and L3.

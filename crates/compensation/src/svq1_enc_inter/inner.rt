@@ -3,7 +3,7 @@ ghost use Prim.Native.Nat.{_+_, _*_, _<_, _≤_};
 ghost use lib.ListN.{length, getD};
 ghost use Rattle.bits.specs.Basics.{sum, gap as gapOf};
 ghost use Rattle.compensation.specs.Compensation.{mean2 as meanOf2, mean4 as meanOf4};
-ghost use Rattle.compensation.specs.Rows.{Sides, againstTwo, againstFour, cells, ReadIn, Summed};
+ghost use Rattle.compensation.specs.RowForms.{Sides, againstTwo, againstFour, cells, ReadIn, Summed};
 
 // What summing a vector's absolute error answers: its sum, and the rows taken.
 pub struct Taken {

@@ -3,7 +3,7 @@ use mathlib.Core.Path.{refl}
 use Rattle.bits.specs.Bits.{msb}
 use Rattle.code_tables.specs.Codes.{codesOf, goodTable}
 use Rattle.house.specs.House.{rank, signedRank, logUnder}
-use Rattle.house.specs.Trie.{free, enter, allFree}
+use Rattle.house.specs.TrieForms.{free, enter, allFree}
 use Rattle.house.specs.HouseLaws.{ruled, eachFree, houseTest, by-test}
 use Rattle.house.proofs.house_book.Statement.{statement}
 use Rattle.house.proofs.house_book.Tie as tie

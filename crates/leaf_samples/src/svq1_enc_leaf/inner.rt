@@ -5,12 +5,12 @@ ghost use lib.ListN.{length, take, drop, getD};
 ghost use lib.IntN.{subℕ};
 ghost use Rattle.bits.specs.Basics.{gap};
 ghost use Rattle.leaf.specs.Leaf.{coded, sse, samples, seeded, staged, leafShown};
-ghost use Rattle.leaf.specs.Raised.{less, Below, plusN, vectorsIn, leafOf};
-ghost use Rattle.leaf_samples.specs.Show.{MeanKnown, Sized, Staging, CodeShows, Adding};
+ghost use Rattle.leaf.specs.LeafForms.{less, Below, plusN, vectorsIn, leafOf};
+ghost use Rattle.leaf_samples.specs.ShowNeeds.{MeanKnown, Sized, Staging, CodeShows, Adding};
 use book::svq1_vlc::Svq1Half;
+use leaf::svq1_enc_leaf::LeafCode;
 use leaf::svq1_enc_leaf::inner::mean_position;
 use leaf::svq1_enc_leaf::inner::stage_count;
-use leaf::svq1_enc_leaf::LeafCode;
 
 // What `a` is above `b`, or 0.
 fn above(a: u16, b: u16) -> u16

@@ -7,16 +7,16 @@ ghost use lib.IntN.{subℕ};
 ghost use Rattle.book.specs.Level.{levelNumber};
 ghost use Rattle.codebook.specs.Mean.{residual, meanOf, saturate};
 ghost use Rattle.leaf.specs.Leaf.{coded, sse, plus, samples, argmin, capAt, termsAt};
-ghost use Rattle.leaf.specs.Raised.{less, sqd, vectorError, Below, Stage, total, Searched};
-ghost use Rattle.leaf.specs.Inner.{Ready, Coding, Chosen};
-ghost use Rattle.leaf_search.specs.LevelLeaf.{LevelReady, LevelChosen};
+ghost use Rattle.leaf.specs.LeafForms.{less, sqd, vectorError, Below, Stage, sampleSum, Searched};
+ghost use Rattle.leaf.specs.LeafNeeds.{SearchReady, Coding, Chosen};
+ghost use Rattle.leaf_search.specs.LevelLeafNeeds.{LevelReady, LevelChosen};
 use super::super::svq1_enc_leaf::LeafChoice;
 use book::svq1_blocktree::Svq1Level;
 use book::svq1_vlc::Svq1Half;
 use codebook::svq1_codebook::inner::page_start;
-use leaf::svq1_plane::inner::signed_mean;
 use leaf::svq1_enc_leaf::LeafCode;
 use leaf::svq1_enc_leaf::LeafTerms;
+use leaf::svq1_plane::inner::signed_mean;
 use leaf_samples::svq1_enc_leaf::inner::add_stage;
 use leaf_samples::svq1_enc_leaf::inner::bias_of;
 use leaf_samples::svq1_enc_leaf::inner::copy;
@@ -111,7 +111,7 @@ fn best_vector(t: &[u8], a: &[u16], book: &[u8], base: usize, bias: u16) -> Best
 // The sum of a block's samples.
 pub fn sum_of(t: &[u8]) -> u32
     requires { ⌜ length (now t) ≤ 256 ⌝ }
-    ensures { λ r. ⌜ r ≡ total (now (t .entry)) ⌝ }
+    ensures { λ r. ⌜ r ≡ sampleSum (now (t .entry)) ⌝ }
     ensures { λ r. ⌜ r ≤ 65280 ⌝ }
 {
     let mut sum: u32 = 0;
@@ -214,7 +214,7 @@ fn search_coded(
     book: &[u8],
     base: usize,
 ) -> LeafChoice
-    requires { ⌜ Ready terms (now t) (now p) (now a) (now out) (now book) base ⌝ }
+    requires { ⌜ SearchReady terms (now t) (now p) (now a) (now out) (now book) base ⌝ }
     ensures { λ r. ⌜ Coding terms (now (t .entry)) (now (p .entry)) (now (book .entry)) base (r .code) (r .stages) (r .error) (now (out .exit)) ⌝ }
 {
     let half = terms.half;
@@ -245,7 +245,7 @@ pub fn choose_leaf(
     book: &[u8],
     base: usize,
 ) -> LeafChoice
-    requires { ⌜ Ready terms (now t) (now p) (now a) (now out) (now book) base ⌝ }
+    requires { ⌜ SearchReady terms (now t) (now p) (now a) (now out) (now book) base ⌝ }
     ensures { λ r. ⌜ Chosen terms (now (t .entry)) (now (p .entry)) (now (book .entry)) base (r .code) (r .stages) (r .error) (now (out .exit)) ⌝ }
 {
     let coded = search_coded(terms, t, p, a, out, book, base);

@@ -4,7 +4,7 @@ use mathlib.Core.Path.{sym, _∙_}
 use mathlib.Core.List.{List}
 use Rattle.bits.specs.BasicsLaws.{partFrom}
 use Rattle.listing_job.specs.declared.FieldRead.the-variants.{Field, NoField}
-use Rattle.listing_job.specs.JobReading.{FieldFound, fieldsIn}
+use Rattle.listing_job.specs.JobForms.{FieldFound, fieldsIn}
 use Rattle.listing_job.specs.JobLaws.{job-fields, field-le}
 use Prim.Native.Nat.{ℕ, _-_, _^_}
 use borrow.Author.Needs.{needs}

@@ -3,16 +3,16 @@ ghost use mathlib.Core.List.{_++_};
 ghost use mathlib.Core.Path.{_≡_};
 ghost use Prim.Native.Nat.{_<_};
 ghost use lib.ListN.{length};
-ghost use Rattle.bits.specs.Inner.{Fits, Wrote};
+ghost use Rattle.bits.specs.BitNeeds.{Fits, Wrote};
 ghost use Rattle.book.specs.Book.{bookRefusal};
 ghost use Rattle.vectors.specs.Vectors.{placeOf};
 ghost use Rattle.vectors.specs.VectorsLaws.{InRange, Inside};
-ghost use Rattle.mv_cache.specs.Cache.{nearFrom};
+ghost use Rattle.mv_cache.specs.CacheNeeds.{nearFrom};
 ghost use Rattle.macroblock.specs.Macroblock.{four, componentBits, differenceBits, motionBits, modeBits};
 ghost use Rattle.macroblock.specs.MacroblockLaws.{Codables};
-ghost use Rattle.macroblock.specs.Motions.{motionOf, Differs};
-ghost use Rattle.macroblock_bits.specs.Coding.{Counted, fourDifferences};
-ghost use Rattle.macroblock.specs.Inner.{byBook};
+ghost use Rattle.macroblock.specs.MotionForms.{motionOf, Differs};
+ghost use Rattle.macroblock_bits.specs.CodingNeeds.{Counted, fourDifferences};
+ghost use Rattle.macroblock.specs.MacroblockNeeds.{byBook};
 use book::inner::mode_table;
 use book::inner::vector_table;
 use code_tables::inner::entry_len;
@@ -24,8 +24,8 @@ use mv_cache::svq1_mv_cache::predict_first;
 use mv_cache::svq1_mv_cache::predict_fourth;
 use mv_cache::svq1_mv_cache::predict_second;
 use mv_cache::svq1_mv_cache::predict_third;
-use vectors::svq1_motion_predictor::inner::difference_of;
 use vectors::svq1_motion_predictor::Svq1Mv;
+use vectors::svq1_motion_predictor::inner::difference_of;
 
 // How many bits a mode's code has.
 pub fn mb_mode_bits(book: &[u8], mode: Svq1MbMode) -> u32

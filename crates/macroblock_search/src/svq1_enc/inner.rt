@@ -2,20 +2,12 @@
 ghost use mathlib.Core.Path.{_≡_};
 ghost use Prim.Native.Nat.{_+_, _<_, _≤_, min};
 ghost use lib.ListN.{length, getD};
-ghost use Rattle.compensation.specs.Moved.{rowSet};
-ghost use Rattle.canvas.specs.Canvas.{largestSide, blocksAlong};
+ghost use Rattle.compensation.specs.MovedForms.{rowSet};
+ghost use Rattle.canvas.specs.Canvas.{largestSide};
 ghost use Rattle.macroblock.specs.Choice.{targetOf};
-ghost use Rattle.macroblock_search.specs.Target.{Sources};
-use canvas::svq1_plane::MB_DIM;
+ghost use Rattle.macroblock_search.specs.TargetForms.{Sources};
 use canvas::svq1_plane::Svq1PlaneCanvas;
-
-// Macroblocks along a side.
-pub fn blocks_along(n: usize) -> usize
-    requires { ⌜ n ≤ largestSide ⌝ }
-    ensures { λ r. ⌜ r ≡ blocksAlong n ⌝ }
-{
-    (n + (MB_DIM - 1)) / MB_DIM
-}
+use canvas::svq1_plane::inner::blocks_along;
 
 fn lesser(a: usize, b: usize) -> usize
     ensures { λ r. ⌜ r ≡ min a b ⌝ }

@@ -2,7 +2,7 @@ ghost use mathlib.Core.Path.{_≡_};
 ghost use mathlib.Core.Bool.{true};
 ghost use Prim.Native.Nat.{_+_, _-_, _*_, _/_, _%_, _<_, _≤_, min};
 ghost use Rattle.motion.specs.Search.{consider, rowTo, rowsTo, searchBest};
-ghost use Rattle.motion.specs.Candidates.{raisedEnd, spotSearch, Ready, lowered, loweredMv, axisUp, shown, Held, Spans, Clipped, refined};
+ghost use Rattle.motion.specs.CandidateForms.{raisedEnd, spotSearch, MotionReady, lowered, loweredMv, axisUp, bestSoFar, BestHeld, Spans, Clipped, refined};
 use compensation::svq1_enc_inter::inner::block_error;
 use compensation::svq1_enc_inter::inner::full_error;
 
@@ -78,8 +78,8 @@ fn tried(
     uy: usize,
     best: Candidate,
 ) -> Candidate
-    requires { ⌜ Ready (now target) (now reference) p × Held best × (ux < raisedEnd) × (uy < raisedEnd) ⌝ }
-    ensures { λ r. ⌜ (shown r ≡ consider (spotSearch (now (target .entry)) (now (reference .entry)) p) (loweredMv ux uy) (shown best)) × Held r ⌝ }
+    requires { ⌜ MotionReady (now target) (now reference) p × BestHeld best × (ux < raisedEnd) × (uy < raisedEnd) ⌝ }
+    ensures { λ r. ⌜ (bestSoFar r ≡ consider (spotSearch (now (target .entry)) (now (reference .entry)) p) (loweredMv ux uy) (bestSoFar best)) × BestHeld r ⌝ }
 {
     if !axis_ok(p.side, p.x, p.width, p.px, ux) {
         return best;
@@ -160,8 +160,8 @@ fn full_tried(
     uy: usize,
     best: Candidate,
 ) -> Candidate
-    requires { ⌜ Ready (now target) (now reference) p × Held best × (ux < raisedEnd) × (ux % 2 ≡ 0) × (uy % 2 ≡ 0) × (axisUp (p .side) (p .y) (p .height) (p .py) uy ≡ true) ⌝ }
-    ensures { λ r. ⌜ (shown r ≡ consider (spotSearch (now (target .entry)) (now (reference .entry)) p) (loweredMv ux uy) (shown best)) × Held r ⌝ }
+    requires { ⌜ MotionReady (now target) (now reference) p × BestHeld best × (ux < raisedEnd) × (ux % 2 ≡ 0) × (uy % 2 ≡ 0) × (axisUp (p .side) (p .y) (p .height) (p .py) uy ≡ true) ⌝ }
+    ensures { λ r. ⌜ (bestSoFar r ≡ consider (spotSearch (now (target .entry)) (now (reference .entry)) p) (loweredMv ux uy) (bestSoFar best)) × BestHeld r ⌝ }
 {
     if !axis_ok(p.side, p.x, p.width, p.px, ux) {
         return best;
@@ -195,8 +195,8 @@ fn row_best(
     uy: usize,
     first: Candidate,
 ) -> Candidate
-    requires { ⌜ Ready (now target) (now reference) p × Held first × Spans (p .px) (p .radius) s × (uy < raisedEnd) × (uy % 2 ≡ 0) ⌝ }
-    ensures { λ r. ⌜ (shown r ≡ rowTo (spotSearch (now (target .entry)) (now (reference .entry)) p) (lowered uy) (shown first) (2 * p .radius + 1)) × Held r ⌝ }
+    requires { ⌜ MotionReady (now target) (now reference) p × BestHeld first × Spans (p .px) (p .radius) s × (uy < raisedEnd) × (uy % 2 ≡ 0) ⌝ }
+    ensures { λ r. ⌜ (bestSoFar r ≡ rowTo (spotSearch (now (target .entry)) (now (reference .entry)) p) (lowered uy) (bestSoFar first) (2 * p .radius + 1)) × BestHeld r ⌝ }
 {
     if !axis_ok(p.side, p.y, p.height, p.py, uy) {
         return first;
@@ -220,8 +220,8 @@ fn row_best(
 
 // All rows of them.
 fn full_best(target: &[u8], reference: &[u8], p: Spot, first: Candidate) -> Candidate
-    requires { ⌜ Ready (now target) (now reference) p × Held first ⌝ }
-    ensures { λ r. ⌜ (shown r ≡ rowsTo (spotSearch (now (target .entry)) (now (reference .entry)) p) (shown first) (2 * p .radius + 1)) × Held r ⌝ }
+    requires { ⌜ MotionReady (now target) (now reference) p × BestHeld first ⌝ }
+    ensures { λ r. ⌜ (bestSoFar r ≡ rowsTo (spotSearch (now (target .entry)) (now (reference .entry)) p) (bestSoFar first) (2 * p .radius + 1)) × BestHeld r ⌝ }
 {
     let sx = span_of(p.px, p.radius);
     let sy = span_of(p.py, p.radius);
@@ -251,8 +251,8 @@ fn near_one(
     k: usize,
     best: Candidate,
 ) -> Candidate
-    requires { ⌜ Ready (now target) (now reference) p × Held c × Held best × (k < 9) ⌝ }
-    ensures { λ r. ⌜ (k ≡ 4 → r ≡ best) × ((k ≡ 4 → ⊥) → shown r ≡ consider (spotSearch (now (target .entry)) (now (reference .entry)) p) (loweredMv (c .ux + k % 3 - 1) (c .uy + k / 3 - 1)) (shown best)) × Held r ⌝ }
+    requires { ⌜ MotionReady (now target) (now reference) p × BestHeld c × BestHeld best × (k < 9) ⌝ }
+    ensures { λ r. ⌜ (k ≡ 4 → r ≡ best) × ((k ≡ 4 → ⊥) → bestSoFar r ≡ consider (spotSearch (now (target .entry)) (now (reference .entry)) p) (loweredMv (c .ux + k % 3 - 1) (c .uy + k / 3 - 1)) (bestSoFar best)) × BestHeld r ⌝ }
 {
     if k == 4 {
         return best;
@@ -268,8 +268,8 @@ fn near_one(
 }
 
 fn near_best(target: &[u8], reference: &[u8], p: Spot, c: Candidate) -> Candidate
-    requires { ⌜ Ready (now target) (now reference) p × Held c ⌝ }
-    ensures { λ r. ⌜ (shown r ≡ refined (spotSearch (now (target .entry)) (now (reference .entry)) p) (shown c)) × Held r ⌝ }
+    requires { ⌜ MotionReady (now target) (now reference) p × BestHeld c ⌝ }
+    ensures { λ r. ⌜ (bestSoFar r ≡ refined (spotSearch (now (target .entry)) (now (reference .entry)) p) (bestSoFar c)) × BestHeld r ⌝ }
 {
     let mut best = c;
     let mut k = 0;
@@ -282,8 +282,8 @@ fn near_best(target: &[u8], reference: &[u8], p: Spot, c: Candidate) -> Candidat
 
 // The whole search: zero, the full samples, the half samples around the best of these.
 pub fn search_best(target: &[u8], reference: &[u8], p: Spot) -> Candidate
-    requires { ⌜ Ready (now target) (now reference) p ⌝ }
-    ensures { λ r. ⌜ (shown r ≡ searchBest (spotSearch (now (target .entry)) (now (reference .entry)) p)) × Held r ⌝ }
+    requires { ⌜ MotionReady (now target) (now reference) p ⌝ }
+    ensures { λ r. ⌜ (bestSoFar r ≡ searchBest (spotSearch (now (target .entry)) (now (reference .entry)) p)) × BestHeld r ⌝ }
 {
     let none = Candidate {
         ux: 1024,

@@ -8,7 +8,7 @@ ghost use Rattle.bits.specs.Basics.{signedOf, signedByte};
 ghost use Rattle.vectors.specs.VectorsLaws.{InRange, Inside};
 ghost use Rattle.mv_cache.specs.Neighbours.{neighbourAt, nearOf};
 ghost use Rattle.mv_cache.specs.Grid.{putPart};
-ghost use Rattle.mv_cache.specs.Cache.{nearFrom, Slices, Room, Stored};
+ghost use Rattle.mv_cache.specs.CacheNeeds.{nearFrom, VectorSlices, BlocksRoom, Stored};
 use super::super::svq1_mv_cache::NearBlocks;
 use vectors::svq1_motion_predictor::Neighbour;
 use vectors::svq1_motion_predictor::Svq1Mv;
@@ -45,7 +45,7 @@ fn neighbour_at(
     col: usize,
     back: usize,
 ) -> Neighbour
-    requires { ⌜ Slices cols rows (now vx) (now vy) ⌝ }
+    requires { ⌜ VectorSlices cols rows (now vx) (now vy) ⌝ }
     ensures { λ r. ⌜ r ≡ neighbourAt cols rows (now (vx .entry)) (now (vy .entry)) (subℕ row up) (subℕ col back) ⌝ }
 {
     if row < up {
@@ -68,7 +68,7 @@ fn neighbour_at(
 
 // The seven neighbours of macroblock k.
 pub fn near_blocks(vx: &[u8], vy: &[u8], cols: usize, rows: usize, k: usize) -> NearBlocks
-    requires { ⌜ Slices cols rows (now vx) (now vy) × (k < rows * cols) ⌝ }
+    requires { ⌜ VectorSlices cols rows (now vx) (now vy) × (k < rows * cols) ⌝ }
     ensures { λ r. ⌜ nearFrom r ≡ nearOf cols rows (now (vx .entry)) (now (vy .entry)) k ⌝ }
 {
     let r = k / cols * 2;
@@ -93,7 +93,7 @@ pub fn near_blocks(vx: &[u8], vy: &[u8], cols: usize, rows: usize, k: usize) -> 
 
 // Macroblock k's four bytes, in raster order, into one slice.
 fn store_bytes(s: &mut [u8], cols: usize, k: usize, v: &[u8; 4])
-    requires { ⌜ Room cols k (now s) ⌝ }
+    requires { ⌜ BlocksRoom cols k (now s) ⌝ }
     ensures { λ _. ⌜ now (s .exit) ≡ putPart 2 cols k (now (v .entry)) (now (s .entry)) ⌝ }
 {
     let mut j: usize = 0;
@@ -105,7 +105,7 @@ fn store_bytes(s: &mut [u8], cols: usize, k: usize, v: &[u8; 4])
 
 // The same from four components.
 fn store_components(s: &mut [u8], cols: usize, k: usize, a: i32, b: i32, c: i32, d: i32)
-    requires { ⌜ Room cols k (now s) × InRange a × InRange b × InRange c × InRange d ⌝ }
+    requires { ⌜ BlocksRoom cols k (now s) × InRange a × InRange b × InRange c × InRange d ⌝ }
     ensures { λ _. ⌜ now (s .exit) ≡ putPart 2 cols k (map signedByte (a ∷ b ∷ c ∷ d ∷ [])) (now (s .entry)) ⌝ }
 {
     let v = [byte_of(a), byte_of(b), byte_of(c), byte_of(d)];
@@ -124,7 +124,7 @@ pub fn store_vectors(
     c: Svq1Mv,
     d: Svq1Mv,
 )
-    requires { ⌜ Slices cols rows (now vx) (now vy) × (k < rows * cols) × Inside a × Inside b × Inside c × Inside d ⌝ }
+    requires { ⌜ VectorSlices cols rows (now vx) (now vy) × (k < rows * cols) × Inside a × Inside b × Inside c × Inside d ⌝ }
     ensures { λ _. ⌜ Stored cols k (a ∷ b ∷ c ∷ d ∷ []) (now (vx .entry)) (now (vy .entry)) (now (vx .exit)) (now (vy .exit)) ⌝ }
 {
     store_components(vx, cols, k, a.x, b.x, c.x, d.x);

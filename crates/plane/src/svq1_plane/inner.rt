@@ -3,7 +3,7 @@ ghost use mathlib.Core.List.{List};
 ghost use mathlib.Core.Path.{_≡_};
 ghost use Prim.Native.Nat.{ℕ};
 ghost use Rattle.bits.specs.Basics.{firstOf};
-ghost use Rattle.macroblock.specs.Inner.{givenBy};
+ghost use Rattle.macroblock.specs.MacroblockNeeds.{givenBy};
 ghost use Rattle.plane.specs.Refusals.{lengthsRefusal, lentLinks};
 ghost use Rattle.plane.specs.PlaneNeeds.{Padded};
 use canvas::svq1_plane::Svq1PlaneCanvas;

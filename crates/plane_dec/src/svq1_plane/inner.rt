@@ -2,11 +2,11 @@
 ghost use mathlib.Core.Path.{_≡_};
 ghost use lib.ListN.{length};
 ghost use Rattle.book.specs.Book.{codebookBytes};
-ghost use Rattle.macroblock.specs.Inner.{givenBy};
+ghost use Rattle.macroblock.specs.MacroblockNeeds.{givenBy};
 ghost use Rattle.macroblock.specs.Slices.{slicesBy};
 ghost use Rattle.plane.specs.Refusals.{readRefusalBy};
 ghost use Rattle.plane.specs.PlaneNeeds.{PlaneReady, PlaneAccepted};
-ghost use Rattle.plane_dec.specs.Reader.{ReadThrough};
+ghost use Rattle.plane_dec.specs.ReaderNeeds.{ReadThrough};
 use super::super::svq1_plane::ReadEnd;
 use book::inner::CODEBOOK_BYTES;
 use canvas::svq1_plane::Svq1PlaneCanvas;

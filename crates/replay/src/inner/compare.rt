@@ -4,7 +4,7 @@ ghost use Prim.Native.Nat.{_+_, _*_, _/_, _≤_, _<_};
 ghost use lib.Dec.{eqb};
 ghost use lib.ListN.{length};
 ghost use Rattle.bits.specs.Basics.{pick};
-ghost use Rattle.replay.specs.Layout.{mostBlocks, mostSize};
+ghost use Rattle.replay.specs.Layout.{mostJobBlocks, mostSize};
 ghost use Rattle.replay.specs.Compare.{isSame, samePart, sameStep, sameSteps, modesIn, slicesDiffer, codedDiffer, writtenDiffer, readDiffer};
 use super::super::inner::file::Job;
 use super::super::inner::file::bytes_for;
@@ -80,7 +80,7 @@ fn wide(x: u32) -> u64
 
 // Whether macroblock k states the same: the original's steps have seven bytes a macroblock, ours three numbers.
 fn same_step(steps: &[u8], stated: &[u32], k: usize) -> bool
-    requires { ⌜ (3 * k + 3 ≤ length (now stated)) × (k < mostBlocks) ⌝ }
+    requires { ⌜ (3 * k + 3 ≤ length (now stated)) × (k < mostJobBlocks) ⌝ }
     ensures { λ r. ⌜ r ≡ sameStep (now (steps .entry)) (now (stated .entry)) k ⌝ }
 {
     let from = 7 * k;
@@ -96,7 +96,7 @@ fn same_step(steps: &[u8], stated: &[u32], k: usize) -> bool
 
 // Whether the first n macroblocks do.
 fn same_steps(steps: &[u8], stated: &[u32], n: usize) -> bool
-    requires { ⌜ (3 * n ≤ length (now stated)) × (n ≤ mostBlocks) ⌝ }
+    requires { ⌜ (3 * n ≤ length (now stated)) × (n ≤ mostJobBlocks) ⌝ }
     ensures { λ r. ⌜ r ≡ sameSteps (now (steps .entry)) (now (stated .entry)) n ⌝ }
 {
     let mut k = 0;
@@ -167,7 +167,7 @@ pub fn coded_difference(
     stated: &[u32],
     rest: Difference,
 ) -> Difference
-    requires { ⌜ (size ≤ mostSize) × (3 * mostBlocks ≤ length (now stated)) ⌝ }
+    requires { ⌜ (size ≤ mostSize) × (3 * mostJobBlocks ≤ length (now stated)) ⌝ }
     ensures { λ r. ⌜ r ≡ codedDiffer (now (file .entry)) size j (now (out .entry)) (now (stated .entry)) rest ⌝ }
 {
     let blocks = size / 256;

@@ -3,7 +3,7 @@ ghost use mathlib.Core.Path.{_≡_};
 ghost use Prim.Native.Nat.{_+_, _/_, _≤_};
 ghost use lib.ListN.{length, getD};
 ghost use Rattle.canvas.specs.Canvas.{padded16};
-ghost use Rattle.replay.specs.Layout.{partOf, numberOf, bytesFor, mostSide, mostSize, Begun, sizedIn, sceneIn, measuredIn, jobIn};
+ghost use Rattle.replay.specs.Layout.{partIn, numberIn, bytesFor, mostSide, mostSize, Begun, sizedIn, sceneIn, measuredIn, jobOfList};
 use book::inner::BOOK_BYTES;
 use book::inner::CODEBOOK_BYTES;
 use canvas::svq1_plane::Svq1PlaneCanvas;
@@ -49,7 +49,7 @@ pub enum JobRead {
 
 // The n bytes at a place; none where they are not all there.
 pub fn part(t: &[u8], at: usize, n: usize) -> &[u8]
-    ensures { λ r. ⌜ now r ≡ partOf (now (t .entry)) at n ⌝ }
+    ensures { λ r. ⌜ now r ≡ partIn (now (t .entry)) at n ⌝ }
 {
     if t.len() < at {
         return &t[0..0];
@@ -79,7 +79,7 @@ fn wide(x: u8) -> u64
 
 // The number of at most eight bytes, lowest first; 0 for more of them.
 fn number(t: &[u8]) -> u64
-    ensures { λ r. ⌜ r ≡ numberOf (now (t .entry)) ⌝ }
+    ensures { λ r. ⌜ r ≡ numberIn (now (t .entry)) ⌝ }
 {
     if 8 < t.len() {
         return 0;
@@ -95,7 +95,7 @@ fn number(t: &[u8]) -> u64
 
 // The number of n bytes at a place.
 pub fn number_at(t: &[u8], at: usize, n: usize) -> u64
-    ensures { λ r. ⌜ r ≡ numberOf (partOf (now (t .entry)) at n) ⌝ }
+    ensures { λ r. ⌜ r ≡ numberIn (partIn (now (t .entry)) at n) ⌝ }
 {
     number(part(t, at, n))
 }
@@ -205,7 +205,7 @@ fn measured_job(file: &[u8], books: u8, size: usize, at: usize, count: u64) -> J
 // The job at a place, of a scene whose canvas has `size` samples in a list of so many books.
 pub fn read_job(file: &[u8], books: u8, size: usize, at: usize) -> JobRead
     requires { ⌜ size ≤ mostSize ⌝ }
-    ensures { λ r. ⌜ r ≡ jobIn (now (file .entry)) books size at ⌝ }
+    ensures { λ r. ⌜ r ≡ jobOfList (now (file .entry)) books size at ⌝ }
 {
     if file.len() < at {
         return JobRead::Ends;

@@ -1,7 +1,7 @@
 // One job of the fixed list: written, read back, and held against the original's answer.
 ghost use Prim.Native.Nat.{_*_, _≤_};
 ghost use lib.ListN.{length};
-ghost use Rattle.replay.specs.Layout.{mostSize, mostBlocks};
+ghost use Rattle.replay.specs.Layout.{mostSize, mostJobBlocks};
 use super::super::inner::compare::Difference;
 use super::super::inner::compare::coded_difference;
 use super::super::inner::compare::read_difference;
@@ -88,7 +88,7 @@ fn replay_writer(
     vy: &mut [u8],
     stated: &mut [u32],
 ) -> Wrote
-    requires { ⌜ (s .size ≤ mostSize) × (3 * mostBlocks ≤ length (now stated)) ⌝ }
+    requires { ⌜ (s .size ≤ mostSize) × (3 * mostJobBlocks ≤ length (now stated)) ⌝ }
 {
     let end = write_job(file, s, j, out, recon, vx, vy, stated);
     let slices = slices_difference(file, s.size, j, recon, vx, vy);
@@ -125,7 +125,7 @@ fn replay_lent(
     backx: &mut [u8],
     backy: &mut [u8],
 ) -> Tally
-    requires { ⌜ (s .size ≤ mostSize) × (3 * mostBlocks ≤ length (now stated)) × (mostSize ≤ length (now recon)) × (mostSize ≤ length (now back)) ⌝ }
+    requires { ⌜ (s .size ≤ mostSize) × (3 * mostJobBlocks ≤ length (now stated)) × (mostSize ≤ length (now recon)) × (mostSize ≤ length (now back)) ⌝ }
 {
     let size = s.size;
     let w = replay_writer(file, s, j, out, &mut recon[0..size], vx, vy, stated);

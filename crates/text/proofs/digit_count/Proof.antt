@@ -3,7 +3,7 @@ use Prim.Native.Nat.{ℕ, suc, _+_, _-_, _^_, _≤_, _<_}
 use mathlib.Core.Path.{_≡_, refl}
 use native.Mathlib.Omega.{arith}
 use Rattle.text.specs.Text.{decimal}
-use Rattle.text.specs.Writing.{digitCount}
+use Rattle.text.specs.WritingForms.{digitCount}
 use Rattle.text.specs.PutLaws.{count-turn, count-last}
 use Rattle.text.proofs.digit_count.Statement.{statement}
 use Rattle.text.proofs.digit_count.Tie as tie

@@ -4,7 +4,7 @@ use mathlib.Core.Path.{_≡_}
 use native.Mathlib.Omega.{arith}
 use denote.Ref.{now}
 use lib.ListN.{length, drop}
-use Rattle.text.specs.Reading.{countBefore}
+use Rattle.text.specs.ReadingForms.{countBefore}
 use Rattle.text.specs.TextLaws.{count-step, count-here, count-end}
 use Rattle.text.proofs.find.Statement.{statement}
 use Rattle.text.proofs.find.Tie as tie

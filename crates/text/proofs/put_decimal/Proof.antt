@@ -6,7 +6,7 @@ use borrow.Author.Needs.{needs}
 use denote.Ref.{now}
 use lib.ListN.{length, take, drop, length-set}
 use Rattle.text.specs.Text.{decimal}
-use Rattle.text.specs.Writing.{lastDigits}
+use Rattle.text.specs.WritingForms.{lastDigits}
 use Rattle.text.specs.PutLaws.{put-none, digits-turn, digits-kept, digits-end}
 use Rattle.text.proofs.put_decimal.Statement.{statement}
 use Rattle.text.proofs.put_decimal.Tie as tie

@@ -4,7 +4,7 @@ use mathlib.Core.Path.{_≡_, refl, sym, _∙_}
 use native.Mathlib.Omega.{arith}
 use denote.Ref.{now}
 use lib.ListN.{length, drop}
-use Rattle.text.specs.Reading.{digitsFrom}
+use Rattle.text.specs.ReadingForms.{digitsFrom}
 use Rattle.text.specs.TextLaws.{digits-step, digits-other, digits-past, digits-end}
 use Rattle.text.proofs.read_digits.Statement.{statement}
 use Rattle.text.proofs.read_digits.Tie as tie

@@ -7,7 +7,7 @@ ghost use Prim.Native.Nat.{_+_, _-_, _*_, _<_, _≤_};
 ghost use lib.ListN.{length};
 ghost use lib.Seq.{sets};
 ghost use Rattle.tree.specs.Blocks.{gather, paint, place};
-ghost use Rattle.tree_samples.specs.Rows.{Rows};
+ghost use Rattle.tree_samples.specs.RowForms.{Rows};
 ghost use Rattle.tree_samples.specs.PlaceLaws.{rowOf, columnOf};
 
 // The run `xs` into `out` from sample `at` on.

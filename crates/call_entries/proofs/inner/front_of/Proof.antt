@@ -3,7 +3,7 @@ use mathlib.Core.Path.{_≡_, refl}
 use Prim.Native.Nat.{_≤_, _<_, _-_}
 use native.Mathlib.Omega.{arith}
 use lib.ListN.{length, take}
-use Rattle.leaf.specs.Lent.{padded}
+use Rattle.leaf.specs.LentNeeds.{padded}
 use Rattle.call_entries.specs.NodeLaws.{front-put}
 use borrow.Author.Needs.{needs}
 use Rattle.call_entries.proofs.inner.front_of.Statement.{statement}

@@ -1,6 +1,6 @@
 -- A block by its case. Assumes nothing.
 use mathlib.Core.Path.{_∙_, sym, ap}
-use Rattle.tree.specs.Nodes.{nodeAs}
+use Rattle.tree.specs.NodeForms.{nodeAs}
 use Rattle.tree.specs.declared.svq1_enc_tree.TreeNode.{TreeNode}
 use Rattle.call_entries.specs.Node.{nodePart}
 use borrow.Author.Needs.{needs}

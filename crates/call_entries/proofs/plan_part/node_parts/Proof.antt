@@ -1,8 +1,8 @@
 -- One more block each turn. Assumes nothing.
 use mathlib.Core.Path.{_∙_, sym, ap, refl}
 use Prim.Native.Nat.{_-_}
-use Rattle.tree.specs.Nodes.{treeOf}
-use Rattle.tree.specs.WalkLaws.{tree-at, tree-length}
+use Rattle.tree.specs.NodeForms.{treeOf}
+use Rattle.tree.specs.WalkNeedsLaws.{tree-at, tree-length}
 use Rattle.call_entries.specs.Node.{nodePart}
 use Rattle.call_entries.specs.PlanLaws.{Listing, listed-more, listed}
 use native.Mathlib.Omega.{arith}

@@ -5,8 +5,8 @@ use native.Mathlib.Omega.{arith}
 use denote.Ref.{now}
 use lib.ListN.{length, drop}
 use borrow.Author.Needs.{needs}
-use Rattle.code_tables.specs.Ranges.{meetings}
-use Rattle.code_tables.specs.RangesLaws.{meetings-step, meetings-end}
+use Rattle.code_tables.specs.RangeForms.{meetings}
+use Rattle.code_tables.specs.RangeFormsLaws.{meetings-step, meetings-end}
 use Rattle.code_tables.proofs.inner.count_meetings.Statement.{statement}
 use Rattle.code_tables.proofs.inner.count_meetings.Tie as tie
 

@@ -6,7 +6,7 @@ use native.Mathlib.Omega.{arith}
 use denote.Ref.{now}
 use lib.ListN.{length}
 use borrow.Author.Needs.{needs}
-use Rattle.code_tables.specs.RangesLaws.{length-ends, ranges-free}
+use Rattle.code_tables.specs.RangeFormsLaws.{length-ends, ranges-free}
 use Rattle.code_tables.proofs.inner.prefix_free.Statement.{statement}
 use Rattle.code_tables.proofs.inner.prefix_free.Tie as tie
 

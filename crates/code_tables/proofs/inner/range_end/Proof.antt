@@ -1,7 +1,7 @@
 -- `inner::range_end` meets its contract. A range's end has 32 bits, so that its parts fit too.
 use Prim.Native.Nat.{_+_, _-_, _*_, _<_}
 use native.Mathlib.Omega.{arith}
-use Rattle.code_tables.specs.RangesLaws.{end-small}
+use Rattle.code_tables.specs.RangeFormsLaws.{end-small}
 use Rattle.code_tables.proofs.inner.range_end.Statement.{statement}
 use Rattle.code_tables.proofs.inner.range_end.Tie as tie
 

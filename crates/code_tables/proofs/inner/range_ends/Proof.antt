@@ -8,8 +8,8 @@ use lib.ListN.{length, take, getD, length-set}
 use borrow.Author.Needs.{needs}
 use Rattle.bits.specs.FillLaws.{fill-step, fill-end}
 use Rattle.code_tables.specs.CodesLaws.{good-is}
-use Rattle.code_tables.specs.Ranges.{rangeEnds}
-use Rattle.code_tables.specs.RangesLaws.{length-ends, end-at}
+use Rattle.code_tables.specs.RangeForms.{rangeEnds}
+use Rattle.code_tables.specs.RangeFormsLaws.{length-ends, end-at}
 use Rattle.code_tables.proofs.inner.range_ends.Statement.{statement}
 use Rattle.code_tables.proofs.inner.range_ends.Tie as tie
 

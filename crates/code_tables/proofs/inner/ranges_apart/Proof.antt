@@ -10,8 +10,8 @@ use lib.ListN.{length, drop, getD}
 use borrow.Author.Tests.{eq-eqb, ne-eqb}
 use borrow.Author.Needs.{needs}
 use Rattle.bits.specs.BasicsLaws.{part-from, length-part}
-use Rattle.code_tables.specs.Ranges.{meetings, rangesApart}
-use Rattle.code_tables.specs.RangesLaws.{apart-ranges-step, apart-ranges-end}
+use Rattle.code_tables.specs.RangeForms.{meetings, rangesApart}
+use Rattle.code_tables.specs.RangeFormsLaws.{apart-ranges-step, apart-ranges-end}
 use Rattle.code_tables.proofs.inner.ranges_apart.Statement.{statement}
 use Rattle.code_tables.proofs.inner.ranges_apart.Tie as tie
 

@@ -24,8 +24,8 @@ returns c =
 slice-aggregate-searched : tie.Need-slice-aggregate-searched
 slice-aggregate-searched c = search needs
 
-level-of-requires : tie.Need-level-of-requires
-level-of-requires c κs =
+level-at-requires : tie.Need-level-at-requires
+level-at-requires c κs =
     let s = c .before .before .before .before .before .before .before in
     let a = s .args in
     let b : BlockIn = record { book = a .book .now; codebook = a .codebook .now; level = a .level; half = a .half; cap = a .cap; allowSkip = a .skip; target = a .target .now; predictor = a .predictor .now } in
@@ -48,7 +48,7 @@ searched-requires c κs =
     let b : BlockIn = record { book = a .book .now; codebook = a .codebook .now; level = a .level; half = a .half; cap = a .cap; allowSkip = a .skip; target = a .target .now; predictor = a .predictor .now } in
     let none : blockRefusal b ≡ 0 = sym (c .before .before .before .before .block-refusal .ensures) ∙ c .before .before .before .if1 .left in
     let p = block-passes b none in
-    let l = c .before .level-of .ensures in
+    let l = c .before .level-at .ensures in
     record {
       known = p .book;
       codebook-size = p .codebook;
@@ -66,7 +66,7 @@ returns-2 c =
     let b : BlockIn = record { book = a .book .now; codebook = a .codebook .now; level = a .level; half = a .half; cap = a .cap; allowSkip = a .skip; target = a .target .now; predictor = a .predictor .now } in
     let none : blockRefusal b ≡ 0 = sym (c .before .before .before .before .before .before .block-refusal .ensures) ∙ c .before .before .before .before .before .if1 .left in
     let p = block-passes b none in
-    let f = rw (c .before .before .before .level-of .ensures, c .before .before .terms-of .ensures) at (c .before .searched .ensures) in
+    let f = rw (c .before .before .before .level-at .ensures, c .before .before .terms-of .ensures) at (c .before .searched .ensures) in
     answer-found b (c .before .searched .result) none (f .accepted) (f .leaf) (f .counted) (f .behind)
 
 pub search-leaf-spec : {M : Type 1} → statement M
@@ -77,7 +77,7 @@ search-leaf-spec =
     refused-answer-requires
     returns
     slice-aggregate-searched
-    level-of-requires
+    level-at-requires
     terms-of-requires
     searched-requires
     returns-2)

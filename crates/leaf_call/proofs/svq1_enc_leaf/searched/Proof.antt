@@ -5,7 +5,7 @@ use Rattle.bits.specs.Basics.{Bytes}
 use Rattle.book.specs.Level.{levelNumber}
 use Rattle.book.specs.LevelLaws.{level-most}
 use Rattle.leaf_call.specs.LeafAnswerLaws.{found-level}
-use Rattle.leaf_search.specs.LevelLeafLaws.{found-fits}
+use Rattle.leaf_search.specs.LevelLeafNeedsLaws.{found-fits}
 use borrow.Author.Needs.{needs}
 use Rattle.leaf_call.proofs.svq1_enc_leaf.searched.Statement.{statement}
 use Rattle.leaf_call.proofs.svq1_enc_leaf.searched.Tie as tie

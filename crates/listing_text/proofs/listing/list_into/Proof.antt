@@ -4,8 +4,8 @@ use mathlib.Core.Path.{sym}
 use lib.Seq.{length-take-le}
 use Rattle.macroblock.specs.Macroblock.{Given}
 use Rattle.macroblock.specs.Choice.{Task}
-use Rattle.macroblock_choice.specs.Chosen.{taskBy}
-use Rattle.macroblock.specs.Inner.{givenBy}
+use Rattle.macroblock_choice.specs.ChosenNeeds.{taskBy}
+use Rattle.macroblock.specs.MacroblockNeeds.{givenBy}
 use Rattle.listing_text.specs.ListedLaws.{sizes, recon-long, vx-long, vy-long, plane-ended, plane-text}
 use borrow.Author.Needs.{needs}
 use Rattle.listing_text.proofs.listing.list_into.Statement.{statement}

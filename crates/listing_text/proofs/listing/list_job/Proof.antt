@@ -2,7 +2,7 @@
 use mathlib.Core.Path.{_≡_, sym, _∙_}
 use mathlib.Core.List.{[]}
 use Rattle.listing_job.specs.Job.{Job}
-use Rattle.listing_job.specs.JobReading.{jobBy}
+use Rattle.listing_job.specs.JobForms.{jobBy}
 use Rattle.listing_text.specs.Listing.{Files, filesRefusal}
 use Rattle.listing_text.specs.Listed.{filesBy}
 use Rattle.listing_text.specs.FilesLaws.{files-listable, put-job-refused, text-plane}

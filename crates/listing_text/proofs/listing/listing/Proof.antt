@@ -1,7 +1,7 @@
 -- Too short a text, a job line of another form, or the job. Assumes nothing.
 use mathlib.Core.Path.{_≡_, sym, _∙_}
 use mathlib.Core.List.{[]}
-use Rattle.listing_job.specs.JobReading.{jobBy}
+use Rattle.listing_job.specs.JobForms.{jobBy}
 use Rattle.listing_text.specs.Listing.{Files}
 use Rattle.listing_text.specs.Listed.{filesBy}
 use Rattle.listing_job.specs.JobLaws.{job-small, job-told}

@@ -2,11 +2,11 @@
 ghost use mathlib.Core.Path.{_≡_};
 ghost use lib.ListN.{length};
 ghost use Rattle.canvas.specs.Canvas.{blocksAlong};
-ghost use Rattle.tree.specs.Nodes.{treeOf};
+ghost use Rattle.tree.specs.NodeForms.{treeOf};
 ghost use Rattle.macroblock.specs.Macroblock.{halfOf};
-ghost use Rattle.macroblock.specs.Motions.{motionOf};
-ghost use Rattle.macroblock.specs.Samples.{Shows};
-ghost use Rattle.macroblock.specs.Laying.{ShowingIf, Laying, LaysChoice, choiceBy};
+ghost use Rattle.macroblock.specs.MotionForms.{motionOf};
+ghost use Rattle.macroblock.specs.SampleNeeds.{Shows};
+ghost use Rattle.macroblock.specs.LayingNeeds.{ShowingIf, Laying, LaysChoice, choiceBy};
 use super::super::super::svq1_enc_inter::MbMotion;
 use super::super::super::svq1_enc_inter::inner::samples::lay_block;
 use super::super::super::svq1_enc_inter::inner::samples::show_coded;

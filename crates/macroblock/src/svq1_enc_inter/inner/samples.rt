@@ -4,17 +4,17 @@ ghost use mathlib.Core.List.{List};
 ghost use Prim.Native.Nat.{ℕ, _*_, _<_};
 ghost use lib.ListN.{length, replicate};
 ghost use Rattle.bits.specs.Basics.{All};
-ghost use Rattle.mv_cache.specs.Cache.{Slices};
+ghost use Rattle.mv_cache.specs.CacheNeeds.{VectorSlices};
 ghost use Rattle.mv_cache.specs.Grid.{part, putPart};
-ghost use Rattle.compensation.specs.Moved.{Placed};
+ghost use Rattle.compensation.specs.MovedForms.{Placed};
 ghost use Rattle.canvas.specs.Canvas.{blocksAlong};
 ghost use Rattle.vectors.specs.VectorsLaws.{Inside};
 ghost use Rattle.vectors.specs.declared.svq1_motion_predictor.Svq1Mv.{Svq1Mv};
-ghost use Rattle.tree.specs.Nodes.{treeOf};
+ghost use Rattle.tree.specs.NodeForms.{treeOf};
 ghost use Rattle.macroblock.specs.Macroblock.{coded, halfOf, baseline};
-ghost use Rattle.macroblock.specs.Motions.{motionOf};
-ghost use Rattle.macroblock.specs.Inner.{givenBy};
-ghost use Rattle.macroblock.specs.Samples.{Stands, Room, Laid, Showing, Shows, quarters};
+ghost use Rattle.macroblock.specs.MotionForms.{motionOf};
+ghost use Rattle.macroblock.specs.MacroblockNeeds.{givenBy};
+ghost use Rattle.macroblock.specs.SampleNeeds.{Stands, ReconRoom, Laid, Showing, Shows, quarters};
 use super::super::super::svq1_enc_inter::MbMotion;
 use book::svq1_vlc::Svq1Half;
 use canvas::svq1_plane::Svq1PlaneCanvas;
@@ -45,7 +45,7 @@ pub fn take_block(
 
 // The samples v as macroblock k of a plane that is cols macroblocks wide.
 pub fn put_block(plane: &mut [u8], cols: usize, k: usize, v: &[u8; 256])
-    requires { ⌜ Room cols k (now plane) ⌝ }
+    requires { ⌜ ReconRoom cols k (now plane) ⌝ }
     ensures { λ _. ⌜ now (plane .exit) ≡ putPart 16 cols k (now (v .entry)) (now (plane .entry)) ⌝ }
 {
     let mut j: usize = 0;
@@ -157,7 +157,7 @@ pub fn lay_block(
     vx: &mut [u8],
     vy: &mut [u8],
 )
-    requires { ⌜ Room cols k (now recon) × Slices cols rows (now vx) (now vy) × (k < rows * cols) × All Inside vectors ⌝ }
+    requires { ⌜ ReconRoom cols k (now recon) × VectorSlices cols rows (now vx) (now vy) × (k < rows * cols) × All Inside vectors ⌝ }
     ensures { λ _. ⌜ Laid cols k (now (samples .entry)) vectors (now (recon .entry)) (now (vx .entry)) (now (vy .entry)) (now (recon .exit)) (now (vx .exit)) (now (vy .exit)) ⌝ }
 {
     let a = vectors[0];

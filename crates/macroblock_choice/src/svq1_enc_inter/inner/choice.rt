@@ -2,25 +2,25 @@
 ghost use mathlib.Core.Path.{_≡_};
 ghost use lib.ListN.{length};
 ghost use Rattle.bits.specs.Basics.{All};
-ghost use Rattle.mv_cache.specs.Cache.{nearFrom};
+ghost use Rattle.mv_cache.specs.CacheNeeds.{nearFrom};
 ghost use Rattle.mv_cache.specs.NeighboursLaws.{Around};
 ghost use Rattle.macroblock.specs.MacroblockLaws.{Codables};
 ghost use Rattle.macroblock.specs.Limit.{Limit};
-ghost use Rattle.macroblock.specs.Inner.{givenBy};
-ghost use Rattle.macroblock_search.specs.Searches.{motionsOf};
-ghost use Rattle.macroblock_choice.specs.Candidates.{Stated, Tried};
-ghost use Rattle.macroblock_choice.specs.Chosen.{Placing, Sourced, Carries, ChosenFor, ChosenBy, taskIn};
+ghost use Rattle.macroblock.specs.MacroblockNeeds.{givenBy};
+ghost use Rattle.macroblock_search.specs.SearchNeeds.{motionsOf};
+ghost use Rattle.macroblock_choice.specs.CandidateNeeds.{Stated, Tried};
+ghost use Rattle.macroblock_choice.specs.ChosenNeeds.{Placing, Sourced, Carries, ChosenFor, ChosenBy, taskIn};
 use super::super::super::svq1_enc_inter::inner::candidates::MbCandidate;
 use super::super::super::svq1_enc_inter::inner::candidates::better;
 use super::super::super::svq1_enc_inter::inner::candidates::skip_candidate;
 use super::super::super::svq1_enc_inter::inner::plans::coded_candidate;
 use canvas::svq1_plane::Svq1PlaneCanvas;
 use macroblock::svq1_enc_inter::Settings;
+use macroblock_search::svq1_enc::inner::block;
 use macroblock_search::svq1_enc_inter::inner::motions::FoundMotion;
 use macroblock_search::svq1_enc_inter::inner::motions::four_motion;
 use macroblock_search::svq1_enc_inter::inner::motions::single_motion;
 use macroblock_search::svq1_enc_inter::inner::motions::still_found;
-use macroblock_search::svq1_enc::inner::block;
 use mv_cache::svq1_mv_cache::NearBlocks;
 
 // The best so far, or a motion that was found, if it has room and is better.

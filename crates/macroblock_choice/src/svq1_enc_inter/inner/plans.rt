@@ -1,25 +1,25 @@
 // A motion with its plan, as a candidate.
 ghost use mathlib.Core.Path.{_≡_};
 ghost use lib.ListN.{length};
-ghost use Rattle.mv_cache.specs.Cache.{nearFrom};
+ghost use Rattle.mv_cache.specs.CacheNeeds.{nearFrom};
 ghost use Rattle.macroblock.specs.MacroblockLaws.{Codables};
 ghost use Rattle.macroblock.specs.Choice.{skipsLeaves, planeTerms};
-ghost use Rattle.macroblock.specs.Motions.{motionOf};
-ghost use Rattle.macroblock.specs.Inner.{givenBy};
-ghost use Rattle.macroblock_choice.specs.Chosen.{planningBy, Placing, Carries, Made};
-ghost use Rattle.plan.specs.Planning.{PlanFound};
+ghost use Rattle.macroblock.specs.MotionForms.{motionOf};
+ghost use Rattle.macroblock.specs.MacroblockNeeds.{givenBy};
+ghost use Rattle.macroblock_choice.specs.ChosenNeeds.{planningBy, Placing, Carries, Made};
+ghost use Rattle.plan.specs.PlanNeeds.{PlanFound};
 use super::super::super::svq1_enc_inter::inner::candidates::MbCandidate;
 use super::super::super::svq1_enc_inter::inner::candidates::candidate_of;
 use book::svq1_vlc::Svq1Half;
 use canvas::svq1_plane::Svq1PlaneCanvas;
 use leaf::svq1_enc_leaf::LeafTerms;
-use macroblock::svq1_enc_inter::inner::samples::baseline_of;
-use macroblock::svq1_enc_inter::inner::samples::half_of;
 use macroblock::svq1_enc_inter::MbMotion;
 use macroblock::svq1_enc_inter::Settings;
+use macroblock::svq1_enc_inter::inner::samples::baseline_of;
+use macroblock::svq1_enc_inter::inner::samples::half_of;
 use mv_cache::svq1_mv_cache::NearBlocks;
-use plan::svq1_enc_tree::inner::plan;
 use plan::svq1_enc_tree::MbPlan;
+use plan::svq1_enc_tree::inner::plan;
 use vectors::svq1_motion_predictor::Svq1Mv;
 
 // Leaves may skip in the inter half.

@@ -8,34 +8,34 @@ ghost use Rattle.bits.specs.Bits.{bitsOf};
 ghost use Rattle.book.specs.Book.{tablesOf};
 ghost use Rattle.vectors.specs.Vectors.{zeroMv};
 ghost use Rattle.vectors.specs.VectorsLaws.{Inside};
-ghost use Rattle.mv_cache.specs.Cache.{nearFrom, Slices};
+ghost use Rattle.mv_cache.specs.CacheNeeds.{nearFrom, VectorSlices};
 ghost use Rattle.mv_cache.specs.Neighbours.{nearOf};
 ghost use Rattle.tree.specs.TreeBits.{readTree};
-ghost use Rattle.tree.specs.Walk.{Reads};
+ghost use Rattle.tree.specs.WalkNeeds.{Reads};
 ghost use Rattle.macroblock.specs.Mode.{modePosition};
-ghost use Rattle.macroblock_dec.specs.MacroblockRead.{Ready, MbRead};
-ghost use Rattle.macroblock.specs.Inner.{givenBy, byBook};
+ghost use Rattle.macroblock_dec.specs.ReadNeeds.{ReadReady, MbRead};
+ghost use Rattle.macroblock.specs.MacroblockNeeds.{givenBy, byBook};
 ghost use Rattle.macroblock.specs.Reading.{readBehind, readMacroblock};
-ghost use Rattle.macroblock_dec.specs.Finding.{Found, MotionFound, TreeFound, ChoiceFound, skippedAt, readFour, readMotion, differenceHere, modeDifference};
+ghost use Rattle.macroblock_dec.specs.FindingNeeds.{Found, MotionFound, TreeFound, ChoiceFound, skippedAt, readFour, readMotion, differenceHere, modeDifference};
 ghost use Rattle.macroblock.specs.Slices.{slicesBy};
 use super::super::super::svq1_plane::inner::codes::read_mb_mode;
 use super::super::super::svq1_plane::inner::codes::read_vector;
 use book::svq1_vlc::Svq1Half;
 use canvas::svq1_plane::Svq1PlaneCanvas;
-use macroblock::svq1_enc_inter::inner::laying::lay_choice;
-use macroblock::svq1_enc_inter::inner::samples::half_of;
 use macroblock::svq1_enc_inter::MbMotion;
 use macroblock::svq1_enc_inter::Svq1MbMode;
-use mv_cache::svq1_mv_cache::inner::near_blocks;
+use macroblock::svq1_enc_inter::inner::laying::lay_choice;
+use macroblock::svq1_enc_inter::inner::samples::half_of;
 use mv_cache::svq1_mv_cache::NearBlocks;
+use mv_cache::svq1_mv_cache::inner::near_blocks;
 use mv_cache::svq1_mv_cache::predict_first;
 use mv_cache::svq1_mv_cache::predict_fourth;
 use mv_cache::svq1_mv_cache::predict_one;
 use mv_cache::svq1_mv_cache::predict_second;
 use mv_cache::svq1_mv_cache::predict_third;
 use tree::svq1_enc_tree::Block;
-use tree::svq1_enc_tree::no_blocks;
 use tree::svq1_enc_tree::inner::walk::ReadTree;
+use tree::svq1_enc_tree::no_blocks;
 use vectors::svq1_motion_predictor::Svq1Mv;
 use vectors::svq1_motion_predictor::zero_vector;
 
@@ -247,7 +247,7 @@ fn read_among(
     rows: usize,
     k: usize,
 ) -> ReadChoice
-    requires { ⌜ Reads (now book) 5 (length (now s)) at × Slices cols rows (now vx) (now vy) × (k < rows * cols) ⌝ }
+    requires { ⌜ Reads (now book) 5 (length (now s)) at × VectorSlices cols rows (now vx) (now vy) × (k < rows * cols) ⌝ }
     ensures { λ r. ⌜ ChoiceFound (now (s .entry)) (readMacroblock (byBook (now (book .entry))) (nearOf cols rows (now (vx .entry)) (now (vy .entry)) k) (drop at (bitsOf (now (s .entry))))) (modeDifference (now (s .entry)) (now (book .entry)) at) r ⌝ }
 {
     let near = near_blocks(vx, vy, cols, rows, k);
@@ -268,7 +268,7 @@ pub fn read_macroblock(
     vx: &mut [u8],
     vy: &mut [u8],
 ) -> ReadMb
-    requires { ⌜ Ready (givenBy canvas (now reference) (now book) (now codebook)) (now raised) (slicesBy (now recon) (now vx) (now vy)) k (length (now s)) at ⌝ }
+    requires { ⌜ ReadReady (givenBy canvas (now reference) (now book) (now codebook)) (now raised) (slicesBy (now recon) (now vx) (now vy)) k (length (now s)) at ⌝ }
     ensures { λ r. ⌜ MbRead (givenBy canvas (now (reference .entry)) (now (book .entry)) (now (codebook .entry))) (now (s .entry)) at k (slicesBy (now (recon .entry)) (now (vx .entry)) (now (vy .entry))) r (slicesBy (now (recon .exit)) (now (vx .exit)) (now (vy .exit))) ⌝ }
 {
     let c = read_among(s, at, book, vx, vy, canvas.stride / 16, canvas.rows / 16, k);

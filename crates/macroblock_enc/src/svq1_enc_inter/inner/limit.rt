@@ -4,8 +4,8 @@ ghost use Prim.Native.Nat.{_-_, _*_};
 ghost use lib.ListN.{length};
 ghost use Rattle.macroblock.specs.declared.svq1_enc_inter.Svq1MbMode.the-variants.{Skip};
 ghost use Rattle.macroblock.specs.Macroblock.{modeBits};
-ghost use Rattle.macroblock.specs.Inner.{byBook};
-ghost use Rattle.macroblock_enc.specs.Limits.{roomOf, Reserved, Reserving};
+ghost use Rattle.macroblock.specs.MacroblockNeeds.{byBook};
+ghost use Rattle.macroblock_enc.specs.LimitForms.{roomUnder, Reserved, Reserving};
 use macroblock::svq1_enc_inter::Svq1MbMode;
 use macroblock_bits::svq1_enc_inter::inner::mb_mode_bits;
 
@@ -18,7 +18,7 @@ pub enum BitLimit {
 // The bits that the next macroblock may take, with so many macroblocks left behind it in the plane; with no limit, more than any takes.
 fn room_of(limit: BitLimit, spent: u64, skip: u64, left: u64) -> u64
     requires { ⌜ Reserved limit spent skip left ⌝ }
-    ensures { λ r. ⌜ r ≡ roomOf limit spent skip left ⌝ }
+    ensures { λ r. ⌜ r ≡ roomUnder limit spent skip left ⌝ }
 {
     match limit {
         BitLimit::Unlimited => 65536,
@@ -29,7 +29,7 @@ fn room_of(limit: BitLimit, spent: u64, skip: u64, left: u64) -> u64
 // The same for macroblock k.
 pub fn room_at(limit: BitLimit, spent: u64, book: &[u8], cols: usize, rows: usize, k: usize) -> u64
     requires { ⌜ Reserving (now book) limit cols rows k spent ⌝ }
-    ensures { λ r. ⌜ r ≡ roomOf limit spent (length (modeBits (byBook (now (book .entry))) Skip)) (rows * cols - k - 1) ⌝ }
+    ensures { λ r. ⌜ r ≡ roomUnder limit spent (length (modeBits (byBook (now (book .entry))) Skip)) (rows * cols - k - 1) ⌝ }
 {
     let skip = mb_mode_bits(book, Svq1MbMode::Skip);
     let left = rows * cols - k - 1;

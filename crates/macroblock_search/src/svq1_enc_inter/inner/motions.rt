@@ -3,9 +3,9 @@ ghost use mathlib.Core.Path.{_≡_};
 ghost use mathlib.Core.List.{[]};
 ghost use Rattle.bits.specs.Basics.{pick};
 ghost use Rattle.mv_cache.specs.NeighboursLaws.{Around};
-ghost use Rattle.mv_cache.specs.Cache.{nearFrom};
+ghost use Rattle.mv_cache.specs.CacheNeeds.{nearFrom};
 ghost use Rattle.macroblock.specs.Choice.{singleTried, fourTried};
-ghost use Rattle.macroblock_search.specs.Searches.{Searching, MotionsFound, oneFound, fourFound, noneFound, stillFound};
+ghost use Rattle.macroblock_search.specs.SearchNeeds.{Searching, MotionsFound, oneFound, fourFound, noneFound, stillFound};
 use super::super::super::svq1_enc_inter::inner::searches::corner_of;
 use super::super::super::svq1_enc_inter::inner::searches::find_vector;
 use super::super::super::svq1_enc_inter::inner::searches::first_pair;
@@ -14,8 +14,8 @@ use canvas::svq1_plane::Svq1PlaneCanvas;
 use macroblock::svq1_enc_inter::MbMotion;
 use mv_cache::svq1_mv_cache::NearBlocks;
 use mv_cache::svq1_mv_cache::predict_one;
-use vectors::svq1_motion_predictor::inner::difference_of;
 use vectors::svq1_motion_predictor::Svq1Mv;
+use vectors::svq1_motion_predictor::inner::difference_of;
 use vectors::svq1_motion_predictor::zero_vector;
 
 // A motion to try, if there is one, with the vectors that its four blocks store.

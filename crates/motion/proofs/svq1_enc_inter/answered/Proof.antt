@@ -4,7 +4,7 @@ use borrow.Author.Tests.{lt-ltb, le-ltb}
 use mir.ValLaws.{toZ-ofZ}
 use mir.Val.{SFits}
 use mir.Syntax.{w32}
-use Rattle.motion.specs.Candidates.{lowered, shown}
+use Rattle.motion.specs.CandidateForms.{lowered, bestSoFar}
 use Rattle.vectors.specs.ClipLaws.{sub-mag}
 use borrow.Author.Needs.{needs}
 use Rattle.motion.proofs.svq1_enc_inter.answered.Statement.{statement}
@@ -17,7 +17,7 @@ lower-requires-2 : tie.Need-lower-requires-2
 lower-requires-2 c κs = search needs
 
 returns : tie.Need-returns
-unfolding shown
+unfolding bestSoFar
 returns c =
     let b = c .before .before .before .before .args .b in
     let h = c .before .before .before .before .pre in
@@ -26,7 +26,7 @@ returns c =
     simp (lt-ltb _ _ (c .before .before .if1 .taken), c .before .lower .ensures, c .lower2 .ensures, toZ-ofZ w32 (lowered (b .ux)) f, toZ-ofZ w32 (lowered (b .uy)) g)
 
 returns-2 : tie.Need-returns-2
-unfolding shown
+unfolding bestSoFar
 returns-2 c = simp (le-ltb _ _ (c .if1 .left))
 
 pub answered-spec : {M : Type 1} → statement M

@@ -3,7 +3,7 @@ use mathlib.Core.Path.{sym, _∙_, ap}
 use native.Mathlib.Omega.{arith}
 use mir.ValLaws.{toZ-ofZ}
 use mir.Syntax.{w32}
-use Rattle.motion.specs.Search.{Search, Best, searchBest, vectorOf, foundAnswer}
+use Rattle.motion.specs.Search.{Search, Best, searchBest, vectorOf, vectorAnswer}
 use Rattle.motion.specs.SearchCall.{Raised}
 use Rattle.motion.specs.SearchCallLaws.{passes, ready, spot-is, answer-refused, answer-found}
 use borrow.Author.Needs.{needs}
@@ -52,7 +52,7 @@ returns-2 c =
     let q : Raised (a .predictor .y) (c .before .before .raise2 .result) = simp (toZ-ofZ w32 (a .predictor .y) (record { sfits = c .before .before .before .struct-told2 .given .1 .0 .1 })) at (c .before .before .raise2 .ensures) in
     let e = sym (c .before .before .before .before .before .before .before .search-refusal .ensures) ∙ c .before .before .before .before .before .before .if1 .left in
     c .answered .ensures
-    ∙ ap (λ (f : Best). foundAnswer (vectorOf f)) (c .before .search-best .ensures .0 ∙ ap searchBest (spot-is g _ _ p q))
+    ∙ ap (λ (f : Best). vectorAnswer (vectorOf f)) (c .before .search-best .ensures .0 ∙ ap searchBest (spot-is g _ _ p q))
     ∙ answer-found g e
 
 pub search-motion-vector-spec : {M : Type 1} → statement M

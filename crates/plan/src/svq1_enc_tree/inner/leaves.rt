@@ -4,18 +4,18 @@ ghost use Prim.Native.Nat.{_-_, _^_, _<_, _≤_};
 ghost use lib.ListN.{length};
 ghost use Rattle.book.specs.Level.{width};
 ghost use Rattle.tree.specs.Blocks.{level, blockOf};
-ghost use Rattle.tree_samples.specs.Subtree.{inTree, BlockIn};
-ghost use Rattle.plan.specs.PlannedLaws.{LeafAt};
-ghost use Rattle.plan.specs.Planning.{LeafReady, Scratch, BlockLeaf, PlanReady, BlockReady, planningIn, leafRecord};
+ghost use Rattle.tree_samples.specs.SubtreeForms.{inTree, BlockPlaced};
+ghost use Rattle.plan.specs.PlannedFormsLaws.{LeafAt};
+ghost use Rattle.plan.specs.PlanNeeds.{LeafReady, Scratch, BlockLeaf, PlanReady, BlockReady, planningIn, leafRecord};
 use super::super::super::svq1_enc_tree::PlannedBlock;
-use leaf::svq1_enc_leaf::inner::book_leaf_bits;
+use book::inner::level_at;
 use leaf::svq1_enc_leaf::LeafCode;
 use leaf::svq1_enc_leaf::LeafTerms;
-use leaf_search::svq1_enc_leaf::inner::level_leaf;
+use leaf::svq1_enc_leaf::inner::book_leaf_bits;
 use leaf_search::svq1_enc_leaf::LeafChoice;
+use leaf_search::svq1_enc_leaf::inner::level_leaf;
 use tree::svq1_enc_tree::inner::level_of;
 use tree::svq1_enc_tree::inner::walk::first_of;
-use tree::svq1_enc_tree::inner::walk::level_at;
 use tree_samples::svq1_enc_tree::inner::gather_block;
 use tree_samples::svq1_enc_tree::inner::place_of;
 
@@ -56,7 +56,7 @@ pub fn in_tree(d: usize, i: usize) -> bool
 
 // Block i of a plane that is a block of level d.
 pub fn block_of(m: &[u8], d: usize, i: usize, out: &mut [u8])
-    requires { ⌜ BlockIn d i (length (now m)) (length (now out)) ⌝ }
+    requires { ⌜ BlockPlaced d i (length (now m)) (length (now out)) ⌝ }
     ensures { λ _. ⌜ now (out .exit) ≡ blockOf (width d) (level i) i (now (m .entry)) ⌝ }
 {
     let whole = level_at(d).block_dims();

@@ -2,9 +2,9 @@
 use mathlib.Core.Path.{sym, _∙_}
 use Rattle.macroblock.specs.Macroblock.{Given}
 use Rattle.macroblock.specs.Slices.{Slices, slicesBy}
-use Rattle.macroblock.specs.Inner.{givenBy}
+use Rattle.macroblock.specs.MacroblockNeeds.{givenBy}
 use Rattle.plane.specs.RefusalsLaws.{read-accepted}
-use Rattle.plane_dec.specs.ReaderLaws.{call-refused, call-read}
+use Rattle.plane_dec.specs.ReaderNeedsLaws.{call-refused, call-read}
 use borrow.Author.Needs.{needs}
 use Rattle.plane_dec.proofs.svq1_plane.decode_inter_plane.Statement.{statement}
 use Rattle.plane_dec.proofs.svq1_plane.decode_inter_plane.Tie as tie

@@ -4,12 +4,12 @@ use native.Mathlib.Omega.{arith}
 use Rattle.bits.specs.Bits.{bitsOf}
 use Rattle.macroblock.specs.Macroblock.{Given}
 use Rattle.macroblock.specs.Choice.{Task}
-use Rattle.macroblock_choice.specs.Chosen.{taskBy}
+use Rattle.macroblock_choice.specs.ChosenNeeds.{taskBy}
 use Rattle.macroblock.specs.Slices.{Slices, slicesBy}
-use Rattle.macroblock.specs.Inner.{givenBy}
+use Rattle.macroblock.specs.MacroblockNeeds.{givenBy}
 use Rattle.plane.specs.RefusalsLaws.{write-accepted}
 use Rattle.plane_enc.specs.StatedLaws.{in-none}
-use Rattle.plane_enc.specs.WriterLaws.{call-refused, call-written}
+use Rattle.plane_enc.specs.WriterNeedsLaws.{call-refused, call-written}
 use borrow.Author.Needs.{needs}
 use Rattle.plane_enc.proofs.svq1_enc_inter.encode_inter_plane_stated.Statement.{statement}
 use Rattle.plane_enc.proofs.svq1_enc_inter.encode_inter_plane_stated.Tie as tie

@@ -3,41 +3,25 @@
 ghost use mathlib.Core.Path.{_≡_};
 ghost use Prim.Native.Nat.{_<_, _≤_};
 ghost use lib.ListN.{length};
-ghost use Rattle.bits.specs.Inner.{Fits, Wrote};
+ghost use Rattle.bits.specs.BitNeeds.{Fits, Wrote};
 ghost use Rattle.book.specs.Book.{bookBytes, stageFamily, stageTable, tablesOf};
-ghost use Rattle.book.specs.Level.{levelNumber};
 ghost use Rattle.leaf.specs.LeafBits.{leafBits};
-ghost use Rattle.leaf.specs.Raised.{leafOf};
+ghost use Rattle.leaf.specs.LeafForms.{leafOf};
 ghost use Rattle.tree.specs.Blocks.{first};
 ghost use Rattle.tree.specs.TreeBits.{isSplit, reached, nodeBits, treeBits};
-ghost use Rattle.tree.specs.Nodes.{nodeOf, treeOf};
-ghost use Rattle.tree.specs.Walk.{leafFlag, LeafRoom, NodeRoom, TreeRoom, Reads, LeafHere, NodeHere, TreeHere};
-use super::super::super::svq1_enc_tree::inner::level_of;
+ghost use Rattle.tree.specs.NodeForms.{nodeOf, treeOf};
+ghost use Rattle.tree.specs.WalkNeeds.{leafFlag, LeafRoom, NodeRoom, TreeRoom, Reads, LeafHere, NodeHere, TreeHere};
 use super::super::super::svq1_enc_tree::Block;
 use super::super::super::svq1_enc_tree::TreeNode;
+use super::super::super::svq1_enc_tree::inner::level_of;
 use bits::inner::get_bits;
 use bits::inner::put_bits;
+use book::inner::level_at;
 use book::inner::mean_table;
-use book::svq1_blocktree::Svq1Level;
 use book::svq1_vlc::Svq1Half;
-use leaf::svq1_plane::inner::read_leaf;
-use leaf::svq1_enc_leaf::inner::put_leaf;
 use leaf::svq1_enc_leaf::LeafCode;
-
-// The level of this number.
-pub fn level_at(d: usize) -> Svq1Level
-    requires { ⌜ d ≤ 5 ⌝ }
-    ensures { λ r. ⌜ levelNumber r ≡ d ⌝ }
-{
-    match d {
-        0 => Svq1Level::L0,
-        1 => Svq1Level::L1,
-        2 => Svq1Level::L2,
-        3 => Svq1Level::L3,
-        4 => Svq1Level::L4,
-        _ => Svq1Level::L5,
-    }
-}
+use leaf::svq1_enc_leaf::inner::put_leaf;
+use leaf::svq1_plane::inner::read_leaf;
 
 // A half's stage table of a level, of a book.
 pub fn stage_table(book: &[u8], half: Svq1Half, d: usize) -> &[u8]

@@ -3,13 +3,14 @@
 ghost use mathlib.Core.Path.{_≡_};
 ghost use Prim.Native.Nat.{_<_};
 ghost use lib.ListN.{length};
-ghost use Rattle.leaf.specs.Raised.{leafOf};
+ghost use Rattle.leaf.specs.LeafForms.{leafOf};
 ghost use Rattle.tree.specs.Blocks.{paintAt};
-ghost use Rattle.tree.specs.Nodes.{nodeOf, treeOf};
-ghost use Rattle.tree_samples.specs.Rebuild.{Cells, Drawing, DrawingNode, Rebuilding, leafAs, nodeAt, rebuiltBy};
+ghost use Rattle.tree.specs.NodeForms.{nodeOf, treeOf};
+ghost use Rattle.tree_samples.specs.RebuildNeeds.{Cells, Drawing, DrawingNode, Rebuilding, leafAs, nodeAt, rebuiltBy};
 use super::super::super::svq1_enc_tree::inner::gather_block;
 use super::super::super::svq1_enc_tree::inner::paint_block;
 use super::super::super::svq1_enc_tree::inner::place_of;
+use book::inner::level_at;
 use book::svq1_vlc::Svq1Half;
 use codebook::svq1_codebook::inner::page_start;
 use leaf::svq1_enc_leaf::LeafCode;
@@ -17,7 +18,6 @@ use leaf_samples::svq1_enc_leaf::inner::show_leaf;
 use tree::svq1_enc_tree::Block;
 use tree::svq1_enc_tree::TreeNode;
 use tree::svq1_enc_tree::inner::walk::is_split;
-use tree::svq1_enc_tree::inner::walk::level_at;
 
 // The leaf at block i, of level d, into the plane `out` of stride `s`, over the predictor's plane. `under`, `sums` and `over` are scratch of the
 // block's size: its predictor, its sums and its samples.

@@ -1,6 +1,6 @@
 -- The search of the two flat blocks. Assumes nothing.
 use borrow.Author.Needs.{needs}
-use Rattle.cards.specs.Planes.{flatSearch}
+use Rattle.cards.specs.Planes.{cardSearch}
 use Rattle.cards.proofs.inner.vector_cards.search_flat.Statement.{statement}
 use Rattle.cards.proofs.inner.vector_cards.search_flat.Tie as tie
 
@@ -14,7 +14,7 @@ search-motion-vector-requires : tie.Need-search-motion-vector-requires
 search-motion-vector-requires c κs = search needs
 
 returns : tie.Need-returns
-unfolding flatSearch
+unfolding cardSearch
 returns c = c .search-motion-vector .ensures
 
 pub search-flat-spec : {M : Type 1} → statement M

@@ -1,6 +1,6 @@
 -- Where a byte of the raised codebook comes from, by the level of its page. Assumes nothing.
 use native.Mathlib.Omega.{arith}
-use Rattle.codebook.specs.RaisedLaws.{origin-l3, origin-l2, origin-plain, origin-in}
+use Rattle.codebook.specs.CodebookFormsLaws.{origin-l3, origin-l2, origin-plain, origin-in}
 use borrow.Author.Needs.{needs}
 use Rattle.codebook.proofs.svq1_codebook.inner.origin_of.Statement.{statement}
 use Rattle.codebook.proofs.svq1_codebook.inner.origin_of.Tie as tie

@@ -3,8 +3,8 @@ use mathlib.Core.Path.{_≡_, refl, _∙_, sym, ap}
 use Prim.Native.Nat.{ℕ, _≤_, _-_, _+_, _%_}
 use lib.ListN.{length, take, getD, length-set}
 use Rattle.bits.specs.FillLaws.{fill-step, fill-end}
-use Rattle.codebook.specs.Raised.{raisedCodebook}
-use Rattle.codebook.specs.RaisedLaws.{raised-length, raised-at}
+use Rattle.codebook.specs.CodebookForms.{raisedCodebook}
+use Rattle.codebook.specs.CodebookFormsLaws.{raised-length, raised-at}
 use native.Mathlib.Omega.{arith}
 use borrow.Author.Needs.{needs}
 use Rattle.codebook.proofs.svq1_codebook.inner.raise_codebook.Statement.{statement}

@@ -2,7 +2,7 @@
 use mathlib.Core.Path.{refl}
 use native.Mathlib.Omega.{arith}
 use Rattle.canvas.specs.Canvas.{Canvas}
-use Rattle.compensation.specs.RowsLaws.{read-full, summed-full}
+use Rattle.compensation.specs.RowFormsLaws.{read-full, summed-full}
 use borrow.Author.Needs.{needs}
 use Rattle.compensation.proofs.svq1_enc_inter.inner.block_error.Statement.{statement}
 use Rattle.compensation.proofs.svq1_enc_inter.inner.block_error.Tie as tie

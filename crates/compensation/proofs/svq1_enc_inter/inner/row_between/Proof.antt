@@ -3,7 +3,7 @@ use Rattle.canvas.specs.Canvas.{Canvas}
 use mathlib.Core.Path.{_≡_, _∙_}
 use Prim.Native.Nat.{_*_, _≤_}
 use native.Mathlib.Omega.{arith}
-use Rattle.compensation.specs.RowsLaws.{one-of, row-across, row-down, row-both}
+use Rattle.compensation.specs.RowFormsLaws.{one-of, row-across, row-down, row-both}
 use borrow.Author.Needs.{needs}
 use Rattle.compensation.proofs.svq1_enc_inter.inner.row_between.Statement.{statement}
 use Rattle.compensation.proofs.svq1_enc_inter.inner.row_between.Tie as tie

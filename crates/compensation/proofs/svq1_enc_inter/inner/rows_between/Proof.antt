@@ -2,8 +2,8 @@
 use Rattle.canvas.specs.Canvas.{Canvas}
 use mathlib.Core.Path.{_≡_}
 use Prim.Native.Nat.{_-_, _*_, _≤_}
-use Rattle.compensation.specs.Rows.{rowAt, early, ReadIn}
-use Rattle.compensation.specs.RowsLaws.{RowIn, row-in}
+use Rattle.compensation.specs.RowForms.{rowAt, early, ReadIn}
+use Rattle.compensation.specs.RowFormsLaws.{RowIn, row-in}
 use Rattle.compensation.specs.EarlyLaws.{begin, turn, stop, end}
 use native.Mathlib.Omega.{arith}
 use borrow.Author.Needs.{needs}

@@ -1,6 +1,6 @@
 -- A sample of a part is the one of the whole, further on by the part's start.
 use mathlib.Core.Path.{_∙_}
-use Rattle.compensation.specs.RowsLaws.{parts-two}
+use Rattle.compensation.specs.RowFormsLaws.{parts-two}
 use borrow.Author.Needs.{needs}
 use Rattle.compensation.proofs.svq1_enc_inter.inner.two_at.Statement.{statement}
 use Rattle.compensation.proofs.svq1_enc_inter.inner.two_at.Tie as tie

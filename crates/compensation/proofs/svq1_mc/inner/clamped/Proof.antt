@@ -1,6 +1,6 @@
 -- One law for each end and one for between; the number lowered by 2^31 is the signed place.
 use native.Mathlib.Omega.{arith}
-use Rattle.compensation.specs.MovedLaws.{clamp-low, clamp-in, clamp-high}
+use Rattle.compensation.specs.MovedFormsLaws.{clamp-low, clamp-in, clamp-high}
 use borrow.Author.Needs.{needs}
 use Rattle.compensation.proofs.svq1_mc.inner.clamped.Statement.{statement}
 use Rattle.compensation.proofs.svq1_mc.inner.clamped.Tie as tie

@@ -4,7 +4,7 @@ use mir.ValLaws.{toZ-ofZ}
 use mir.Val.{SFits, toZ, ofZ}
 use mir.Syntax.{w32, w64}
 use lib.IntN.{pos, _+ℤ_}
-use Rattle.compensation.specs.MovedLaws.{liftOf, lifted, lift-sum}
+use Rattle.compensation.specs.MovedFormsLaws.{liftOf, lifted, lift-sum}
 use native.Mathlib.Omega.{arith}
 use Rattle.compensation.proofs.svq1_mc.inner.lift.Statement.{statement}
 use Rattle.compensation.proofs.svq1_mc.inner.lift.Tie as tie

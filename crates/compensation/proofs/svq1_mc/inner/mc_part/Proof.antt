@@ -7,8 +7,8 @@ use mathlib.Core.Path.{ap₂}
 use mir.ValLaws.{toZ-ofZ}
 use mir.Syntax.{w32}
 use lib.IntN.{ℤ}
-use Rattle.compensation.specs.Moved.{movedPart, down, upEnd}
-use Rattle.compensation.specs.MovedLaws.{cols-some, part-corner}
+use Rattle.compensation.specs.MovedForms.{movedPart, down, upEnd}
+use Rattle.compensation.specs.MovedFormsLaws.{cols-some, part-corner}
 use Rattle.compensation.specs.InsideLaws.{Inside, is-inside, in-canvas, inside-moved}
 use borrow.Author.Needs.{needs}
 use Rattle.compensation.proofs.svq1_mc.inner.mc_part.Statement.{statement}

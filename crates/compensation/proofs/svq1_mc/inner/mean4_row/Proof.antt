@@ -3,7 +3,7 @@ use mathlib.Core.Path.{_≡_}
 use Prim.Native.Nat.{_+_, _-_, _≤_}
 use lib.ListN.{getD}
 use Rattle.compensation.specs.Compensation.{mean4}
-use Rattle.compensation.specs.Moved.{rowSet}
+use Rattle.compensation.specs.MovedForms.{rowSet}
 use Rattle.compensation.specs.InsideLaws.{row-none, row-more}
 use native.Mathlib.Omega.{arith}
 use borrow.Author.Needs.{needs}

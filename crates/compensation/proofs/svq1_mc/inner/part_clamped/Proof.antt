@@ -4,8 +4,8 @@ use Prim.Native.Nat.{ℕ, _-_, _*_, _≤_}
 use Rattle.canvas.specs.Canvas.{Canvas}
 use Rattle.mv_cache.specs.Grid.{entryOf}
 use Rattle.mv_cache.specs.PutLaws.{putTo, put-none, put-more, Steps}
-use Rattle.compensation.specs.Moved.{downMv, Placed}
-use Rattle.compensation.specs.MovedLaws.{moved-is, part-steps, square-most, side-some, cols-some, partValues, part-value, part-done}
+use Rattle.compensation.specs.MovedForms.{downMv, Placed}
+use Rattle.compensation.specs.MovedFormsLaws.{moved-is, part-steps, square-most, side-some, cols-some, partValues, part-value, part-done}
 use native.Mathlib.Omega.{arith}
 use Rattle.compensation.proofs.svq1_mc.inner.part_clamped.Statement.{statement}
 use Rattle.compensation.proofs.svq1_mc.inner.part_clamped.Tie as tie

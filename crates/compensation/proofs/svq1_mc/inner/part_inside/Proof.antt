@@ -1,12 +1,12 @@
 -- The first s times i samples of the part are put; a row of them is one run of the output and one of the canvas.
 use Rattle.bits.specs.Basics.{valuesFrom}
-use Rattle.compensation.specs.Rows.{cell}
+use Rattle.compensation.specs.RowForms.{cell}
 use mathlib.Core.Path.{_≡_, _∙_, ap}
 use Prim.Native.Nat.{ℕ, _+_, _-_, _*_, _/_, _%_, _<_, _≤_}
 use lib.ListN.{length}
 use Rattle.canvas.specs.Canvas.{Canvas}
 use Rattle.mv_cache.specs.PutLaws.{putTo}
-use Rattle.compensation.specs.MovedLaws.{cols-some}
+use Rattle.compensation.specs.MovedFormsLaws.{cols-some}
 use Rattle.compensation.specs.InsideLaws.{cellValues, part-begin, part-next, part-end, row-place, row-first, row-read}
 use native.Mathlib.Omega.{arith}
 use Rattle.compensation.proofs.svq1_mc.inner.part_inside.Statement.{statement}

@@ -3,7 +3,7 @@ use mathlib.Core.Path.{_≡_, _∙_}
 use Prim.Native.Nat.{_*_, _≤_}
 use native.Mathlib.Omega.{arith}
 use Rattle.canvas.specs.Canvas.{Canvas}
-use Rattle.compensation.specs.RowsLaws.{one-of}
+use Rattle.compensation.specs.RowFormsLaws.{one-of}
 use Rattle.compensation.specs.InsideLaws.{cells-full, cells-across, cells-down, cells-both}
 use borrow.Author.Needs.{needs}
 use Rattle.compensation.proofs.svq1_mc.inner.part_row.Statement.{statement}

@@ -1,7 +1,7 @@
 -- Both numbers are clamped into the canvas, so the place is below its length.
 use native.Mathlib.Omega.{arith}
 use Rattle.compensation.specs.Compensation.{sampleAt}
-use Rattle.compensation.specs.MovedLaws.{place-in}
+use Rattle.compensation.specs.MovedFormsLaws.{place-in}
 use borrow.Author.Needs.{needs}
 use Rattle.compensation.proofs.svq1_mc.inner.sample_clamped.Statement.{statement}
 use Rattle.compensation.proofs.svq1_mc.inner.sample_clamped.Tie as tie

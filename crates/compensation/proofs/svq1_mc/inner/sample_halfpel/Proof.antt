@@ -1,7 +1,7 @@
 -- Half of a raised number is the raised floor of the half, and its remainder tells whether it lies between samples.
 use borrow.Author.Tests.{eq-eqb, ne-eqb}
 use Rattle.canvas.specs.Canvas.{Canvas}
-use Rattle.compensation.specs.MovedLaws.{half-is}
+use Rattle.compensation.specs.MovedFormsLaws.{half-is}
 use borrow.Author.Needs.{needs}
 use Rattle.compensation.proofs.svq1_mc.inner.sample_halfpel.Statement.{statement}
 use Rattle.compensation.proofs.svq1_mc.inner.sample_halfpel.Tie as tie

@@ -1,11 +1,11 @@
 -- By a book's two tables. Assumes nothing.
 use Rattle.book.specs.Level.{levelNumber}
-use Rattle.leaf.specs.Raised.{leafOf}
+use Rattle.leaf.specs.LeafForms.{leafOf}
 use Rattle.book.specs.LevelLaws.{level-most}
 use mathlib.Core.Path.{_∙_, ap}
 use lib.ListN.{length}
 use Rattle.book.specs.BookLaws.{good-book}
-use Rattle.leaf.specs.LentLaws.{book-bits, book-tables}
+use Rattle.leaf.specs.LentNeedsLaws.{book-bits, book-tables}
 use Rattle.leaf.proofs.svq1_enc_leaf.inner.book_leaf_bits.Statement.{statement}
 use Rattle.leaf.proofs.svq1_enc_leaf.inner.book_leaf_bits.Tie as tie
 

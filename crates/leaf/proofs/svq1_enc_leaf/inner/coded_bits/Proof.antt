@@ -4,7 +4,7 @@ use native.Mathlib.Omega.{arith}
 use mir.ValLaws.{toZ-ofZ}
 use mir.Syntax.{w16}
 use Rattle.codebook.specs.Mean.{meanPosition}
-use Rattle.leaf.specs.LentLaws.{coded-entries, coded-size}
+use Rattle.leaf.specs.LentNeedsLaws.{coded-entries, coded-size}
 use borrow.Author.Needs.{needs}
 use Rattle.leaf.proofs.svq1_enc_leaf.inner.coded_bits.Statement.{statement}
 use Rattle.leaf.proofs.svq1_enc_leaf.inner.coded_bits.Tie as tie

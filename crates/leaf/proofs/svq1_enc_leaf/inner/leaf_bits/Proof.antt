@@ -2,7 +2,7 @@
 use mathlib.Core.Path.{_∙_, sym}
 use mir.ValLaws.{toZ-ofZ}
 use mir.Syntax.{w16}
-use Rattle.leaf.specs.LentLaws.{skip-size}
+use Rattle.leaf.specs.LentNeedsLaws.{skip-size}
 use borrow.Author.Needs.{needs}
 use Rattle.leaf.proofs.svq1_enc_leaf.inner.leaf_bits.Statement.{statement}
 use Rattle.leaf.proofs.svq1_enc_leaf.inner.leaf_bits.Tie as tie

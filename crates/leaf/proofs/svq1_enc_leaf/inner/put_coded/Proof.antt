@@ -6,7 +6,7 @@ use mir.ValLaws.{toZ-ofZ}
 use mir.Syntax.{w16}
 use Rattle.code_tables.specs.CodesLaws.{code-length}
 use Rattle.codebook.specs.Mean.{meanPosition}
-use Rattle.leaf.specs.LentLaws.{coded-parts, coded-wrote}
+use Rattle.leaf.specs.LentNeedsLaws.{coded-parts, coded-wrote}
 use borrow.Author.Needs.{needs}
 use Rattle.leaf.proofs.svq1_enc_leaf.inner.put_coded.Statement.{statement}
 use Rattle.leaf.proofs.svq1_enc_leaf.inner.put_coded.Tie as tie

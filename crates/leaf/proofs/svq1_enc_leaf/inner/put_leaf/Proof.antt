@@ -1,7 +1,7 @@
 -- A leaf, by its code. Assumes nothing.
 use mir.ValLaws.{toZ-ofZ}
 use mir.Syntax.{w16}
-use Rattle.leaf.specs.LentLaws.{skip-entry, skip-size, skip-wrote}
+use Rattle.leaf.specs.LentNeedsLaws.{skip-entry, skip-size, skip-wrote}
 use borrow.Author.Needs.{needs}
 use Rattle.leaf.proofs.svq1_enc_leaf.inner.put_leaf.Statement.{statement}
 use Rattle.leaf.proofs.svq1_enc_leaf.inner.put_leaf.Tie as tie

@@ -2,10 +2,10 @@
 use mathlib.Core.Path.{_≡_, refl, _∙_}
 use Prim.Native.Nat.{_≤_, _-_, _+_, _*_}
 use lib.ListN.{length, take, getD}
-use Rattle.bits.specs.Inner.{Wrote}
+use Rattle.bits.specs.BitNeeds.{Wrote}
 use Rattle.bits.specs.BitsLaws.{length-msb}
 use Rattle.leaf.specs.LeafBits.{stageBits}
-use Rattle.leaf.specs.LentLaws.{wrote-start, stage-put}
+use Rattle.leaf.specs.LentNeedsLaws.{wrote-start, stage-put}
 use native.Mathlib.Omega.{arith}
 use borrow.Author.Needs.{needs}
 use Rattle.leaf.proofs.svq1_enc_leaf.inner.put_stages.Statement.{statement}

@@ -4,7 +4,7 @@ use Prim.Native.Nat.{_≤_, _+_, _-_, _*_}
 use native.Mathlib.Omega.{arith}
 use lib.ListN.{take, drop}
 use Rattle.bits.specs.Bits.{valOf, bitsOf}
-use Rattle.leaf.specs.Lent.{padded, nibbles}
+use Rattle.leaf.specs.LentNeeds.{padded, nibbles}
 use Rattle.leaf.specs.LentReadLaws.{nibbles-start, nibble-put}
 use borrow.Author.Needs.{needs}
 use Rattle.leaf.proofs.svq1_plane.inner.get_stages.Statement.{statement}

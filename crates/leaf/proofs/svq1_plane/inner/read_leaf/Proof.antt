@@ -3,7 +3,7 @@ use mathlib.Core.Path.{_∙_, sym}
 use native.Mathlib.Omega.{arith}
 use lib.ListN.{drop}
 use Rattle.bits.specs.Bits.{bitsOf}
-use Rattle.leaf.specs.Lent.{lentRest}
+use Rattle.leaf.specs.LentNeeds.{lentRest}
 use Rattle.leaf.specs.LentReadLaws.{read-on, read-by, take-found, take-none, take-ends, refused-read}
 use borrow.Author.Needs.{needs}
 use Rattle.leaf.proofs.svq1_plane.inner.read_leaf.Statement.{statement}

@@ -7,7 +7,7 @@ use mir.Val.{toZ, ofZ}
 use mir.Syntax.{w16}
 use Rattle.bits.specs.Bits.{bitsOf}
 use Rattle.codebook.specs.Mean.{meanAt}
-use Rattle.leaf.specs.Lent.{readIndices}
+use Rattle.leaf.specs.LentNeeds.{readIndices}
 use Rattle.leaf.specs.LentReadLaws.{read-on, means-most, mean-fits, mean-found, take-none, take-ends, refused-read}
 use borrow.Author.Needs.{needs}
 use Rattle.leaf.proofs.svq1_plane.inner.read_mean.Statement.{statement}

@@ -1,6 +1,6 @@
 -- The stages' vectors, one after the other. Assumes nothing.
 use Rattle.leaf_samples.specs.RaisedLaws.{part-room}
-use Rattle.leaf_samples.specs.ShowLaws.{Added, stage-added, all-added}
+use Rattle.leaf_samples.specs.ShowNeedsLaws.{Added, stage-added, all-added}
 use lib.ListN.{length}
 use mathlib.Core.Path.{refl}
 use Prim.Native.Nat.{_-_, _*_}

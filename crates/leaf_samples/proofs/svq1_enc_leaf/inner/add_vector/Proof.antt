@@ -4,7 +4,7 @@ use mathlib.Core.Path.{_≡_, refl, _∙_}
 use mathlib.Core.List.{_++_}
 use Prim.Native.Nat.{_≤_, _-_}
 use lib.ListN.{length, take, drop, length-set}
-use Rattle.leaf.specs.Raised.{plusN}
+use Rattle.leaf.specs.LeafForms.{plusN}
 use Rattle.leaf_samples.specs.RaisedLaws.{plusN-step, plusN-done, plusN-le, drop-next, front-same, drop-more}
 use borrow.Author.Needs.{needs}
 use Rattle.leaf_samples.proofs.svq1_enc_leaf.inner.add_vector.Statement.{statement}

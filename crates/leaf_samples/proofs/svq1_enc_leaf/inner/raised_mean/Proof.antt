@@ -4,7 +4,7 @@ use mir.Syntax.{w16}
 use mir.ValLaws.{toZ-ofZ}
 use mathlib.Core.Path.{_≡_}
 use native.Mathlib.Omega.{arith}
-use Rattle.leaf_samples.specs.ShowLaws.{mean-few, mean-intra, mean-inter}
+use Rattle.leaf_samples.specs.ShowNeedsLaws.{mean-few, mean-intra, mean-inter}
 use borrow.Author.Needs.{needs}
 use Rattle.leaf_samples.proofs.svq1_enc_leaf.inner.raised_mean.Statement.{statement}
 use Rattle.leaf_samples.proofs.svq1_enc_leaf.inner.raised_mean.Tie as tie

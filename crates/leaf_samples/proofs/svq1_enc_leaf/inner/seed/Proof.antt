@@ -4,7 +4,7 @@ use mathlib.Core.Path.{_≡_, refl, _∙_, ap}
 use mathlib.Core.List.{List, _++_}
 use Prim.Native.Nat.{ℕ, _≤_, _-_}
 use lib.ListN.{length, take, drop, getD, length-set}
-use Rattle.leaf.specs.Raised.{less}
+use Rattle.leaf.specs.LeafForms.{less}
 use Rattle.leaf_samples.specs.RaisedLaws.{raised, raised-step, raised-done, raised-less, raised-le}
 use borrow.Author.Needs.{needs}
 use Rattle.leaf_samples.proofs.svq1_enc_leaf.inner.seed.Statement.{statement}

@@ -4,7 +4,7 @@ use Prim.Native.Nat.{_≤_, _-_}
 use lib.ListN.{length, take, length-set}
 use Rattle.bits.specs.FillLaws.{fill-step, fill-end}
 use Rattle.leaf.specs.Leaf.{samples}
-use Rattle.leaf.specs.Raised.{less}
+use Rattle.leaf.specs.LeafForms.{less}
 use Rattle.leaf_samples.specs.RaisedLaws.{samples-at, length-shown-sums}
 use native.Mathlib.Omega.{arith}
 use borrow.Author.Needs.{needs}

@@ -1,5 +1,5 @@
 -- Seed, stages and samples. Assumes nothing.
-use Rattle.leaf_samples.specs.ShowLaws.{coded-shown}
+use Rattle.leaf_samples.specs.ShowNeedsLaws.{coded-shown}
 use mathlib.Core.Path.{_∙_}
 use native.Mathlib.Omega.{arith}
 use borrow.Author.Needs.{needs}

@@ -1,5 +1,5 @@
 -- A leaf by its code. Assumes nothing.
-use Rattle.leaf_samples.specs.ShowLaws.{shown-skip, shown-coded}
+use Rattle.leaf_samples.specs.ShowNeedsLaws.{shown-skip, shown-coded}
 use mir.Syntax.{w16}
 use mir.ValLaws.{toZ-ofZ}
 use borrow.Author.Needs.{needs}

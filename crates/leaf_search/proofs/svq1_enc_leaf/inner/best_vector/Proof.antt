@@ -4,7 +4,7 @@ use mathlib.Core.Path.{_≡_, refl, sym, _∙_, ap}
 use mathlib.Core.Logic.{⊎-elim}
 use Prim.Native.Nat.{_≤_, _<_, _-_}
 use Rattle.leaf.specs.Leaf.{argmin}
-use Rattle.leaf.specs.Raised.{less, vectorError}
+use Rattle.leaf.specs.LeafForms.{less, vectorError}
 use Rattle.leaf_samples.specs.RaisedLaws.{argmin-take, argmin-keep}
 use borrow.Author.Needs.{needs}
 use Rattle.leaf_search.proofs.svq1_enc_leaf.inner.best_vector.Statement.{statement}

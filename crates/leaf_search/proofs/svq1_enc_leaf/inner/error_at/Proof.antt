@@ -3,7 +3,7 @@ use borrow.Author.Needs.{needs}
 use native.Mathlib.Omega.{arith}
 use Prim.Native.Nat.{_≤_, _*_}
 use Rattle.leaf_samples.specs.RaisedLaws.{square-le, saturate-less}
-use Rattle.leaf.specs.Raised.{sqd}
+use Rattle.leaf.specs.LeafForms.{sqd}
 use Rattle.leaf_search.proofs.svq1_enc_leaf.inner.error_at.Statement.{statement}
 use Rattle.leaf_search.proofs.svq1_enc_leaf.inner.error_at.Tie as tie
 

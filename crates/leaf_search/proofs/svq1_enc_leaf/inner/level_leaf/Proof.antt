@@ -3,10 +3,10 @@ use Rattle.book.specs.Level.{levelNumber}
 use lib.ListN.{length, drop}
 use lib.Seq.{length-take-le, take-at, drop-at}
 use Rattle.leaf.specs.Leaf.{termsAt}
-use Rattle.codebook.specs.Raised.{pageStart}
+use Rattle.codebook.specs.CodebookForms.{pageStart}
 use Rattle.leaf.specs.AgreeLaws.{page-room}
 use Rattle.bits.specs.BasicsLaws.{front-size}
-use Rattle.leaf_search.specs.LevelLeafLaws.{area-range, cap-small}
+use Rattle.leaf_search.specs.LevelLeafNeedsLaws.{area-range, cap-small}
 use mathlib.Core.Path.{_≡_, _∙_, sym, ap}
 use Prim.Native.Nat.{ℕ, _≤_}
 use native.Mathlib.Omega.{arith}

@@ -3,7 +3,7 @@ use native.Mathlib.Omega.{arith}
 use mathlib.Core.Path.{_≡_, refl}
 use Prim.Native.Nat.{_-_}
 use lib.ListN.{length}
-use Rattle.leaf.specs.Raised.{less}
+use Rattle.leaf.specs.LeafForms.{less}
 use Rattle.leaf_samples.specs.RaisedLaws.{part-room, greedy-stop, greedy-end}
 use Rattle.leaf_search.specs.StagesLaws.{Going, stopped, taken}
 use borrow.Author.Needs.{needs}

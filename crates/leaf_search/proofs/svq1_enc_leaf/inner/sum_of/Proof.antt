@@ -4,14 +4,14 @@ use mathlib.Core.Path.{_≡_}
 use Prim.Native.Nat.{_≤_, _*_, _-_, _+_}
 use lib.ListN.{length, drop}
 use lib.Seq.{drop-length}
-use Rattle.leaf.specs.Raised.{total}
+use Rattle.leaf.specs.LeafForms.{sampleSum}
 use Rattle.leaf_samples.specs.RaisedLaws.{total-step}
 use borrow.Author.Needs.{needs}
 use Rattle.leaf_search.proofs.svq1_enc_leaf.inner.sum_of.Statement.{statement}
 use Rattle.leaf_search.proofs.svq1_enc_leaf.inner.sum_of.Tie as tie
 
 abbrev Inv-loop : tie.InvT-loop
-Inv-loop t sum₀ i₀ sum i = (i ≤ length t) × (sum ≤ 255 * i) × (sum + total (drop i t) ≡ total t)
+Inv-loop t sum₀ i₀ sum i = (i ≤ length t) × (sum ≤ 255 * i) × (sum + sampleSum (drop i t) ≡ sampleSum t)
 
 abbrev μ-loop : tie.MeasureT-loop
 μ-loop t sum₀ i₀ sum i = length t - i
@@ -44,7 +44,7 @@ loop-again c =
     omega (arith, total-step (a .t .now) (l .i) (search needs))
 
 returns : tie.Need-returns Inv-loop μ-loop
-unfolding total
+unfolding sampleSum
 returns c =
     let l = c .before .loop in
     let e : l .i ≡ length (c .before .before .before .args .t .now) = omega arith in

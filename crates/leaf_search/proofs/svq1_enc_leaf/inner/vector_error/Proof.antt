@@ -3,7 +3,7 @@ use native.Mathlib.Omega.{arith}
 use mathlib.Core.Path.{_≡_}
 use Prim.Native.Nat.{_≤_, _*_, _-_, _+_}
 use lib.ListN.{length}
-use Rattle.leaf.specs.Raised.{vectorError, vector}
+use Rattle.leaf.specs.LeafForms.{vectorError, vector}
 use Rattle.leaf_samples.specs.RaisedLaws.{part-room}
 use borrow.Author.Needs.{needs}
 use Rattle.leaf_search.proofs.svq1_enc_leaf.inner.vector_error.Statement.{statement}

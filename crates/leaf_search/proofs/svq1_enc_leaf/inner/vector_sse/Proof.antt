@@ -5,7 +5,7 @@ use Prim.Native.Nat.{_≤_, _*_, _-_, _+_}
 use lib.ListN.{length, drop}
 use lib.Seq.{drop-length}
 use Rattle.leaf.specs.Leaf.{sse, plus, samples}
-use Rattle.leaf.specs.Raised.{less}
+use Rattle.leaf.specs.LeafForms.{less}
 use Rattle.leaf_samples.specs.RaisedLaws.{vector-step}
 use borrow.Author.Needs.{needs}
 use Rattle.leaf_search.proofs.svq1_enc_leaf.inner.vector_sse.Statement.{statement}

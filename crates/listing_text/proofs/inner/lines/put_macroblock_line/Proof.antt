@@ -1,6 +1,6 @@
 -- The five fields, one behind the other. Assumes nothing.
 use native.Mathlib.Omega.{arith}
-use Rattle.listing_text.specs.LinesLaws.{put-line}
+use Rattle.listing_text.specs.LineFormsLaws.{put-line}
 use borrow.Author.Needs.{needs}
 use Rattle.listing_text.proofs.inner.lines.put_macroblock_line.Statement.{statement}
 use Rattle.listing_text.proofs.inner.lines.put_macroblock_line.Tie as tie

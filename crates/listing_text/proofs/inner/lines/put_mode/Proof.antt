@@ -1,7 +1,7 @@
 -- Each test decides one of the names. Assumes nothing.
 use native.Mathlib.Omega.{arith}
 use borrow.Author.Tests.{eq-eqb, ne-eqb}
-use Rattle.listing_text.specs.LinesLaws.{put-room}
+use Rattle.listing_text.specs.LineFormsLaws.{put-room}
 use borrow.Author.Needs.{needs}
 use Rattle.listing_text.proofs.inner.lines.put_mode.Statement.{statement}
 use Rattle.listing_text.proofs.inner.lines.put_mode.Tie as tie

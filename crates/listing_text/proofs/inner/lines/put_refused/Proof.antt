@@ -1,6 +1,6 @@
 -- Two texts, one behind the other. Assumes nothing.
 use native.Mathlib.Omega.{arith}
-use Rattle.listing_text.specs.LinesLaws.{put-room, put-refusal}
+use Rattle.listing_text.specs.LineFormsLaws.{put-room, put-refusal}
 use borrow.Author.Needs.{needs}
 use Rattle.listing_text.proofs.inner.lines.put_refused.Statement.{statement}
 use Rattle.listing_text.proofs.inner.lines.put_refused.Tie as tie

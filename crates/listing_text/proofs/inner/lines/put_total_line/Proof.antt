@@ -1,6 +1,6 @@
 -- Three texts, one behind the other. Assumes nothing.
 use native.Mathlib.Omega.{arith}
-use Rattle.listing_text.specs.LinesLaws.{put-room, put-total}
+use Rattle.listing_text.specs.LineFormsLaws.{put-room, put-total}
 use borrow.Author.Needs.{needs}
 use Rattle.listing_text.proofs.inner.lines.put_total_line.Statement.{statement}
 use Rattle.listing_text.proofs.inner.lines.put_total_line.Tie as tie

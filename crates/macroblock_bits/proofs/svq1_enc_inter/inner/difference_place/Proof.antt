@@ -4,7 +4,7 @@ use native.Mathlib.Omega.{arith}
 use lib.IntN.{pos}
 use mir.ValLaws.{toZ-ofZ}
 use mir.Syntax.{w32}
-use Rattle.macroblock_bits.specs.CodingLaws.{placedAt, placed}
+use Rattle.macroblock_bits.specs.CodingNeedsLaws.{placedAt, placed}
 use Rattle.macroblock_bits.proofs.svq1_enc_inter.inner.difference_place.Statement.{statement}
 use Rattle.macroblock_bits.proofs.svq1_enc_inter.inner.difference_place.Tie as tie
 

@@ -1,7 +1,7 @@
 -- Two pairs of differences. Assumes nothing.
-use Rattle.macroblock.specs.Inner.{byBook}
-use Rattle.macroblock_bits.specs.CodingLaws.{four-inside, four-counted}
-use Rattle.mv_cache.specs.Cache.{nearFrom}
+use Rattle.macroblock.specs.MacroblockNeeds.{byBook}
+use Rattle.macroblock_bits.specs.CodingNeedsLaws.{four-inside, four-counted}
+use Rattle.mv_cache.specs.CacheNeeds.{nearFrom}
 use borrow.Author.Needs.{needs}
 use Rattle.macroblock_bits.proofs.svq1_enc_inter.inner.four_bits.Statement.{statement}
 use Rattle.macroblock_bits.proofs.svq1_enc_inter.inner.four_bits.Tie as tie

@@ -3,7 +3,7 @@ use mathlib.Core.Path.{refl}
 use Rattle.book.specs.BookLaws.{good-book}
 use Rattle.book.specs.Book.{modeTable}
 use Rattle.macroblock.specs.Mode.{modePosition}
-use Rattle.macroblock_bits.specs.CodingLaws.{entry-there, entry-counted}
+use Rattle.macroblock_bits.specs.CodingNeedsLaws.{entry-there, entry-counted}
 use borrow.Author.Needs.{needs}
 use Rattle.macroblock_bits.proofs.svq1_enc_inter.inner.mb_mode_bits.Statement.{statement}
 use Rattle.macroblock_bits.proofs.svq1_enc_inter.inner.mb_mode_bits.Tie as tie

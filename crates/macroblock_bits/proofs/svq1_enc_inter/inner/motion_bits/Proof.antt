@@ -1,11 +1,11 @@
 -- A motion by its case. Assumes nothing.
 use mathlib.Core.Path.{ap}
 use native.Mathlib.Omega.{arith}
-use Rattle.mv_cache.specs.Cache.{nearFrom}
+use Rattle.mv_cache.specs.CacheNeeds.{nearFrom}
 use Rattle.macroblock.specs.declared.svq1_enc_inter.MbMotion.{MbMotion}
-use Rattle.macroblock.specs.Motions.{motionOf}
-use Rattle.macroblock.specs.Inner.{byBook}
-use Rattle.macroblock_bits.specs.CodingLaws.{one-inside, one-bits, still-bits, four-codable, counted-none, counted-less, counted-as}
+use Rattle.macroblock.specs.MotionForms.{motionOf}
+use Rattle.macroblock.specs.MacroblockNeeds.{byBook}
+use Rattle.macroblock_bits.specs.CodingNeedsLaws.{one-inside, one-bits, still-bits, four-codable, counted-none, counted-less, counted-as}
 use Rattle.macroblock.specs.Macroblock.{motionBits}
 use borrow.Author.Needs.{needs}
 use Rattle.macroblock_bits.proofs.svq1_enc_inter.inner.motion_bits.Statement.{statement}

@@ -5,7 +5,7 @@ use Rattle.vectors.specs.Vectors.{placeOf}
 use mir.ValLaws.{toZ-ofZ}
 use mir.Syntax.{w32}
 use mathlib.Core.Path.{_≡_, refl}
-use Rattle.macroblock_bits.specs.CodingLaws.{entry-there, entry-counted}
+use Rattle.macroblock_bits.specs.CodingNeedsLaws.{entry-there, entry-counted}
 use borrow.Author.Needs.{needs}
 use Rattle.macroblock_bits.proofs.svq1_enc_inter.inner.mv_component_bits.Statement.{statement}
 use Rattle.macroblock_bits.proofs.svq1_enc_inter.inner.mv_component_bits.Tie as tie

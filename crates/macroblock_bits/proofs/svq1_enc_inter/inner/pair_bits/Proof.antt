@@ -1,5 +1,5 @@
 -- One behind the other. Assumes nothing.
-use Rattle.macroblock_bits.specs.CodingLaws.{counted-both}
+use Rattle.macroblock_bits.specs.CodingNeedsLaws.{counted-both}
 use borrow.Author.Needs.{needs}
 use Rattle.macroblock_bits.proofs.svq1_enc_inter.inner.pair_bits.Statement.{statement}
 use Rattle.macroblock_bits.proofs.svq1_enc_inter.inner.pair_bits.Tie as tie

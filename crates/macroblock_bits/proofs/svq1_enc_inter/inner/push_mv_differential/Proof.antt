@@ -2,11 +2,11 @@
 use native.Mathlib.Omega.{arith}
 use mir.ValLaws.{toZ-ofZ}
 use mir.Syntax.{w32}
-use Rattle.bits.specs.Inner.{Wrote}
-use Rattle.bits.specs.InnerLaws.{wrote-more}
-use Rattle.macroblock.specs.Inner.{byBook}
+use Rattle.bits.specs.BitNeeds.{Wrote}
+use Rattle.bits.specs.BitNeedsLaws.{wrote-more}
+use Rattle.macroblock.specs.MacroblockNeeds.{byBook}
 use Rattle.macroblock.specs.Macroblock.{componentBits}
-use Rattle.macroblock_bits.specs.CodingLaws.{first-fits, second-fits}
+use Rattle.macroblock_bits.specs.CodingNeedsLaws.{first-fits, second-fits}
 use borrow.Author.Needs.{needs}
 use Rattle.macroblock_bits.proofs.svq1_enc_inter.inner.push_mv_differential.Statement.{statement}
 use Rattle.macroblock_bits.proofs.svq1_enc_inter.inner.push_mv_differential.Tie as tie

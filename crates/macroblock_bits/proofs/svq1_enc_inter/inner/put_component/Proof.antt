@@ -5,7 +5,7 @@ use Rattle.vectors.specs.Vectors.{placeOf}
 use mir.ValLaws.{toZ-ofZ}
 use mir.Syntax.{w32}
 use mathlib.Core.Path.{_≡_}
-use Rattle.macroblock_bits.specs.CodingLaws.{entry-fits, entry-wrote}
+use Rattle.macroblock_bits.specs.CodingNeedsLaws.{entry-fits, entry-wrote}
 use borrow.Author.Needs.{needs}
 use Rattle.macroblock_bits.proofs.svq1_enc_inter.inner.put_component.Statement.{statement}
 use Rattle.macroblock_bits.proofs.svq1_enc_inter.inner.put_component.Tie as tie

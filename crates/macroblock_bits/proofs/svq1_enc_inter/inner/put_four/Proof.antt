@@ -1,8 +1,8 @@
 -- Two pairs of differences, one behind the other. Assumes nothing.
 use native.Mathlib.Omega.{arith}
-use Rattle.macroblock.specs.Inner.{byBook}
-use Rattle.macroblock_bits.specs.CodingLaws.{four-inside, four-first, four-second, four-wrote}
-use Rattle.mv_cache.specs.Cache.{nearFrom}
+use Rattle.macroblock.specs.MacroblockNeeds.{byBook}
+use Rattle.macroblock_bits.specs.CodingNeedsLaws.{four-inside, four-first, four-second, four-wrote}
+use Rattle.mv_cache.specs.CacheNeeds.{nearFrom}
 use borrow.Author.Needs.{needs}
 use Rattle.macroblock_bits.proofs.svq1_enc_inter.inner.put_four.Statement.{statement}
 use Rattle.macroblock_bits.proofs.svq1_enc_inter.inner.put_four.Tie as tie

@@ -2,7 +2,7 @@
 use Rattle.book.specs.BookLaws.{good-book}
 use Rattle.book.specs.Book.{modeTable}
 use Rattle.macroblock.specs.Mode.{modePosition}
-use Rattle.macroblock_bits.specs.CodingLaws.{entry-fits, entry-wrote}
+use Rattle.macroblock_bits.specs.CodingNeedsLaws.{entry-fits, entry-wrote}
 use borrow.Author.Needs.{needs}
 use Rattle.macroblock_bits.proofs.svq1_enc_inter.inner.put_mode.Statement.{statement}
 use Rattle.macroblock_bits.proofs.svq1_enc_inter.inner.put_mode.Tie as tie

@@ -1,9 +1,9 @@
 -- One behind the other. Assumes nothing.
 use native.Mathlib.Omega.{arith}
-use Rattle.bits.specs.InnerLaws.{wrote-more}
+use Rattle.bits.specs.BitNeedsLaws.{wrote-more}
 use Rattle.macroblock.specs.Macroblock.{differenceBits}
-use Rattle.macroblock.specs.Inner.{byBook}
-use Rattle.macroblock_bits.specs.CodingLaws.{first-fits, second-fits}
+use Rattle.macroblock.specs.MacroblockNeeds.{byBook}
+use Rattle.macroblock_bits.specs.CodingNeedsLaws.{first-fits, second-fits}
 use borrow.Author.Needs.{needs}
 use Rattle.macroblock_bits.proofs.svq1_enc_inter.inner.put_pair.Statement.{statement}
 use Rattle.macroblock_bits.proofs.svq1_enc_inter.inner.put_pair.Tie as tie

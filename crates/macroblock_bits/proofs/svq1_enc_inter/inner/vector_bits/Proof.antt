@@ -1,10 +1,10 @@
 -- The codes of both components. Assumes nothing.
 use mir.ValLaws.{toZ-ofZ}
 use mir.Syntax.{w32}
-use Rattle.macroblock.specs.Inner.{byBook}
+use Rattle.macroblock.specs.MacroblockNeeds.{byBook}
 use Rattle.macroblock.specs.Macroblock.{componentBits}
-use Rattle.macroblock_bits.specs.Coding.{Counted}
-use Rattle.macroblock_bits.specs.CodingLaws.{counted-both}
+use Rattle.macroblock_bits.specs.CodingNeeds.{Counted}
+use Rattle.macroblock_bits.specs.CodingNeedsLaws.{counted-both}
 use borrow.Author.Needs.{needs}
 use Rattle.macroblock_bits.proofs.svq1_enc_inter.inner.vector_bits.Statement.{statement}
 use Rattle.macroblock_bits.proofs.svq1_enc_inter.inner.vector_bits.Tie as tie

@@ -2,14 +2,14 @@
 use mathlib.Core.Path.{refl, sym, _∙_}
 use Prim.Native.Nat.{_*_, _-_, _≤_}
 use native.Mathlib.Omega.{arith}
-use Rattle.macroblock_search.specs.Target.{targetSample, Filled}
-use Rattle.macroblock_search.specs.TargetLaws.{wide, left-most, top-most, row-in, filled-none, filled-row, filled-all}
+use Rattle.macroblock_search.specs.TargetForms.{targetSample, RowsFilled}
+use Rattle.macroblock_search.specs.TargetFormsLaws.{wide, left-most, top-most, row-in, filled-none, filled-row, filled-all}
 use borrow.Author.Needs.{needs}
 use Rattle.macroblock_search.proofs.svq1_enc.inner.block.Statement.{statement}
 use Rattle.macroblock_search.proofs.svq1_enc.inner.block.Tie as tie
 
 abbrev Inv-loop : tie.InvT-loop
-Inv-loop canvas source k out₀ cols x y i₀ out i = (i ≤ 16) × Filled (targetSample (canvas .width) (canvas .height) source k) (16 * i) out
+Inv-loop canvas source k out₀ cols x y i₀ out i = (i ≤ 16) × RowsFilled (targetSample (canvas .width) (canvas .height) source k) (16 * i) out
 
 abbrev μ-loop : tie.MeasureT-loop
 μ-loop canvas source k out₀ cols x y i₀ out i = 16 - i

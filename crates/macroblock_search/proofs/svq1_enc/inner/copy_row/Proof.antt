@@ -3,7 +3,7 @@ use mathlib.Core.Path.{_≡_, refl}
 use Prim.Native.Nat.{_+_, _-_, _≤_}
 use lib.ListN.{getD, length}
 use native.Mathlib.Omega.{arith}
-use Rattle.compensation.specs.Moved.{rowSet}
+use Rattle.compensation.specs.MovedForms.{rowSet}
 use Rattle.compensation.specs.InsideLaws.{row-none, row-more}
 use borrow.Author.Needs.{needs}
 use Rattle.macroblock_search.proofs.svq1_enc.inner.copy_row.Statement.{statement}

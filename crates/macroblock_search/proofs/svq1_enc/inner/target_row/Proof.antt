@@ -1,6 +1,6 @@
 -- Where all columns lie in the source no minimum is taken. Assumes nothing.
 use mathlib.Core.Path.{_∙_}
-use Rattle.macroblock_search.specs.TargetLaws.{row-inside}
+use Rattle.macroblock_search.specs.TargetFormsLaws.{row-inside}
 use borrow.Author.Needs.{needs}
 use Rattle.macroblock_search.proofs.svq1_enc.inner.target_row.Statement.{statement}
 use Rattle.macroblock_search.proofs.svq1_enc.inner.target_row.Tie as tie

@@ -2,7 +2,7 @@
 use mathlib.Core.Path.{_≡_, _∙_}
 use Prim.Native.Nat.{_-_, _≤_}
 use Rattle.motion.specs.Search.{rowsTo}
-use Rattle.motion.specs.Candidates.{spotSearch, shown, Held}
+use Rattle.motion.specs.CandidateForms.{spotSearch, bestSoFar, BestHeld}
 use Rattle.motion.specs.ScanLaws.{rows-more, rows-start, rows-end}
 use native.Mathlib.Omega.{arith}
 use borrow.Author.Needs.{needs}
@@ -10,7 +10,7 @@ use Rattle.motion.proofs.svq1_enc_inter.inner.full_best.Statement.{stat
 use Rattle.motion.proofs.svq1_enc_inter.inner.full_best.Tie as tie
 
 abbrev Inv-loop : tie.InvT-loop
-Inv-loop target reference p sx to best₀ k₀ best k = (k ≤ to) × (shown best ≡ rowsTo (spotSearch target reference p) (shown best₀) k) × Held best
+Inv-loop target reference p sx to best₀ k₀ best k = (k ≤ to) × (bestSoFar best ≡ rowsTo (spotSearch target reference p) (bestSoFar best₀) k) × BestHeld best
 
 abbrev μ-loop : tie.MeasureT-loop
 μ-loop target reference p sx to best₀ k₀ best k = to - k
@@ -27,7 +27,7 @@ loop-holds c =
     let a = s .args in
     let r = s .pre in
     let q = c .span-of2 .ensures in
-    (omega (arith, q .first, q .some), rows-start (a .target .now) (a .reference .now) (a .p) (r .0 .radius-most) (r .0 .px-low) (r .0 .py-low) (c .span-of2 .result) q (shown (a .first)), r .1)
+    (omega (arith, q .first, q .some), rows-start (a .target .now) (a .reference .now) (a .p) (r .0 .radius-most) (r .0 .px-low) (r .0 .py-low) (c .span-of2 .result) q (bestSoFar (a .first)), r .1)
 
 add-row-best : tie.Need-add-row-best Inv-loop μ-loop
 add-row-best c =
@@ -79,7 +79,7 @@ loop-again c =
     let r = s .pre in
     let q = c .before .before .before .before .before .span-of2 .ensures in
     let l = c .before .before .before .before .loop in
-    (omega arith, rows-more (a .target .now) (a .reference .now) (a .p) (r .0 .radius-most) (r .0 .px-low) (r .0 .py-low) (shown (a .first)) (l .k) (l .best) (c .row-best .result) (l .inv .1) (c .row-best .ensures .0), c .row-best .ensures .1)
+    (omega arith, rows-more (a .target .now) (a .reference .now) (a .p) (r .0 .radius-most) (r .0 .px-low) (r .0 .py-low) (bestSoFar (a .first)) (l .k) (l .best) (c .row-best .result) (l .inv .1) (c .row-best .ensures .0), c .row-best .ensures .1)
 
 returns : tie.Need-returns Inv-loop μ-loop
 returns c =
@@ -89,7 +89,7 @@ returns c =
     let q = c .before .before .span-of2 .ensures in
     let l = c .before .loop in
     let e : l .k ≡ c .before .before .span-of2 .result .to = omega arith in
-    ((rw e at (l .inv .1)) ∙ rows-end (a .target .now) (a .reference .now) (a .p) (r .0 .radius-most) (r .0 .px-low) (r .0 .py-low) (c .before .before .span-of2 .result) q (shown (a .first)), l .inv .2)
+    ((rw e at (l .inv .1)) ∙ rows-end (a .target .now) (a .reference .now) (a .p) (r .0 .radius-most) (r .0 .px-low) (r .0 .py-low) (c .before .before .span-of2 .result) q (bestSoFar (a .first)), l .inv .2)
 
 pub full-best-spec : {M : Type 1} → statement M
 full-best-spec =

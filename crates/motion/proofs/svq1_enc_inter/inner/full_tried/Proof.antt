@@ -4,8 +4,8 @@ use Prim.Native.Nat.{_+_, _-_, _/_, _%_}
 use native.Mathlib.Omega.{arith}
 use borrow.Author.Tests.{not-true, not-false}
 use Rattle.canvas.specs.Canvas.{Canvas}
-use Rattle.compensation.specs.RowsLaws.{read-full, summed-full}
-use Rattle.motion.specs.CandidatesLaws.{Both, not-x, better, no-better, held, reads-x, reads-y, read-in, judged}
+use Rattle.compensation.specs.RowFormsLaws.{read-full, summed-full}
+use Rattle.motion.specs.CandidateFormsLaws.{Both, not-x, better, no-better, held, reads-x, reads-y, read-in, judged}
 use borrow.Author.Needs.{needs}
 use Rattle.motion.proofs.svq1_enc_inter.inner.full_tried.Statement.{statement}
 use Rattle.motion.proofs.svq1_enc_inter.inner.full_tried.Tie as tie

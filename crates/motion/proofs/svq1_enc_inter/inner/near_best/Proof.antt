@@ -2,7 +2,7 @@
 use mathlib.Core.Path.{_≡_}
 use Prim.Native.Nat.{_-_, _≤_}
 use Rattle.motion.specs.Search.{aroundTo}
-use Rattle.motion.specs.Candidates.{loweredMv, spotSearch, shown, Held}
+use Rattle.motion.specs.CandidateForms.{loweredMv, spotSearch, bestSoFar, BestHeld}
 use Rattle.motion.specs.ScanLaws.{around-none, around-step, around-all}
 use native.Mathlib.Omega.{arith}
 use borrow.Author.Needs.{needs}
@@ -10,7 +10,7 @@ use Rattle.motion.proofs.svq1_enc_inter.inner.near_best.Statement.{stat
 use Rattle.motion.proofs.svq1_enc_inter.inner.near_best.Tie as tie
 
 abbrev Inv-loop : tie.InvT-loop
-Inv-loop target reference p c best₀ k₀ best k = (k ≤ 9) × (shown best ≡ aroundTo (spotSearch target reference p) (loweredMv (c .ux) (c .uy)) (shown c) k) × Held best
+Inv-loop target reference p c best₀ k₀ best k = (k ≤ 9) × (bestSoFar best ≡ aroundTo (spotSearch target reference p) (loweredMv (c .ux) (c .uy)) (bestSoFar c) k) × BestHeld best
 
 abbrev μ-loop : tie.MeasureT-loop
 μ-loop target reference p c best₀ k₀ best k = 9 - k

@@ -3,7 +3,7 @@
 use mathlib.Core.Path.{_≡_, sym, _∙_}
 use Prim.Native.Nat.{_-_, _≤_}
 use Rattle.motion.specs.Search.{rowTo}
-use Rattle.motion.specs.Candidates.{lowered, spotSearch, shown, Held}
+use Rattle.motion.specs.CandidateForms.{lowered, spotSearch, bestSoFar, BestHeld}
 use Rattle.motion.specs.ScanLaws.{row-more, row-start, row-end, row-none}
 use native.Mathlib.Omega.{arith}
 use borrow.Author.Tests.{not-true, not-false}
@@ -12,7 +12,7 @@ use Rattle.motion.proofs.svq1_enc_inter.inner.row_best.Statement.{state
 use Rattle.motion.proofs.svq1_enc_inter.inner.row_best.Tie as tie
 
 abbrev Inv-loop : tie.InvT-loop
-Inv-loop target reference p uy to best₀ k₀ best k = (k ≤ to) × (shown best ≡ rowTo (spotSearch target reference p) (lowered uy) (shown best₀) k) × Held best
+Inv-loop target reference p uy to best₀ k₀ best k = (k ≤ to) × (bestSoFar best ≡ rowTo (spotSearch target reference p) (lowered uy) (bestSoFar best₀) k) × BestHeld best
 
 abbrev μ-loop : tie.MeasureT-loop
 μ-loop target reference p uy to best₀ k₀ best k = to - k
@@ -25,14 +25,14 @@ returns c =
     let s = c .before .before .before .before in
     let a = s .args in
     let r = s .pre in
-    (sym (row-none (a .target .now) (a .reference .now) (a .p) (r .0 .radius-most) (r .0 .px-low) (r .0 .py-low) (a .uy) (shown (a .first)) _ (sym (c .before .axis-ok .ensures) ∙ not-true _ (c .if1 .taken))), r .1)
+    (sym (row-none (a .target .now) (a .reference .now) (a .p) (r .0 .radius-most) (r .0 .px-low) (r .0 .py-low) (a .uy) (bestSoFar (a .first)) _ (sym (c .before .axis-ok .ensures) ∙ not-true _ (c .if1 .taken))), r .1)
 
 loop-holds : tie.Need-loop-holds Inv-loop μ-loop
 loop-holds c =
     let s = c .before .before .before .before in
     let a = s .args in
     let r = s .pre in
-    (omega (arith, r .2 .first, r .2 .some), row-start (a .target .now) (a .reference .now) (a .p) (r .0 .radius-most) (r .0 .px-low) (r .0 .py-low) (a .s) (r .2) (a .uy) (shown (a .first)), r .1)
+    (omega (arith, r .2 .first, r .2 .some), row-start (a .target .now) (a .reference .now) (a .p) (r .0 .radius-most) (r .0 .px-low) (r .0 .py-low) (a .s) (r .2) (a .uy) (bestSoFar (a .first)), r .1)
 
 add-full-tried : tie.Need-add-full-tried Inv-loop μ-loop
 add-full-tried c =
@@ -78,7 +78,7 @@ loop-again c =
     let a = s .args in
     let r = s .pre in
     let l = c .before .before .before .before .loop in
-    (omega arith, row-more (a .target .now) (a .reference .now) (a .p) (r .0 .radius-most) (r .0 .px-low) (r .0 .py-low) (a .uy) (shown (a .first)) (l .k) (l .best) (c .full-tried .result) (l .inv .1) (c .full-tried .ensures .0), c .full-tried .ensures .1)
+    (omega arith, row-more (a .target .now) (a .reference .now) (a .p) (r .0 .radius-most) (r .0 .px-low) (r .0 .py-low) (a .uy) (bestSoFar (a .first)) (l .k) (l .best) (c .full-tried .result) (l .inv .1) (c .full-tried .ensures .0), c .full-tried .ensures .1)
 
 returns-2 : tie.Need-returns-2 Inv-loop μ-loop
 returns-2 c =
@@ -87,7 +87,7 @@ returns-2 c =
     let r = s .pre in
     let l = c .before .loop in
     let e : l .k ≡ a .s .to = omega arith in
-    ((rw e at (l .inv .1)) ∙ row-end (a .target .now) (a .reference .now) (a .p) (r .0 .radius-most) (r .0 .px-low) (r .0 .py-low) (a .s) (r .2) (a .uy) (shown (a .first)), l .inv .2)
+    ((rw e at (l .inv .1)) ∙ row-end (a .target .now) (a .reference .now) (a .p) (r .0 .radius-most) (r .0 .px-low) (r .0 .py-low) (a .s) (r .2) (a .uy) (bestSoFar (a .first)), l .inv .2)
 
 pub row-best-spec : {M : Type 1} → statement M
 row-best-spec =

@@ -1,7 +1,7 @@
 -- An error that ends early has reached the best one, so it does not replace it; whole, it is the definition's error.
 use mathlib.Core.Path.{sym, _∙_}
 use borrow.Author.Tests.{not-true, not-false}
-use Rattle.motion.specs.CandidatesLaws.{Both, not-x, not-y, better, no-better, held, reads-x, reads-y, read-in, judged}
+use Rattle.motion.specs.CandidateFormsLaws.{Both, not-x, not-y, better, no-better, held, reads-x, reads-y, read-in, judged}
 use borrow.Author.Needs.{needs}
 use Rattle.motion.proofs.svq1_enc_inter.inner.tried.Statement.{statement}
 use Rattle.motion.proofs.svq1_enc_inter.inner.tried.Tie as tie

@@ -6,7 +6,7 @@ use mir.ValLaws.{toZ-ofZ}
 use mir.Syntax.{w32}
 use mir.Val.{SFits}
 use Rattle.bits.specs.Basics.{signedByte}
-use Rattle.mv_cache.specs.CacheLaws.{byte-low, byte-high}
+use Rattle.mv_cache.specs.CacheNeedsLaws.{byte-low, byte-high}
 use Rattle.mv_cache.proofs.svq1_mv_cache.inner.byte_of.Statement.{statement}
 use Rattle.mv_cache.proofs.svq1_mv_cache.inner.byte_of.Tie as tie
 

@@ -2,7 +2,7 @@
 use mathlib.Core.Path.{_∙_}
 use native.Mathlib.Omega.{arith}
 use Rattle.mv_cache.specs.Neighbours.{nearOf}
-use Rattle.mv_cache.specs.CacheLaws.{first-small, same-row, same-col}
+use Rattle.mv_cache.specs.CacheNeedsLaws.{first-small, same-row, same-col}
 use borrow.Author.Needs.{needs}
 use Rattle.mv_cache.proofs.svq1_mv_cache.inner.near_blocks.Statement.{statement}
 use Rattle.mv_cache.proofs.svq1_mv_cache.inner.near_blocks.Tie as tie

@@ -7,7 +7,7 @@ use lib.IntN.{ℤ}
 use mir.ValLaws.{toZ-ofZ}
 use mir.Syntax.{w32}
 use Rattle.vectors.specs.declared.svq1_motion_predictor.Neighbour.the-variants.{Present}
-use Rattle.mv_cache.specs.CacheLaws.{absent-above, absent-below, absent-left, absent-right, present, stored-in}
+use Rattle.mv_cache.specs.CacheNeedsLaws.{absent-above, absent-below, absent-left, absent-right, present, stored-in}
 use Rattle.mv_cache.proofs.svq1_mv_cache.inner.neighbour_at.Statement.{statement}
 use Rattle.mv_cache.proofs.svq1_mv_cache.inner.neighbour_at.Tie as tie
 

@@ -6,7 +6,7 @@ use lib.IntN.{pos, _-ℤ_}
 use mir.ValLaws.{toZ-ofZ}
 use mir.Syntax.{w32}
 use mir.Val.{SFits}
-use Rattle.mv_cache.specs.CacheLaws.{low-signed, high-signed, high-mag}
+use Rattle.mv_cache.specs.CacheNeedsLaws.{low-signed, high-signed, high-mag}
 use Rattle.mv_cache.proofs.svq1_mv_cache.inner.signed.Statement.{statement}
 use Rattle.mv_cache.proofs.svq1_mv_cache.inner.signed.Tie as tie
 

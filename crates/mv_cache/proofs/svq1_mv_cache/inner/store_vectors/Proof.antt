@@ -1,7 +1,7 @@
 -- Each slice has room for the macroblock's four places; x goes into one, y into the other.
 use mir.ValLaws.{toZ-ofZ}
 use mir.Syntax.{w32}
-use Rattle.mv_cache.specs.CacheLaws.{room-x, room-y}
+use Rattle.mv_cache.specs.CacheNeedsLaws.{room-x, room-y}
 use borrow.Author.Needs.{needs}
 use Rattle.mv_cache.proofs.svq1_mv_cache.inner.store_vectors.Statement.{statement}
 use Rattle.mv_cache.proofs.svq1_mv_cache.inner.store_vectors.Tie as tie

@@ -1,5 +1,5 @@
 -- The two costs compared are those of the rule.
-use Rattle.plan.specs.Planned.{decided-split, decided-leaf}
+use Rattle.plan.specs.PlannedForms.{decided-split, decided-leaf}
 use borrow.Author.Needs.{needs}
 use Rattle.plan.proofs.svq1_enc_tree.inner.decide.Statement.{statement}
 use Rattle.plan.proofs.svq1_enc_tree.inner.decide.Tie as tie

@@ -3,9 +3,9 @@ use mathlib.Core.Logic.{⊎-elim}
 use mathlib.Core.Path.{_∙_, sym, refl}
 use Prim.Native.Nat.{_-_}
 use lib.ListN.{getD}
-use Rattle.plan.specs.PlannedLaws.{blank}
-use Rattle.plan.specs.Planned.{CleanChoice}
-use Rattle.plan.specs.Planning.{plannedNode}
+use Rattle.plan.specs.PlannedFormsLaws.{blank}
+use Rattle.plan.specs.PlannedForms.{CleanChoice}
+use Rattle.plan.specs.PlanNeeds.{plannedNode}
 use Rattle.bits.specs.ListLaws.{all-at}
 use Rattle.plan.specs.GrowLaws.{Growing, grow-begins, grow-ends, grow-passed, grow-taken, grow-moved}
 use borrow.Author.Needs.{needs}

@@ -1,8 +1,8 @@
 -- The planned blocks make the plan's tree, and its root weighs what the plan states. Assumes nothing.
 use native.Mathlib.Omega.{arith}
 use Rattle.tree.specs.GeometryLaws.{at-first}
-use Rattle.plan.specs.PlanningLaws.{plan-found}
-use Rattle.plan.specs.Planning.{planningIn}
+use Rattle.plan.specs.PlanNeedsLaws.{plan-found}
+use Rattle.plan.specs.PlanNeeds.{planningIn}
 use borrow.Author.Needs.{needs}
 use Rattle.plan.proofs.svq1_enc_tree.inner.plan.Statement.{statement}
 use Rattle.plan.proofs.svq1_enc_tree.inner.plan.Tie as tie

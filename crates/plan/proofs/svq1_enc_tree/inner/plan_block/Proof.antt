@@ -2,9 +2,9 @@
 use native.Mathlib.Omega.{arith}
 use Rattle.bits.specs.Basics.{Bytes}
 use Rattle.tree.specs.Plan.{Planning}
-use Rattle.plan.specs.PlannedLaws.{leaf-planned}
-use Rattle.plan.specs.Planning.{planningIn}
-use Rattle.plan.specs.PlanningLaws.{leaf-any, plan-ready, parts-light, block-planned}
+use Rattle.plan.specs.PlannedFormsLaws.{leaf-planned}
+use Rattle.plan.specs.PlanNeeds.{planningIn}
+use Rattle.plan.specs.PlanNeedsLaws.{leaf-any, plan-ready, parts-light, block-planned}
 use borrow.Author.Needs.{needs}
 use Rattle.plan.proofs.svq1_enc_tree.inner.plan_block.Statement.{statement}
 use Rattle.plan.proofs.svq1_enc_tree.inner.plan_block.Tie as tie

@@ -1,8 +1,8 @@
 -- A block is planned when those behind it are. Assumes nothing.
 use mathlib.Core.Path.{_∙_, sym, refl}
 use native.Mathlib.Omega.{arith}
-use Rattle.plan.specs.Planning.{planningIn}
-use Rattle.plan.specs.PlanningLaws.{Filling, fill-begins, fill-passed, fill-taken, fill-behind, fill-ends}
+use Rattle.plan.specs.PlanNeeds.{planningIn}
+use Rattle.plan.specs.PlanNeedsLaws.{Filling, fill-begins, fill-passed, fill-taken, fill-behind, fill-ends}
 use borrow.Author.Needs.{needs}
 use Rattle.plan.proofs.svq1_enc_tree.inner.plan_blocks.Statement.{statement}
 use Rattle.plan.proofs.svq1_enc_tree.inner.plan_blocks.Tie as tie

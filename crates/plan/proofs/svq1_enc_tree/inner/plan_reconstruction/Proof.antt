@@ -3,8 +3,8 @@ use mathlib.Core.Path.{_∙_, ap}
 use native.Mathlib.Omega.{arith}
 use Rattle.book.specs.Level.{width, area}
 use Rattle.tree.specs.GeometryLaws.{area-most}
-use Rattle.tree_samples.specs.RebuildLaws.{cut-length}
-use Rattle.plan.specs.FrontLaws.{front-lies, front-shown}
+use Rattle.tree_samples.specs.RebuildNeedsLaws.{cut-length}
+use Rattle.plan.specs.FrontNeedsLaws.{front-lies, front-shown}
 use borrow.Author.Needs.{needs}
 use Rattle.plan.proofs.svq1_enc_tree.inner.plan_reconstruction.Statement.{statement}
 use Rattle.plan.proofs.svq1_enc_tree.inner.plan_reconstruction.Tie as tie

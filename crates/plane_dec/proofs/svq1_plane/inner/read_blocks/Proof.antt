@@ -3,11 +3,11 @@ use mathlib.Core.Path.{_∙_}
 use Prim.Native.Nat.{_-_, _<_}
 use Rattle.macroblock.specs.Macroblock.{Given}
 use Rattle.macroblock.specs.Slices.{Slices, slicesBy, xSlice, ySlice}
-use Rattle.macroblock.specs.Inner.{givenBy}
+use Rattle.macroblock.specs.MacroblockNeeds.{givenBy}
 use Rattle.plane.specs.Plane.{count}
 use Rattle.plane.specs.RefusalsLaws.{count-by, count-most}
-use Rattle.plane_dec.specs.Reader.{Going}
-use Rattle.plane_dec.specs.ReaderLaws.{begun, ready, turn, stop-early, stop-last}
+use Rattle.plane_dec.specs.ReaderNeeds.{Going}
+use Rattle.plane_dec.specs.ReaderNeedsLaws.{begun, ready, turn, stop-early, stop-last}
 use native.Mathlib.Omega.{arith}
 use Rattle.plane_dec.proofs.svq1_plane.inner.read_blocks.Statement.{statement}
 use Rattle.plane_dec.proofs.svq1_plane.inner.read_blocks.Tie as tie

@@ -1,8 +1,8 @@
 -- The plane and its canvas, then what is lent. Assumes nothing.
 use mathlib.Core.Path.{sym, _∙_}
-use Rattle.macroblock.specs.Inner.{givenBy}
+use Rattle.macroblock.specs.MacroblockNeeds.{givenBy}
 use Rattle.plane.specs.RefusalsLaws.{canvas-padded}
-use Rattle.plane_dec.specs.ReaderLaws.{by-plane, by-lent}
+use Rattle.plane_dec.specs.ReaderNeedsLaws.{by-plane, by-lent}
 use borrow.Author.Needs.{needs}
 use Rattle.plane_dec.proofs.svq1_plane.inner.read_refusal.Statement.{statement}
 use Rattle.plane_dec.proofs.svq1_plane.inner.read_refusal.Tie as tie

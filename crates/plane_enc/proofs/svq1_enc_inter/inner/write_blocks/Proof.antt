@@ -6,16 +6,16 @@ use lib.ListN.{length}
 use Rattle.bits.specs.Bits.{bitsOf}
 use Rattle.macroblock.specs.Macroblock.{Given}
 use Rattle.macroblock.specs.Choice.{Task}
-use Rattle.macroblock_choice.specs.Chosen.{taskIn}
+use Rattle.macroblock_choice.specs.ChosenNeeds.{taskIn}
 use Rattle.macroblock.specs.Slices.{Slices, slicesBy, xSlice, ySlice}
-use Rattle.macroblock.specs.Inner.{givenBy}
+use Rattle.macroblock.specs.MacroblockNeeds.{givenBy}
 use Rattle.plane.specs.Plane.{count}
 use Rattle.plane.specs.RefusalsLaws.{count-by, count-most}
-use Rattle.macroblock_enc.specs.Limits.{limitOf}
+use Rattle.macroblock_enc.specs.LimitForms.{limitOf}
 use Rattle.plane_enc.specs.Stated.{Telling}
 use Rattle.plane_enc.specs.StatedLaws.{length-in, telling-begun, telling-turn}
-use Rattle.plane_enc.specs.Writer.{Writes, Underway}
-use Rattle.plane_enc.specs.WriterLaws.{begun, ready, few, low, turn, stop-early, stop-last}
+use Rattle.plane_enc.specs.WriterNeeds.{Writes, Underway}
+use Rattle.plane_enc.specs.WriterNeedsLaws.{begun, ready, few, low, turn, stop-early, stop-last}
 use native.Mathlib.Omega.{arith}
 use borrow.Author.Needs.{needs}
 use Rattle.plane_enc.proofs.svq1_enc_inter.inner.write_blocks.Statement.{statement}

@@ -1,8 +1,8 @@
 -- The plane and its source, then what is lent. Assumes nothing.
 use mathlib.Core.Path.{sym, _∙_}
-use Rattle.macroblock.specs.Inner.{givenBy}
+use Rattle.macroblock.specs.MacroblockNeeds.{givenBy}
 use Rattle.plane.specs.RefusalsLaws.{source-padded}
-use Rattle.plane_enc.specs.WriterLaws.{by-source, by-lent}
+use Rattle.plane_enc.specs.WriterNeedsLaws.{by-source, by-lent}
 use borrow.Author.Needs.{needs}
 use Rattle.plane_enc.proofs.svq1_enc_inter.inner.write_refusal.Statement.{statement}
 use Rattle.plane_enc.proofs.svq1_enc_inter.inner.write_refusal.Tie as tie

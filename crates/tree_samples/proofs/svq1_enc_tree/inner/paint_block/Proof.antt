@@ -1,6 +1,6 @@
 use denote.Ref.{now}
 use mathlib.Core.Path.{refl}
-use Rattle.tree_samples.specs.RowsLaws.{Painting, paint-turn, paint-end, paint-room, length-part}
+use Rattle.tree_samples.specs.RowFormsLaws.{Painting, paint-turn, paint-end, paint-room, length-part}
 use native.Mathlib.Omega.{arith}
 use Rattle.tree_samples.proofs.svq1_enc_tree.inner.paint_block.Statement.{statement}
 use Rattle.tree_samples.proofs.svq1_enc_tree.inner.paint_block.Tie as tie

@@ -2,7 +2,7 @@ use mathlib.Core.Path.{_≡_, refl}
 use Prim.Native.Nat.{_-_, _≤_}
 use lib.ListN.{length, take, length-set}
 use lib.Seq.{sets}
-use Rattle.tree_samples.specs.RowsLaws.{row-turn, row-end}
+use Rattle.tree_samples.specs.RowFormsLaws.{row-turn, row-end}
 use native.Mathlib.Omega.{arith}
 use borrow.Author.Needs.{needs}
 use Rattle.tree_samples.proofs.svq1_enc_tree.inner.put_row.Statement.{statement}

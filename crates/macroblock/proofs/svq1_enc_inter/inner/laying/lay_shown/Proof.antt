@@ -1,7 +1,7 @@
 -- What is shown, and then laid. Assumes nothing.
-use Rattle.tree.specs.Nodes.{treeOf}
-use Rattle.macroblock.specs.Motions.{motionOf}
-use Rattle.macroblock.specs.Laying.{choiceBy}
+use Rattle.tree.specs.NodeForms.{treeOf}
+use Rattle.macroblock.specs.MotionForms.{motionOf}
+use Rattle.macroblock.specs.LayingNeeds.{choiceBy}
 use Rattle.macroblock.specs.LayLaws.{lay-asks, lays}
 use borrow.Author.Needs.{needs}
 use Rattle.macroblock.proofs.svq1_enc_inter.inner.laying.lay_shown.Statement.{statement}

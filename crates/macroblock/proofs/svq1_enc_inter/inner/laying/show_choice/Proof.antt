@@ -1,6 +1,6 @@
 -- The reference block, or the tree over its baseline. Assumes nothing.
-use Rattle.tree.specs.Nodes.{treeOf}
-use Rattle.macroblock.specs.Motions.{motionOf}
+use Rattle.tree.specs.NodeForms.{treeOf}
+use Rattle.macroblock.specs.MotionForms.{motionOf}
 use Rattle.macroblock.specs.LayLaws.{stands-by, shows-skip, shows-coded}
 use Rattle.macroblock.proofs.svq1_enc_inter.inner.laying.show_choice.Statement.{statement}
 use Rattle.macroblock.proofs.svq1_enc_inter.inner.laying.show_choice.Tie as tie

@@ -1,6 +1,6 @@
 -- One case for each motion. Assumes nothing.
 use native.Mathlib.Omega.{arith}
-use Rattle.macroblock.specs.SamplesLaws.{stands-at, over-none, over-one, over-four}
+use Rattle.macroblock.specs.SampleNeedsLaws.{stands-at, over-none, over-one, over-four}
 use borrow.Author.Needs.{needs}
 use Rattle.macroblock.proofs.svq1_enc_inter.inner.samples.baseline_of.Statement.{statement}
 use Rattle.macroblock.proofs.svq1_enc_inter.inner.samples.baseline_of.Tie as tie

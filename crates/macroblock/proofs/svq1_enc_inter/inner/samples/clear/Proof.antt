@@ -3,7 +3,7 @@ use mathlib.Core.Path.{_≡_, refl, sym, _∙_}
 use Prim.Native.Nat.{_-_, _≤_}
 use lib.ListN.{length, take, replicate}
 use lib.Seq.{take-all}
-use Rattle.macroblock.specs.SamplesLaws.{clear-more}
+use Rattle.macroblock.specs.SampleNeedsLaws.{clear-more}
 use native.Mathlib.Omega.{arith}
 use borrow.Author.Needs.{needs}
 use Rattle.macroblock.proofs.svq1_enc_inter.inner.samples.clear.Statement.{statement}

@@ -1,5 +1,5 @@
 -- The samples, and then the vectors. Assumes nothing.
-use Rattle.macroblock.specs.SamplesLaws.{inside-at, laid-four}
+use Rattle.macroblock.specs.SampleNeedsLaws.{inside-at, laid-four}
 use borrow.Author.Needs.{needs}
 use Rattle.macroblock.proofs.svq1_enc_inter.inner.samples.lay_block.Statement.{statement}
 use Rattle.macroblock.proofs.svq1_enc_inter.inner.samples.lay_block.Tie as tie

@@ -1,7 +1,7 @@
 -- Each quarter behind the one before it. Assumes nothing.
 use mathlib.Core.Path.{refl}
 use Rattle.canvas.specs.Canvas.{Canvas}
-use Rattle.macroblock.specs.SamplesLaws.{quarters-moved}
+use Rattle.macroblock.specs.SampleNeedsLaws.{quarters-moved}
 use borrow.Author.Needs.{needs}
 use Rattle.macroblock.proofs.svq1_enc_inter.inner.samples.move_quarters.Statement.{statement}
 use Rattle.macroblock.proofs.svq1_enc_inter.inner.samples.move_quarters.Tie as tie

@@ -2,9 +2,9 @@
 use mathlib.Core.Path.{ap, _∙_}
 use mathlib.Core.List.{[]}
 use lib.ListN.{length}
-use Rattle.tree.specs.Nodes.{treeOf}
-use Rattle.macroblock.specs.Motions.{motionOf}
-use Rattle.macroblock.specs.SamplesLaws.{whole-tree, length-baseline, tree-shown}
+use Rattle.tree.specs.NodeForms.{treeOf}
+use Rattle.macroblock.specs.MotionForms.{motionOf}
+use Rattle.macroblock.specs.SampleNeedsLaws.{whole-tree, length-baseline, tree-shown}
 use borrow.Author.Needs.{needs}
 use Rattle.macroblock.proofs.svq1_enc_inter.inner.samples.show_coded.Statement.{statement}
 use Rattle.macroblock.proofs.svq1_enc_inter.inner.samples.show_coded.Tie as tie

@@ -1,7 +1,7 @@
 -- The block that a zero vector reads is the macroblock. Assumes nothing.
 use mathlib.Core.Path.{_∙_}
 use Rattle.canvas.specs.Canvas.{Canvas}
-use Rattle.macroblock.specs.SamplesLaws.{still-block}
+use Rattle.macroblock.specs.SampleNeedsLaws.{still-block}
 use borrow.Author.Needs.{needs}
 use Rattle.macroblock.proofs.svq1_enc_inter.inner.samples.take_block.Statement.{statement}
 use Rattle.macroblock.proofs.svq1_enc_inter.inner.samples.take_block.Tie as tie

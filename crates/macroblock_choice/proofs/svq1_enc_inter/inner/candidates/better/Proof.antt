@@ -1,5 +1,5 @@
 -- The order of the definition, test by test. Assumes nothing.
-use Rattle.macroblock_choice.specs.CandidatesLaws.{kept-less, kept-fewer, kept-more, kept-dear}
+use Rattle.macroblock_choice.specs.CandidateNeedsLaws.{kept-less, kept-fewer, kept-more, kept-dear}
 use borrow.Author.Needs.{needs}
 use Rattle.macroblock_choice.proofs.svq1_enc_inter.inner.candidates.better.Statement.{statement}
 use Rattle.macroblock_choice.proofs.svq1_enc_inter.inner.candidates.better.Tie as tie

@@ -3,8 +3,8 @@ use mathlib.Core.Path.{_≡_, refl}
 use native.Mathlib.Omega.{arith}
 use lib.ListN.{length}
 use Rattle.macroblock.specs.Macroblock.{motionMode, modeBits}
-use Rattle.macroblock.specs.Motions.{motionOf}
-use Rattle.macroblock.specs.Inner.{byBook}
+use Rattle.macroblock.specs.MotionForms.{motionOf}
+use Rattle.macroblock.specs.MacroblockNeeds.{byBook}
 use borrow.Author.Needs.{needs}
 use Rattle.macroblock_choice.proofs.svq1_enc_inter.inner.candidates.candidate_of.Statement.{statement}
 use Rattle.macroblock_choice.proofs.svq1_enc_inter.inner.candidates.candidate_of.Tie as tie

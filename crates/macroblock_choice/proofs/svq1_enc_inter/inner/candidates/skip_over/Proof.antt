@@ -1,7 +1,7 @@
 -- The reference's block against the target, and the mode's bits. Assumes nothing.
-use Rattle.macroblock.specs.Inner.{givenBy}
-use Rattle.macroblock.specs.SamplesLaws.{cols-is}
-use Rattle.macroblock_choice.specs.CandidatesLaws.{skip-is, skip-stated, skip-error}
+use Rattle.macroblock.specs.MacroblockNeeds.{givenBy}
+use Rattle.macroblock.specs.SampleNeedsLaws.{cols-is}
+use Rattle.macroblock_choice.specs.CandidateNeedsLaws.{skip-is, skip-stated, skip-error}
 use borrow.Author.Needs.{needs}
 use Rattle.macroblock_choice.proofs.svq1_enc_inter.inner.candidates.skip_over.Statement.{statement}
 use Rattle.macroblock_choice.proofs.svq1_enc_inter.inner.candidates.skip_over.Tie as tie

@@ -1,9 +1,9 @@
 -- SKIP, then one vector, none and four, each against the best so far. Assumes nothing.
 use mathlib.Core.Path.{refl}
-use Rattle.mv_cache.specs.Cache.{nearFrom}
-use Rattle.macroblock.specs.Inner.{givenBy}
-use Rattle.macroblock.specs.InnerLaws.{stands, book-passes}
-use Rattle.macroblock_choice.specs.ChosenLaws.{searching, chosen-for}
+use Rattle.mv_cache.specs.CacheNeeds.{nearFrom}
+use Rattle.macroblock.specs.MacroblockNeeds.{givenBy}
+use Rattle.macroblock.specs.MacroblockNeedsLaws.{stands, book-passes}
+use Rattle.macroblock_choice.specs.ChosenNeedsLaws.{searching, chosen-for}
 use borrow.Author.Needs.{needs}
 use Rattle.macroblock_choice.proofs.svq1_enc_inter.inner.choice.choose_for.Statement.{statement}
 use Rattle.macroblock_choice.proofs.svq1_enc_inter.inner.choice.choose_for.Tie as tie

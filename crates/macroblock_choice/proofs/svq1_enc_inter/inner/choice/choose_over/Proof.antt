@@ -1,7 +1,7 @@
 -- The target is the source's macroblock. Assumes nothing.
-use Rattle.mv_cache.specs.Cache.{nearFrom}
-use Rattle.macroblock.specs.Inner.{givenBy}
-use Rattle.macroblock_choice.specs.ChosenLaws.{sources, block-placed, chosen-by}
+use Rattle.mv_cache.specs.CacheNeeds.{nearFrom}
+use Rattle.macroblock.specs.MacroblockNeeds.{givenBy}
+use Rattle.macroblock_choice.specs.ChosenNeedsLaws.{sources, block-placed, chosen-by}
 use borrow.Author.Needs.{needs}
 use Rattle.macroblock_choice.proofs.svq1_enc_inter.inner.choice.choose_over.Statement.{statement}
 use Rattle.macroblock_choice.proofs.svq1_enc_inter.inner.choice.choose_over.Tie as tie

@@ -1,11 +1,11 @@
 -- One motion, in its room or not, or none. Assumes nothing.
-use Rattle.mv_cache.specs.Cache.{nearFrom}
-use Rattle.macroblock.specs.Motions.{motionOf}
-use Rattle.macroblock.specs.Inner.{givenBy}
-use Rattle.macroblock_search.specs.Searches.{motionsOf}
-use Rattle.macroblock_search.specs.SearchesLaws.{motions-one, motions-none, all-found}
-use Rattle.macroblock_choice.specs.CandidatesLaws.{kept-in, kept-out, tried-none}
-use Rattle.macroblock_choice.specs.ChosenLaws.{try-one}
+use Rattle.mv_cache.specs.CacheNeeds.{nearFrom}
+use Rattle.macroblock.specs.MotionForms.{motionOf}
+use Rattle.macroblock.specs.MacroblockNeeds.{givenBy}
+use Rattle.macroblock_search.specs.SearchNeeds.{motionsOf}
+use Rattle.macroblock_search.specs.SearchNeedsLaws.{motions-one, motions-none, all-found}
+use Rattle.macroblock_choice.specs.CandidateNeedsLaws.{kept-in, kept-out, tried-none}
+use Rattle.macroblock_choice.specs.ChosenNeedsLaws.{try-one}
 use borrow.Author.Needs.{needs}
 use Rattle.macroblock_choice.proofs.svq1_enc_inter.inner.choice.try_motion.Statement.{statement}
 use Rattle.macroblock_choice.proofs.svq1_enc_inter.inner.choice.try_motion.Tie as tie

@@ -1,10 +1,10 @@
 -- What a plan states is what its tree weighs. Assumes nothing.
 use mathlib.Core.Path.{refl}
-use Rattle.mv_cache.specs.Cache.{nearFrom}
-use Rattle.macroblock.specs.Motions.{motionOf}
-use Rattle.macroblock.specs.Inner.{givenBy}
-use Rattle.macroblock.specs.InnerLaws.{book-passes}
-use Rattle.macroblock_choice.specs.ChosenLaws.{plan-few, made-by}
+use Rattle.mv_cache.specs.CacheNeeds.{nearFrom}
+use Rattle.macroblock.specs.MotionForms.{motionOf}
+use Rattle.macroblock.specs.MacroblockNeeds.{givenBy}
+use Rattle.macroblock.specs.MacroblockNeedsLaws.{book-passes}
+use Rattle.macroblock_choice.specs.ChosenNeedsLaws.{plan-few, made-by}
 use borrow.Author.Needs.{needs}
 use Rattle.macroblock_choice.proofs.svq1_enc_inter.inner.plans.coded_candidate.Statement.{statement}
 use Rattle.macroblock_choice.proofs.svq1_enc_inter.inner.plans.coded_candidate.Tie as tie

@@ -2,11 +2,11 @@
 use mathlib.Core.Path.{ap, _∙_}
 use lib.ListN.{length}
 use Rattle.macroblock.specs.Choice.{planeTerms}
-use Rattle.macroblock.specs.Motions.{motionOf}
-use Rattle.macroblock.specs.Inner.{givenBy}
-use Rattle.macroblock.specs.InnerLaws.{stands}
-use Rattle.macroblock.specs.SamplesLaws.{length-baseline}
-use Rattle.macroblock_choice.specs.ChosenLaws.{plan-ready, found-by}
+use Rattle.macroblock.specs.MotionForms.{motionOf}
+use Rattle.macroblock.specs.MacroblockNeeds.{givenBy}
+use Rattle.macroblock.specs.MacroblockNeedsLaws.{stands}
+use Rattle.macroblock.specs.SampleNeedsLaws.{length-baseline}
+use Rattle.macroblock_choice.specs.ChosenNeedsLaws.{plan-ready, found-by}
 use borrow.Author.Needs.{needs}
 use Rattle.macroblock_choice.proofs.svq1_enc_inter.inner.plans.plan_over.Statement.{statement}
 use Rattle.macroblock_choice.proofs.svq1_enc_inter.inner.plans.plan_over.Tie as tie

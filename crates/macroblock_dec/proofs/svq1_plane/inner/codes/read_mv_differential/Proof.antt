@@ -1,6 +1,6 @@
 -- The second component behind the first. Assumes nothing.
 use native.Mathlib.Omega.{arith}
-use Rattle.macroblock_dec.specs.FindingLaws.{reads-on, first-component-refused, difference-found}
+use Rattle.macroblock_dec.specs.FindingNeedsLaws.{reads-on, first-component-refused, difference-found}
 use borrow.Author.Needs.{needs}
 use Rattle.macroblock_dec.proofs.svq1_plane.inner.codes.read_mv_differential.Statement.{statement}
 use Rattle.macroblock_dec.proofs.svq1_plane.inner.codes.read_mv_differential.Tie as tie

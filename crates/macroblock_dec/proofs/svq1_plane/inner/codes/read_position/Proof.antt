@@ -1,6 +1,6 @@
 -- What reading the code finds, by cases. Assumes nothing.
 use mathlib.Core.Path.{sym, _∙_}
-use Rattle.macroblock_dec.specs.FindingLaws.{position-found, position-none, position-ends}
+use Rattle.macroblock_dec.specs.FindingNeedsLaws.{position-found, position-none, position-ends}
 use borrow.Author.Needs.{needs}
 use Rattle.macroblock_dec.proofs.svq1_plane.inner.codes.read_position.Statement.{statement}
 use Rattle.macroblock_dec.proofs.svq1_plane.inner.codes.read_position.Tie as tie

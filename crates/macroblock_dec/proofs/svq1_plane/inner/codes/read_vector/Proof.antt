@@ -4,7 +4,7 @@ use lib.IntN.{ℤ}
 use mir.ValLaws.{toZ-ofZ}
 use mir.Syntax.{w32}
 use Rattle.vectors.specs.declared.svq1_motion_predictor.Svq1Mv.{Svq1Mv}
-use Rattle.macroblock_dec.specs.FindingLaws.{vector-found}
+use Rattle.macroblock_dec.specs.FindingNeedsLaws.{vector-found}
 use borrow.Author.Needs.{needs}
 use Rattle.macroblock_dec.proofs.svq1_plane.inner.codes.read_vector.Statement.{statement}
 use Rattle.macroblock_dec.proofs.svq1_plane.inner.codes.read_vector.Tie as tie

@@ -1,5 +1,5 @@
 -- What is read can be shown. Assumes nothing.
-use Rattle.macroblock_dec.specs.FindingLaws.{tree-found}
+use Rattle.macroblock_dec.specs.FindingNeedsLaws.{tree-found}
 use borrow.Author.Needs.{needs}
 use Rattle.macroblock_dec.proofs.svq1_plane.inner.reading.decode_mb_block_tree.Statement.{statement}
 use Rattle.macroblock_dec.proofs.svq1_plane.inner.reading.decode_mb_block_tree.Tie as tie

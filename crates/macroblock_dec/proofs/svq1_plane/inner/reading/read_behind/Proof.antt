@@ -1,8 +1,8 @@
 -- SKIP, or a motion and a tree. Assumes nothing.
 use native.Mathlib.Omega.{arith}
-use Rattle.mv_cache.specs.Cache.{nearFrom}
+use Rattle.mv_cache.specs.CacheNeeds.{nearFrom}
 use Rattle.macroblock.specs.Mode.{modePosition}
-use Rattle.macroblock_dec.specs.MacroblockReadLaws.{skip-found}
+use Rattle.macroblock_dec.specs.ReadNeedsLaws.{skip-found}
 use borrow.Author.Needs.{needs}
 use Rattle.macroblock_dec.proofs.svq1_plane.inner.reading.read_behind.Statement.{statement}
 use Rattle.macroblock_dec.proofs.svq1_plane.inner.reading.read_behind.Tie as tie

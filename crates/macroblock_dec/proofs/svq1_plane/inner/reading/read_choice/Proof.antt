@@ -1,8 +1,8 @@
 -- What stands behind the mode. Assumes nothing.
 use native.Mathlib.Omega.{arith}
-use Rattle.mv_cache.specs.Cache.{nearFrom}
-use Rattle.macroblock_dec.specs.FindingLaws.{reads-on}
-use Rattle.macroblock_dec.specs.MacroblockReadLaws.{mode-refused, mode-found}
+use Rattle.mv_cache.specs.CacheNeeds.{nearFrom}
+use Rattle.macroblock_dec.specs.FindingNeedsLaws.{reads-on}
+use Rattle.macroblock_dec.specs.ReadNeedsLaws.{mode-refused, mode-found}
 use borrow.Author.Needs.{needs}
 use Rattle.macroblock_dec.proofs.svq1_plane.inner.reading.read_choice.Statement.{statement}
 use Rattle.macroblock_dec.proofs.svq1_plane.inner.reading.read_choice.Tie as tie

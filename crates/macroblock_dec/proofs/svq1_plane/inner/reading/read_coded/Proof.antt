@@ -1,9 +1,9 @@
 -- The tree behind the motion. Assumes nothing.
 use native.Mathlib.Omega.{arith}
-use Rattle.mv_cache.specs.Cache.{nearFrom}
+use Rattle.mv_cache.specs.CacheNeeds.{nearFrom}
 use Rattle.macroblock.specs.Mode.{modePosition}
-use Rattle.macroblock_dec.specs.FindingLaws.{reads-on}
-use Rattle.macroblock_dec.specs.MacroblockReadLaws.{motion-refused, coded-found}
+use Rattle.macroblock_dec.specs.FindingNeedsLaws.{reads-on}
+use Rattle.macroblock_dec.specs.ReadNeedsLaws.{motion-refused, coded-found}
 use borrow.Author.Needs.{needs}
 use Rattle.macroblock_dec.proofs.svq1_plane.inner.reading.read_coded.Statement.{statement}
 use Rattle.macroblock_dec.proofs.svq1_plane.inner.reading.read_coded.Tie as tie

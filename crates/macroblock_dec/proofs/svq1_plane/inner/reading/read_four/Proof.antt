@@ -4,8 +4,8 @@ use mathlib.Core.Path.{refl}
 use mathlib.Core.List.{[]}
 use lib.ListN.{length}
 use native.Mathlib.Omega.{arith}
-use Rattle.mv_cache.specs.Cache.{nearFrom}
-use Rattle.macroblock_dec.specs.FindingLaws.{reads-on, zeros-inside, first-refused, second-refused, third-refused, four-found}
+use Rattle.mv_cache.specs.CacheNeeds.{nearFrom}
+use Rattle.macroblock_dec.specs.FindingNeedsLaws.{reads-on, zeros-inside, first-refused, second-refused, third-refused, four-found}
 use borrow.Author.Needs.{needs}
 use Rattle.macroblock_dec.proofs.svq1_plane.inner.reading.read_four.Statement.{statement}
 use Rattle.macroblock_dec.proofs.svq1_plane.inner.reading.read_four.Tie as tie

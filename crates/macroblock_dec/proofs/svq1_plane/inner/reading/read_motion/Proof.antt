@@ -1,8 +1,8 @@
 -- One case for each mode. Assumes nothing.
 use mathlib.Core.Logic.{inl, inr}
 use native.Mathlib.Omega.{arith}
-use Rattle.mv_cache.specs.Cache.{nearFrom}
-use Rattle.macroblock_dec.specs.FindingLaws.{one-found, fours-found, none-found}
+use Rattle.mv_cache.specs.CacheNeeds.{nearFrom}
+use Rattle.macroblock_dec.specs.FindingNeedsLaws.{one-found, fours-found, none-found}
 use borrow.Author.Needs.{needs}
 use Rattle.macroblock_dec.proofs.svq1_plane.inner.reading.read_motion.Statement.{statement}
 use Rattle.macroblock_dec.proofs.svq1_plane.inner.reading.read_motion.Tie as tie

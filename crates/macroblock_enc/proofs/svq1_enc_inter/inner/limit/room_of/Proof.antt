@@ -1,6 +1,6 @@
 -- One case for each limit. Assumes nothing.
 use native.Mathlib.Omega.{arith}
-use Rattle.macroblock_enc.specs.LimitsLaws.{within-reserved, within-room}
+use Rattle.macroblock_enc.specs.LimitFormsLaws.{within-reserved, within-room}
 use borrow.Author.Needs.{needs}
 use Rattle.macroblock_enc.proofs.svq1_enc_inter.inner.limit.room_of.Statement.{statement}
 use Rattle.macroblock_enc.proofs.svq1_enc_inter.inner.limit.room_of.Tie as tie

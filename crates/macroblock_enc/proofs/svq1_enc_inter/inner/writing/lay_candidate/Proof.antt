@@ -1,5 +1,5 @@
 -- What is shown, and the vectors as they are stored. Assumes nothing.
-use Rattle.macroblock_enc.specs.WrittenLaws.{lays-candidate}
+use Rattle.macroblock_enc.specs.WrittenNeedsLaws.{lays-candidate}
 use borrow.Author.Needs.{needs}
 use Rattle.macroblock_enc.proofs.svq1_enc_inter.inner.writing.lay_candidate.Statement.{statement}
 use Rattle.macroblock_enc.proofs.svq1_enc_inter.inner.writing.lay_candidate.Tie as tie

@@ -1,10 +1,10 @@
 -- SKIP has its mode only. Assumes nothing.
 use mathlib.Core.Path.{sym, _∙_}
 use native.Mathlib.Omega.{arith}
-use Rattle.bits.specs.InnerLaws.{wrote-more}
-use Rattle.mv_cache.specs.Cache.{nearFrom}
-use Rattle.tree.specs.WalkLaws.{wrote-as}
-use Rattle.macroblock_enc.specs.WrittenLaws.{skip-bits, coded-bits, mode-fits, coded-room}
+use Rattle.bits.specs.BitNeedsLaws.{wrote-more}
+use Rattle.mv_cache.specs.CacheNeeds.{nearFrom}
+use Rattle.tree.specs.WalkNeedsLaws.{wrote-as}
+use Rattle.macroblock_enc.specs.WrittenNeedsLaws.{skip-bits, coded-bits, mode-fits, coded-room}
 use borrow.Author.Needs.{needs}
 use Rattle.macroblock_enc.proofs.svq1_enc_inter.inner.writing.put_candidate.Statement.{statement}
 use Rattle.macroblock_enc.proofs.svq1_enc_inter.inner.writing.put_candidate.Tie as tie

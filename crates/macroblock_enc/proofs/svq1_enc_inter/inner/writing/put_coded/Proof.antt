@@ -1,10 +1,10 @@
 -- The tree behind the vectors. Assumes nothing.
 use native.Mathlib.Omega.{arith}
-use Rattle.bits.specs.InnerLaws.{wrote-more}
-use Rattle.mv_cache.specs.Cache.{nearFrom}
-use Rattle.tree.specs.Nodes.{treeOf}
-use Rattle.macroblock.specs.Motions.{motionOf}
-use Rattle.macroblock_enc.specs.WrittenLaws.{motion-fits, tree-room}
+use Rattle.bits.specs.BitNeedsLaws.{wrote-more}
+use Rattle.mv_cache.specs.CacheNeeds.{nearFrom}
+use Rattle.tree.specs.NodeForms.{treeOf}
+use Rattle.macroblock.specs.MotionForms.{motionOf}
+use Rattle.macroblock_enc.specs.WrittenNeedsLaws.{motion-fits, tree-room}
 use borrow.Author.Needs.{needs}
 use Rattle.macroblock_enc.proofs.svq1_enc_inter.inner.writing.put_coded.Statement.{statement}
 use Rattle.macroblock_enc.proofs.svq1_enc_inter.inner.writing.put_coded.Tie as tie

@@ -2,8 +2,8 @@
 use Prim.Native.Nat.{_+_, _*_, _≤_, _<_}
 use native.Mathlib.Omega.{arith}
 use lib.ListN.{length}
-use Rattle.mv_cache.specs.Cache.{nearFrom}
-use Rattle.macroblock_enc.specs.WrittenLaws.{put-ready, wrote-candidate, wrote-nothing, laid-candidate, laid-nothing}
+use Rattle.mv_cache.specs.CacheNeeds.{nearFrom}
+use Rattle.macroblock_enc.specs.WrittenNeedsLaws.{put-ready, wrote-candidate, wrote-nothing, laid-candidate, laid-nothing}
 use borrow.Author.Needs.{needs}
 use Rattle.macroblock_enc.proofs.svq1_enc_inter.inner.writing.write_chosen.Statement.{statement}
 use Rattle.macroblock_enc.proofs.svq1_enc_inter.inner.writing.write_chosen.Tie as tie

@@ -1,11 +1,11 @@
 -- What is chosen is written where it fits. Assumes nothing.
 use mathlib.Core.Path.{_≡_}
-use Rattle.mv_cache.specs.Cache.{nearFrom}
+use Rattle.mv_cache.specs.CacheNeeds.{nearFrom}
 use Rattle.macroblock.specs.Slices.{Slices, slicesBy, near}
-use Rattle.macroblock.specs.Inner.{givenBy}
-use Rattle.macroblock.specs.InnerLaws.{fits, vectors-held}
+use Rattle.macroblock.specs.MacroblockNeeds.{givenBy}
+use Rattle.macroblock.specs.MacroblockNeedsLaws.{fits, vectors-held}
 use Rattle.macroblock_enc.specs.MbWrittenLaws.{sourced, near-around, reserving, write-ready, lay-ready, mb-written}
-use Rattle.macroblock_enc.specs.Limits.{limitOf}
+use Rattle.macroblock_enc.specs.LimitForms.{limitOf}
 use borrow.Author.Needs.{needs}
 use Rattle.macroblock_enc.proofs.svq1_enc_inter.inner.writing.write_macroblock.Statement.{statement}
 use Rattle.macroblock_enc.proofs.svq1_enc_inter.inner.writing.write_macroblock.Tie as tie

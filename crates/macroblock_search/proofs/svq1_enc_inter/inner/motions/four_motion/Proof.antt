@@ -1,8 +1,8 @@
 -- Two pairs of searches, where the flag is set. Assumes nothing.
-use Rattle.mv_cache.specs.Cache.{nearFrom}
+use Rattle.mv_cache.specs.CacheNeeds.{nearFrom}
 use Rattle.vectors.specs.VectorsLaws.{codable-inside}
 use Rattle.macroblock.specs.Choice.{fourTried}
-use Rattle.macroblock_search.specs.SearchesLaws.{was-off, was-on, moves-no-first, moves-no-second, moves-four, moves-flag, moves-flag-off}
+use Rattle.macroblock_search.specs.SearchNeedsLaws.{was-off, was-on, moves-no-first, moves-no-second, moves-four, moves-flag, moves-flag-off}
 use borrow.Author.Needs.{needs}
 use Rattle.macroblock_search.proofs.svq1_enc_inter.inner.motions.four_motion.Statement.{statement}
 use Rattle.macroblock_search.proofs.svq1_enc_inter.inner.motions.four_motion.Tie as tie

@@ -2,10 +2,10 @@
 use mathlib.Core.Path.{_≡_, _∙_}
 use Rattle.motion.specs.Search.{searched}
 use Rattle.mv_cache.specs.Neighbours.{forOne}
-use Rattle.macroblock_search.specs.Searches.{wholeBy, vectorFound}
-use Rattle.mv_cache.specs.Cache.{nearFrom}
+use Rattle.macroblock_search.specs.SearchNeeds.{wholeBy, vectorFound}
+use Rattle.mv_cache.specs.CacheNeeds.{nearFrom}
 use Rattle.mv_cache.specs.NeighboursLaws.{for-one-in}
-use Rattle.macroblock_search.specs.SearchesLaws.{whole-passes, found-codes, moves-single, moves-none}
+use Rattle.macroblock_search.specs.SearchNeedsLaws.{whole-passes, found-codes, moves-single, moves-none}
 use borrow.Author.Needs.{needs}
 use Rattle.macroblock_search.proofs.svq1_enc_inter.inner.motions.single_motion.Statement.{statement}
 use Rattle.macroblock_search.proofs.svq1_enc_inter.inner.motions.single_motion.Tie as tie

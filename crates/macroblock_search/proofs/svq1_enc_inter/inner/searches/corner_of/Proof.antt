@@ -1,7 +1,7 @@
 -- Its column and row among the macroblocks. Assumes nothing.
 use mathlib.Core.Path.{refl}
 use native.Mathlib.Omega.{arith}
-use Rattle.macroblock_search.specs.SearchesLaws.{corner-small}
+use Rattle.macroblock_search.specs.SearchNeedsLaws.{corner-small}
 use borrow.Author.Needs.{needs}
 use Rattle.macroblock_search.proofs.svq1_enc_inter.inner.searches.corner_of.Statement.{statement}
 use Rattle.macroblock_search.proofs.svq1_enc_inter.inner.searches.corner_of.Tie as tie

@@ -1,6 +1,6 @@
 -- The block's samples gathered, and its corner in the macroblock's. Assumes nothing.
 use mathlib.Core.Path.{_∙_}
-use Rattle.macroblock_search.specs.SearchesLaws.{quarter-passes}
+use Rattle.macroblock_search.specs.SearchNeedsLaws.{quarter-passes}
 use borrow.Author.Needs.{needs}
 use Rattle.macroblock_search.proofs.svq1_enc_inter.inner.searches.find_in.Statement.{statement}
 use Rattle.macroblock_search.proofs.svq1_enc_inter.inner.searches.find_in.Tie as tie

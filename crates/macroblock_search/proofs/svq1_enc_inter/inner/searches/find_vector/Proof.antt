@@ -1,5 +1,5 @@
 -- The call refuses nothing, so a refusal is that nothing was found. Assumes nothing.
-use Rattle.macroblock_search.specs.SearchesLaws.{found-vector, found-none}
+use Rattle.macroblock_search.specs.SearchNeedsLaws.{found-vector, found-none}
 use borrow.Author.Needs.{needs}
 use Rattle.macroblock_search.proofs.svq1_enc_inter.inner.searches.find_vector.Statement.{statement}
 use Rattle.macroblock_search.proofs.svq1_enc_inter.inner.searches.find_vector.Tie as tie

@@ -1,12 +1,12 @@
 -- The second search goes by what the first found. Assumes nothing.
 use mathlib.Core.Path.{refl, _∙_}
 use native.Mathlib.Omega.{arith}
-use Rattle.mv_cache.specs.Cache.{nearFrom}
+use Rattle.mv_cache.specs.CacheNeeds.{nearFrom}
 use Rattle.mv_cache.specs.Neighbours.{forThird, forFourth}
 use Rattle.mv_cache.specs.NeighboursLaws.{for-third-in, for-fourth-in}
 use Rattle.vectors.specs.VectorsLaws.{codable-inside}
-use Rattle.macroblock_search.specs.Searches.{quarterBy}
-use Rattle.macroblock_search.specs.SearchesLaws.{was-off, was-on, found-codes, pair-none, pair-both}
+use Rattle.macroblock_search.specs.SearchNeeds.{quarterBy}
+use Rattle.macroblock_search.specs.SearchNeedsLaws.{was-off, was-on, found-codes, pair-none, pair-both}
 use borrow.Author.Needs.{needs}
 use Rattle.macroblock_search.proofs.svq1_enc_inter.inner.searches.second_pair.Statement.{statement}
 use Rattle.macroblock_search.proofs.svq1_enc_inter.inner.searches.second_pair.Tie as tie

@@ -3,7 +3,7 @@ use mathlib.Core.Path.{_≡_, ap, _∙_}
 use native.Mathlib.Omega.{arith}
 use Rattle.book.specs.Level.{levelNumber, width, height}
 use Rattle.tree.specs.Blocks.{level}
-use Rattle.tree_samples.specs.SubtreeLaws.{block-rows, block-is, width-most}
+use Rattle.tree_samples.specs.SubtreeFormsLaws.{block-rows, block-is, width-most}
 use borrow.Author.Needs.{needs}
 use Rattle.plan.proofs.svq1_enc_tree.inner.leaves.block_of.Statement.{statement}
 use Rattle.plan.proofs.svq1_enc_tree.inner.leaves.block_of.Tie as tie

@@ -3,7 +3,7 @@ use mathlib.Core.Path.{_∙_, ap}
 use native.Mathlib.Omega.{arith}
 use Rattle.book.specs.Level.{area}
 use Rattle.tree.specs.GeometryLaws.{area-most}
-use Rattle.tree_samples.specs.RebuildLaws.{cut-length}
+use Rattle.tree_samples.specs.RebuildNeedsLaws.{cut-length}
 use borrow.Author.Needs.{needs}
 use Rattle.plan.proofs.svq1_enc_tree.inner.leaves.cut_leaf.Statement.{statement}
 use Rattle.plan.proofs.svq1_enc_tree.inner.leaves.cut_leaf.Tie as tie

@@ -3,7 +3,7 @@ use mathlib.Core.Path.{_≡_, _∙_, sym, ap}
 use native.Mathlib.Omega.{arith}
 use Rattle.book.specs.Level.{levelNumber, area}
 use Rattle.tree.specs.Blocks.{level}
-use Rattle.plan.specs.PlanningLaws.{block-leaf}
+use Rattle.plan.specs.PlanNeedsLaws.{block-leaf}
 use borrow.Author.Needs.{needs}
 use Rattle.plan.proofs.svq1_enc_tree.inner.leaves.gathered_leaf.Statement.{statement}
 use Rattle.plan.proofs.svq1_enc_tree.inner.leaves.gathered_leaf.Tie as tie

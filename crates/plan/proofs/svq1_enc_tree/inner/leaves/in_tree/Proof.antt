@@ -4,8 +4,8 @@ use Rattle.tree.specs.Blocks.{first, level}
 use native.Mathlib.Omega.{arith}
 use borrow.Author.Tests.{lt-leb, le-leb}
 use borrow.Author.Needs.{needs}
-use Rattle.tree_samples.specs.Subtree.{inTree}
-use Rattle.tree_samples.specs.SubtreeLaws.{behind}
+use Rattle.tree_samples.specs.SubtreeForms.{inTree}
+use Rattle.tree_samples.specs.SubtreeFormsLaws.{behind}
 use Rattle.plan.proofs.svq1_enc_tree.inner.leaves.in_tree.Statement.{statement}
 use Rattle.plan.proofs.svq1_enc_tree.inner.leaves.in_tree.Tie as tie
 

@@ -3,9 +3,9 @@ use mathlib.Core.Path.{_≡_, _∙_}
 use native.Mathlib.Omega.{arith}
 use Rattle.bits.specs.Basics.{Bytes}
 use Rattle.book.specs.Level.{levelNumber}
-use Rattle.leaf_search.specs.LevelLeafLaws.{found-fits}
+use Rattle.leaf_search.specs.LevelLeafNeedsLaws.{found-fits}
 use Rattle.tree.specs.Blocks.{level}
-use Rattle.plan.specs.PlanningLaws.{leaf-ready, leaf-by, leaf-at}
+use Rattle.plan.specs.PlanNeedsLaws.{leaf-ready, leaf-by, leaf-at}
 use borrow.Author.Needs.{needs}
 use Rattle.plan.proofs.svq1_enc_tree.inner.leaves.plan_leaf.Statement.{statement}
 use Rattle.plan.proofs.svq1_enc_tree.inner.leaves.plan_leaf.Tie as tie

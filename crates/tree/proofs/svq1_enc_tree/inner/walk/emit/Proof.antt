@@ -1,7 +1,7 @@
 -- The blocks by number, one behind the other. Assumes nothing.
-use Rattle.tree.specs.WalkLaws.{Emitting, tree-at, tree-length, node-room, emit-begins, emit-turn, emit-ends}
+use Rattle.tree.specs.WalkNeedsLaws.{Emitting, tree-at, tree-length, node-room, emit-begins, emit-turn, emit-ends}
 use Rattle.book.specs.Book.{tablesOf}
-use Rattle.tree.specs.Nodes.{treeOf}
+use Rattle.tree.specs.NodeForms.{treeOf}
 use mathlib.Core.Path.{_∙_, sym}
 use Prim.Native.Nat.{_-_}
 use borrow.Author.Needs.{needs}

@@ -1,7 +1,7 @@
 -- The root, block 0, and any other block by its parent. Assumes nothing.
 use Prim.Native.Nat.{_-_, _/_}
-use Rattle.tree.specs.WalkLaws.{tree-at, reached-root, reached-none, reached-up}
-use Rattle.tree.specs.Nodes.{treeOf}
+use Rattle.tree.specs.WalkNeedsLaws.{tree-at, reached-root, reached-none, reached-up}
+use Rattle.tree.specs.NodeForms.{treeOf}
 use Rattle.tree.specs.TreeBits.{isSplit}
 use mathlib.Core.Path.{_∙_, sym, ap}
 use borrow.Author.Needs.{needs}

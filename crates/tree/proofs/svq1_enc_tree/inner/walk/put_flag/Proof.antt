@@ -1,7 +1,7 @@
 -- No flag at L0, a 0 above it. Assumes nothing.
 use native.Mathlib.Omega.{arith}
-use Rattle.bits.specs.InnerLaws.{wrote-none}
-use Rattle.tree.specs.WalkLaws.{wrote-as, flag-none, flag-zero, flag-fits}
+use Rattle.bits.specs.BitNeedsLaws.{wrote-none}
+use Rattle.tree.specs.WalkNeedsLaws.{wrote-as, flag-none, flag-zero, flag-fits}
 use borrow.Author.Needs.{needs}
 use Rattle.tree.proofs.svq1_enc_tree.inner.walk.put_flag.Statement.{statement}
 use Rattle.tree.proofs.svq1_enc_tree.inner.walk.put_flag.Tie as tie

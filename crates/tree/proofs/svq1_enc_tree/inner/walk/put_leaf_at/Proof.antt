@@ -1,5 +1,5 @@
 -- A leaf by the book's two tables for it. Assumes nothing.
-use Rattle.tree.specs.WalkLaws.{leaf-lent, leaf-wrote}
+use Rattle.tree.specs.WalkNeedsLaws.{leaf-lent, leaf-wrote}
 use Rattle.book.specs.BookLaws.{good-book}
 use borrow.Author.Needs.{needs}
 use Rattle.tree.proofs.svq1_enc_tree.inner.walk.put_leaf_at.Statement.{statement}

@@ -3,11 +3,11 @@ use native.Mathlib.Omega.{arith}
 use lib.ListN.{length}
 use mathlib.Core.Path.{_∙_, sym, ap, refl}
 use Rattle.tree.specs.declared.svq1_enc_tree.TreeNode.{TreeNode}
-use Rattle.tree.specs.Nodes.{nodeOf, nodeAs}
-use Rattle.leaf.specs.Raised.{leafOf}
+use Rattle.tree.specs.NodeForms.{nodeOf, nodeAs}
+use Rattle.leaf.specs.LeafForms.{leafOf}
 use Rattle.book.specs.Book.{tablesOf}
-use Rattle.bits.specs.InnerLaws.{wrote-none, wrote-more}
-use Rattle.tree.specs.WalkLaws.{wrote-as, off-bits, split-bits, leaf-bits, split-one, split-room, flag-room, leaf-room}
+use Rattle.bits.specs.BitNeedsLaws.{wrote-none, wrote-more}
+use Rattle.tree.specs.WalkNeedsLaws.{wrote-as, off-bits, split-bits, leaf-bits, split-one, split-room, flag-room, leaf-room}
 use borrow.Author.Needs.{needs}
 use Rattle.tree.proofs.svq1_enc_tree.inner.walk.put_node.Statement.{statement}
 use Rattle.tree.proofs.svq1_enc_tree.inner.walk.put_node.Tie as tie

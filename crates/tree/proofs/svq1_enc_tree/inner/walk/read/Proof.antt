@@ -1,7 +1,7 @@
 -- The blocks by number; the first refusal ends the reading. Assumes nothing.
 use Rattle.tree.specs.WalkReadLaws.{Reading, read-begins, read-ends, read-refused, passed, taken, refused, moved}
 use Rattle.tree.specs.TreeBits.{readTree}
-use Rattle.tree.specs.Nodes.{treeOf}
+use Rattle.tree.specs.NodeForms.{treeOf}
 use Rattle.book.specs.Book.{tablesOf}
 use Rattle.bits.specs.Bits.{bitsOf}
 use lib.ListN.{drop}

@@ -1,6 +1,6 @@
 -- A leaf by the book's two tables for it. Assumes nothing.
 use Rattle.tree.specs.WalkReadLaws.{leaf-here}
-use Rattle.leaf.specs.LentLaws.{book-tables}
+use Rattle.leaf.specs.LentNeedsLaws.{book-tables}
 use Rattle.book.specs.BookLaws.{good-book}
 use Rattle.tree.proofs.svq1_enc_tree.inner.walk.read_leaf_at.Statement.{statement}
 use Rattle.tree.proofs.svq1_enc_tree.inner.walk.read_leaf_at.Tie as tie

@@ -6,10 +6,10 @@ use borrow.Author.Needs.{needs}
 use Prim.Native.Nat.{ℕ, _<_}
 use borrow.Fn.Kinds.{In}
 use borrow.Fn.PlainCycle.{Measures, is, falls, and}
-use Rattle.tree.specs.Nodes.{treeOf}
+use Rattle.tree.specs.NodeForms.{treeOf}
 use Rattle.tree.specs.TreeBits.{isSplit}
-use Rattle.tree.specs.WalkLaws.{tree-at}
-use Rattle.tree_samples.specs.RebuildLaws.{turn-left, turn-right, turn-node, rebuilt-parts, rebuilt-leaf}
+use Rattle.tree.specs.WalkNeedsLaws.{tree-at}
+use Rattle.tree_samples.specs.RebuildNeedsLaws.{turn-left, turn-right, turn-node, rebuilt-parts, rebuilt-leaf}
 use Rattle.tree_samples.proofs.svq1_enc_tree.inner.rebuild.rebuild.Reads as rebuild
 use Rattle.tree_samples.proofs.svq1_enc_tree.inner.rebuild.rebuild.Kinds as rebuild-kinds
 use Rattle.tree_samples.proofs.svq1_enc_tree.inner.rebuild.+rebuild.Lts-rebuild as rebuild-lts

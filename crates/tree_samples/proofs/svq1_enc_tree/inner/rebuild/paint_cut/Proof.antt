@@ -1,5 +1,5 @@
 -- Scratch cut to the size of the block. Assumes nothing.
-use Rattle.tree_samples.specs.RebuildLaws.{five, cut-length}
+use Rattle.tree_samples.specs.RebuildNeedsLaws.{five, cut-length}
 use Rattle.tree.specs.GeometryLaws.{area-most}
 use Rattle.book.specs.Level.{area}
 use mathlib.Core.Path.{_∙_, ap}

@@ -1,5 +1,5 @@
 -- The block's predictor gathered, the leaf shown over it, and painted. Assumes nothing.
-use Rattle.tree_samples.specs.RebuildLaws.{five, rows-under, rows-over, code-shows, leaf-painted}
+use Rattle.tree_samples.specs.RebuildNeedsLaws.{five, rows-under, rows-over, code-shows, leaf-painted}
 use Rattle.tree.specs.GeometryLaws.{area-most}
 use Rattle.book.specs.Level.{width, height}
 use mathlib.Core.Path.{_∙_, sym, ap}

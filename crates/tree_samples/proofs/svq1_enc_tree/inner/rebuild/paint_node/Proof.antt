@@ -1,7 +1,7 @@
 -- A leaf is painted, and any other block shows nothing. Assumes nothing.
-use Rattle.tree_samples.specs.RebuildLaws.{nothing-painted, node-leaf, node-painted}
+use Rattle.tree_samples.specs.RebuildNeedsLaws.{nothing-painted, node-leaf, node-painted}
 use Rattle.tree.specs.declared.svq1_enc_tree.TreeNode.{TreeNode}
-use Rattle.tree.specs.Nodes.{nodeOf, nodeAs}
+use Rattle.tree.specs.NodeForms.{nodeOf, nodeAs}
 use mathlib.Core.Logic.{inl, inr}
 use mathlib.Core.Path.{ap}
 use borrow.Author.Needs.{needs}

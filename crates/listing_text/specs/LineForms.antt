@@ -1,0 +1,34 @@
+-- The lines of a listing as they are written, from numbers (document 01, "Refused for the state met", the listing program).
+use Prim.Native.Nat.{ℕ, zero, suc, _+_, _*_, _/_, _%_, _≤_}
+use mathlib.Core.Path.{_≡_}
+use mathlib.Core.List.{List, [], _∷_, _++_}
+use lib.Dec.{eqb}
+use lib.ListN.{length, getD}
+use Rattle.bits.specs.Basics.{pick}
+use Rattle.text.specs.Text.{decimal, lineOf}
+use Rattle.text.specs.WritingForms.{putText}
+use Rattle.macroblock.specs.declared.svq1_enc_inter.Svq1MbMode.the-variants.{Inter, Inter4Mv, Intra, Skip}
+use Rattle.listing_text.specs.Listing.{modeName}
+
+-- what writing a text of at most `most` bytes promises, where there is room for so many: the place behind it and every byte
+pub record TextPut (most : ℕ) (bytes : List ℕ) (at : ℕ) (t : List ℕ) (r : ℕ) (after : List ℕ) : Type 0 where
+  pub next : r ≡ at + length t
+  pub short : length t ≤ most
+  pub bytes-after : after ≡ putText bytes at t
+
+-- a mode's name by its position in the mode table
+abbrev pub nameAt : ℕ → List ℕ
+nameAt p = pick (eqb p 0) (modeName Inter) (pick (eqb p 1) (modeName Inter4Mv) (pick (eqb p 2) (modeName Intra) (modeName Skip)))
+
+-- row, column, mode, bits, error
+unfoldable pub lineText : ℕ → ℕ → ℕ → ℕ → ℕ → List ℕ
+lineText row column mode bits error = lineOf (decimal row ∷ decimal column ∷ nameAt mode ∷ decimal bits ∷ decimal error ∷ [])
+
+-- the line of macroblock k, from a list of three numbers a macroblock: its mode's position, its bits, its error
+abbrev pub listingLineAt : ℕ → List ℕ → ℕ → List ℕ
+listingLineAt cols stated k = lineText (k / cols) (k % cols) (getD stated (3 * k) 0) (getD stated (3 * k + 1) 0) (getD stated (3 * k + 2) 0)
+
+-- the lines of the first n macroblocks
+unfoldable pub linesFrom : ℕ → List ℕ → ℕ → List ℕ
+linesFrom cols stated zero = []
+linesFrom cols stated (suc n) = linesFrom cols stated n ++ listingLineAt cols stated n

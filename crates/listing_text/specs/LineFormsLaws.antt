@@ -1,0 +1,142 @@
+-- Laws of lines written one behind the other. Assumes nothing.
+use Prim.Native.Nat.{ℕ, zero, suc, _+_, _*_, _/_, _%_, _≤_, _<_}
+use mathlib.Core.Path.{_≡_, refl, sym, ap, _∙_}
+use mathlib.Core.Bool.{Bool, true, false}
+use mathlib.Core.List.{List, [], _∷_, _++_, append-assoc}
+use native.Mathlib.Numerals.{add-one}
+use native.Mathlib.Omega.{arith}
+use lib.Dec.{ltb}
+use lib.ListN.{length, take, drop, set, length-append, length-drop}
+use lib.Seq.{length-take-le, take-at, drop-append-add, drop-drop, set-split}
+use borrow.Author.Tests.{le-leb}
+use Rattle.bits.specs.Basics.{pick}
+use Rattle.text.specs.Text.{ascii, comma, lineFeed, digitsBefore, decimal, joined, lineOf}
+use Rattle.text.specs.WritingForms.{putText, TextPut}
+use Rattle.listing_text.specs.LineForms.{TextPut, nameAt, lineText, listingLineAt, linesFrom}
+use Rattle.listing_text.specs.Listing.{totalLine, refusedText}
+
+-- a written number has at most twenty digits
+digits-most : (f n : ℕ) (t : List ℕ) → length (digitsBefore f n t) ≤ f + length t
+unfolding digitsBefore
+digits-most zero n t = omega arith
+digits-most (suc f) n t = go (ltb n 10) (digits-most f (n / 10) ((48 + n % 10) ∷ t))
+  where
+    go : (b : Bool) → length (digitsBefore f (n / 10) ((48 + n % 10) ∷ t)) ≤ f + suc (length t)
+        → length (pick b ((48 + n) ∷ t) (digitsBefore f (n / 10) ((48 + n % 10) ∷ t))) ≤ suc f + length t
+    go true next = omega arith
+    go false next = omega arith
+
+pub decimal-most : (n : ℕ) → length (decimal n) ≤ 20
+unfolding decimal
+decimal-most n = digits-most 20 n []
+
+-- a text put where there is room
+pub put-room : (most : ℕ) (bytes : List ℕ) (at : ℕ) (t : List ℕ) (r : ℕ) (after : List ℕ) → TextPut bytes at t r after → length t ≤ most → at + most ≤ length bytes
+    → TextPut most bytes at t r after
+put-room most bytes at t r after p h room =
+    let e = le-leb (at + length t) (length bytes) (omega arith) in
+    record { next = rw e at (p .next); short = h; bytes-after = rw e at (p .bytes-after) }
+
+-- two texts, one behind the other
+append-put : (bytes : List ℕ) (at : ℕ) (s t : List ℕ) → at + length s ≤ length bytes → putText (putText bytes at s) (at + length s) t ≡ putText bytes at (s ++ t)
+unfolding putText
+append-put bytes at s t room =
+    let head : List ℕ = take at bytes ++ s in
+    let rest : List ℕ = drop (at + length s) bytes in
+    let long : length head ≡ at + length s = length-append (take at bytes) s ∙ ap (λ (n : ℕ). n + length s) (length-take-le at bytes (omega arith)) in
+    let first : take (at + length s) (take at bytes ++ (s ++ rest)) ≡ head = rw (← append-assoc (take at bytes) s rest) (take-at head rest (at + length s) long) in
+    let sum : at + length s + length t ≡ at + length (s ++ t) = omega (arith, length-append s t) in
+    let last : drop (at + length s + length t) (take at bytes ++ (s ++ rest)) ≡ drop (at + length (s ++ t)) bytes =
+    rw (← append-assoc (take at bytes) s rest) (ap (λ (n : ℕ). drop (n + length t) (head ++ rest)) (sym long) ∙ drop-append-add head rest (length t) ∙ drop-drop (length t) (at + length s) bytes ∙ ap (λ (n : ℕ). drop n bytes) sum) in
+    rw (first, last) (simp append-assoc)
+
+put-length : (bytes : List ℕ) (at : ℕ) (t : List ℕ) → at + length t ≤ length bytes → length (putText bytes at t) ≡ length bytes
+unfolding putText
+put-length bytes at t room =
+    let front : length (take at bytes) ≡ at = length-take-le at bytes (omega arith) in
+    length-append (take at bytes) (t ++ drop (at + length t) bytes) ∙ omega (arith, front, length-append t (drop (at + length t) bytes), length-drop (at + length t) bytes)
+
+module _ (most : ℕ) (bytes : List ℕ) (at : ℕ) (s : List ℕ) (x : ℕ) (mid : List ℕ) (p : TextPut most bytes at s x mid) (room : at + most ≤ length bytes) where
+  inside : at + length s ≤ length bytes
+  inside = omega (arith, p .short)
+
+  pub put-two : (more : ℕ) (t : List ℕ) (r : ℕ) (after : List ℕ) → TextPut more mid x t r after → TextPut (most + more) bytes at (s ++ t) r after
+  put-two more t r after q =
+      let long = length-append s t in
+      record {
+        next = omega (arith, q .next, p .next, long);
+        short = omega (arith, q .short, p .short, long);
+        bytes-after = q .bytes-after ∙ rw (p .bytes-after, p .next) (append-put bytes at s t inside);
+      }
+
+  -- a byte behind a text
+  pub put-byte : (b : ℕ) → at + most < length bytes → TextPut (most + 1) bytes at (s ++ (b ∷ [])) (x + 1) (set mid x b)
+  unfolding putText
+  put-byte b h =
+      let one : suc x ≡ x + 1 = omega arith in
+      let room-left : x < length mid = omega (arith, p .next, p .short, ap length (p .bytes-after), put-length bytes at s inside) in
+      put-two 1 (b ∷ []) (x + 1) (set mid x b)
+      (record { next = refl; short = omega arith; bytes-after = set-split mid x b room-left ∙ ap (λ (n : ℕ). take x mid ++ (b ∷ drop n mid)) one })
+
+-- ---- lines of fields
+-- a number and the comma behind it
+abbrev commaBehind : List ℕ → List ℕ
+commaBehind t = t ++ (comma ∷ [])
+
+abbrev lastOf : List ℕ → List ℕ
+lastOf t = t ++ (lineFeed ∷ [])
+
+line-fields : (row column mode bits error : ℕ)
+    → (((commaBehind (decimal row) ++ commaBehind (decimal column)) ++ commaBehind (nameAt mode)) ++ commaBehind (decimal bits)) ++ lastOf (decimal error)
+    ≡ lineText row column mode bits error
+unfolding lineText lineOf joined
+line-fields row column mode bits error = simp append-assoc
+
+-- a macroblock's line, field by field
+pub put-line : (bytes : List ℕ) (at row column mode bits error a b c d r : ℕ) (s t u v after : List ℕ) → at + 94 ≤ length bytes
+    → TextPut 21 bytes at (commaBehind (decimal row)) a s → TextPut 21 s a (commaBehind (decimal column)) b t → TextPut 10 t b (commaBehind (nameAt mode)) c u
+    → TextPut 21 u c (commaBehind (decimal bits)) d v → TextPut 21 v d (lastOf (decimal error)) r after
+    → TextPut 94 bytes at (lineText row column mode bits error) r after
+put-line bytes at row column mode bits error a b c d r s t u v after room p q o n m =
+    let two = put-two 21 bytes at _ a s p (omega arith) 21 _ b t q in
+    let three = put-two 42 bytes at _ b t two (omega arith) 10 _ c u o in
+    let four = put-two 52 bytes at _ c u three (omega arith) 21 _ d v n in
+    rw (← line-fields row column mode bits error) (put-two 73 bytes at _ d v four (omega arith) 21 _ r after m)
+
+-- the line of both totals
+total-fields : (bits error : ℕ) → (ascii "total," ++ commaBehind (decimal bits)) ++ lastOf (decimal error) ≡ totalLine bits error
+unfolding totalLine lineOf joined
+total-fields bits error = simp append-assoc
+
+pub put-total : (bytes : List ℕ) (at bits error a b r : ℕ) (s t after : List ℕ) → at + 48 ≤ length bytes
+    → TextPut bytes at (ascii "total,") a s → TextPut 21 s a (commaBehind (decimal bits)) b t → TextPut 21 t b (lastOf (decimal error)) r after
+    → TextPut 48 bytes at (totalLine bits error) r after
+put-total bytes at bits error a b r s t after room p q o =
+    let one = put-room 6 bytes at _ a s p (omega arith) (omega arith) in
+    let two = put-two 6 bytes at _ a s one (omega arith) 21 _ b t q in
+    rw (← total-fields bits error) (put-two 27 bytes at _ b t two (omega arith) 21 _ r after o)
+
+-- the line of a refusal
+refused-fields : (n : ℕ) → ascii "refused," ++ lastOf (decimal n) ≡ refusedText n
+unfolding refusedText lineOf joined
+refused-fields n = simp append-assoc
+
+pub put-refusal : (bytes : List ℕ) (n a r : ℕ) (s after : List ℕ) → 29 ≤ length bytes
+    → TextPut bytes 0 (ascii "refused,") a s → TextPut 21 s a (lastOf (decimal n)) r after
+    → TextPut 29 bytes 0 (refusedText n) r after
+put-refusal bytes n a r s after room p q =
+    let one = put-room 8 bytes 0 _ a s p (omega arith) (omega arith) in
+    rw (← refused-fields n) (put-two 8 bytes 0 _ a s one (omega arith) 21 _ r after q)
+
+-- ---- the lines of all macroblocks
+-- before the first, and one more
+pub no-lines : (cols : ℕ) (stated bytes : List ℕ) → TextPut (94 * 0) bytes 0 (linesFrom cols stated 0) 0 bytes
+unfolding linesFrom putText
+no-lines cols stated bytes = record { next = refl; short = omega arith; bytes-after = refl }
+
+pub more-lines : (cols : ℕ) (stated bytes : List ℕ) (k at r : ℕ) (mid after : List ℕ) → 94 * k ≤ length bytes → TextPut (94 * k) bytes 0 (linesFrom cols stated k) at mid
+    → TextPut 94 mid at (listingLineAt cols stated k) r after → TextPut (94 * (k + 1)) bytes 0 (linesFrom cols stated (k + 1)) r after
+unfolding linesFrom
+more-lines cols stated bytes k at r mid after room p q =
+    let e : 94 * (k + 1) ≡ 94 * k + 94 = omega arith in
+    rw (e, add-one k) (put-two (94 * k) bytes 0 _ at mid p (omega arith) 94 _ r after q)
