@@ -17,7 +17,7 @@ use Rattle.vectors.specs.VectorsLaws.{InRange, Inside}
 use Rattle.tree.specs.TreeBits.{Node}
 use Rattle.canvas.specs.declared.svq1_plane.Svq1PlaneCanvas.{Svq1PlaneCanvas}
 use Rattle.macroblock.specs.Macroblock.{Given, cols, rows, Motion, Choice, coded, vectorsOf, shown}
-use Rattle.macroblock.specs.Slices.{Slices, slicesBy, BlockSlice, xSlice, ySlice, blocksIn, storedIn, laid}
+use Rattle.macroblock.specs.Slices.{Slices, BlockSlice, xSlice, ySlice, blocksIn, storedIn, laid}
 use Rattle.macroblock.specs.LayingNeeds.{choiceBy, Laying, LaysChoice}
 use Rattle.macroblock.specs.SampleNeeds.{Stands, ReconRoom, Laid, Shows}
 use Rattle.macroblock.specs.SampleNeedsLaws.{cols-is, skip-shown}
@@ -37,19 +37,19 @@ module _ (c : Svq1PlaneCanvas) (reference raised : List ℕ) (k : ℕ) (skip : B
   shows-coded e s = rw e s
 
 -- ---- laid
-module _ (c : Svq1PlaneCanvas) (k : ℕ) (vs : List Svq1Mv) (recon vx vy : List ℕ) (g : Laying c k vs recon vx vy) where
+module _ (c : Svq1PlaneCanvas) (k : ℕ) (vs : List Svq1Mv) (u : Slices) (g : Laying c k vs u) where
   cols-by : c .stride / 16 ≡ blocksAlong (c .width)
   cols-by = omega (arith, g .stride-is)
 
   rows-by : c .rows / 16 ≡ blocksAlong (c .height)
   rows-by = omega (arith, g .rows-are)
 
-  pub lay-asks : ReconRoom (c .stride / 16) k recon × cache.VectorSlices (c .stride / 16) (c .rows / 16) vx vy × (k < c .rows / 16 * (c .stride / 16)) × All Inside vs
+  pub lay-asks : ReconRoom (c .stride / 16) k (u .recon) × cache.VectorSlices (c .stride / 16) (c .rows / 16) (u .vx) (u .vy) × (k < c .rows / 16 * (c .stride / 16)) × All Inside vs
   lay-asks = rw (cols-by, rows-by) (g .recon-room, g .vectors-room, g .number, g .inside)
 
-  pub lays : (reference raised : List ℕ) (d : Choice) (out recon' vx' vy' : List ℕ) → Shows c reference raised k d out → Laid (c .stride / 16) k out vs recon vx vy recon' vx' vy'
-      → LaysChoice c reference raised k d vs recon vx vy recon' vx' vy'
-  lays reference raised d out recon' vx' vy' s l book codebook bytes r = rw (s book codebook bytes r, cols-by) at l
+  pub lays : (reference raised : List ℕ) (d : Choice) (out : List ℕ) (w : Slices) → Shows c reference raised k d out → Laid (c .stride / 16) k out vs u w
+      → LaysChoice c reference raised k d vs u w
+  lays reference raised d out w s l book codebook bytes r = rw (s book codebook bytes r, cols-by) at l
 
 -- what a choice leaves in the slices, slice by slice
 pub laid-recon : (g : Given) (k : ℕ) (c : Choice) (s : Slices) → laid g k c s .recon ≡ putPart 16 (cols g) k (shown g k c) (s .recon)
@@ -74,10 +74,9 @@ stored-ranged xSlice c h = stored-component (λ v. v .x) (λ v i. i .x-in) (vect
 stored-ranged ySlice c h = stored-component (λ v. v .y) (λ v i. i .y-in) (vectorsOf c) h
 
 -- slices with a choice's samples and vectors put there are the slices that it leaves
-pub laid-is : (g : Given) (k : ℕ) (d : Choice) (u : Slices) (vs : List Svq1Mv) (recon' vx' vy' : List ℕ) → vs ≡ vectorsOf d
-    → Laid (cols g) k (shown g k d) vs (u .recon) (u .vx) (u .vy) recon' vx' vy' → slicesBy recon' vx' vy' ≡ laid g k d u
+pub laid-is : (g : Given) (k : ℕ) (d : Choice) (u w : Slices) (vs : List Svq1Mv) → vs ≡ vectorsOf d → Laid (cols g) k (shown g k d) vs u w → w ≡ laid g k d u
 unfolding laid
-laid-is g k d u vs recon' vx' vy' e l =
+laid-is g k d u w vs e l =
     let x = rw e at (l .vx-put) in
     let y = rw e at (l .vy-put) in
     λ i. record { recon = l .recon-put i; vx = x i; vy = y i }

@@ -16,6 +16,7 @@ use Rattle.mv_cache.specs.CacheNeeds as cache
 use Rattle.canvas.specs.Canvas.{Canvas, blocksAlong, padded16}
 use Rattle.canvas.specs.declared.svq1_plane.Svq1PlaneCanvas.{Svq1PlaneCanvas}
 use Rattle.macroblock.specs.MacroblockNeeds.{givenBy}
+use Rattle.macroblock.specs.Slices.{Slices}
 use Rattle.macroblock.specs.SampleNeeds.{Stands, ReconRoom, Laid}
 
 -- SKIP, or a motion with its tree
@@ -30,16 +31,16 @@ pub record ShowingIf (skip : Bool) (c : Canvas) (wide k raised : ℕ) (h : Svq1H
   pub sound : skip ≡ false → SoundTree h t
 
 -- slices that hold macroblock k, and vectors that can be stored there
-pub record Laying (c : Svq1PlaneCanvas) (k : ℕ) (vs : List Svq1Mv) (recon vx vy : List ℕ) : Type 0 where
+pub record Laying (c : Svq1PlaneCanvas) (k : ℕ) (vs : List Svq1Mv) (u : Slices) : Type 0 where
   pub stride-is : c .stride ≡ padded16 (c .width)
   pub rows-are : c .rows ≡ padded16 (c .height)
-  pub recon-room : ReconRoom (blocksAlong (c .width)) k recon
-  pub vectors-room : cache.VectorSlices (blocksAlong (c .width)) (blocksAlong (c .height)) vx vy
+  pub recon-room : ReconRoom (blocksAlong (c .width)) k (u .recon)
+  pub vectors-room : cache.VectorSlices (blocksAlong (c .width)) (blocksAlong (c .height)) (u .vx) (u .vy)
   pub number : k < blocksAlong (c .height) * blocksAlong (c .width)
   pub inside : All Inside vs
 
 -- what a choice shows and its vectors, put into the slices
-abbrev pub LaysChoice : Svq1PlaneCanvas → List ℕ → List ℕ → ℕ → Choice → List Svq1Mv → List ℕ → List ℕ → List ℕ → List ℕ → List ℕ → List ℕ → Type 0
-LaysChoice c reference raised k d vs recon vx vy recon' vx' vy' =
+abbrev pub LaysChoice : Svq1PlaneCanvas → List ℕ → List ℕ → ℕ → Choice → List Svq1Mv → Slices → Slices → Type 0
+LaysChoice c reference raised k d vs u w =
     (book codebook : List ℕ) → Bytes codebook → raised ≡ raisedCodebook codebook
-    → Laid (blocksAlong (c .width)) k (shown (givenBy c reference book codebook) k d) vs recon vx vy recon' vx' vy'
+    → Laid (blocksAlong (c .width)) k (shown (givenBy c reference book codebook) k d) vs u w

@@ -19,6 +19,7 @@ use Rattle.tree.specs.WalkNeeds.{SoundTree}
 use Rattle.canvas.specs.declared.svq1_plane.Svq1PlaneCanvas.{Svq1PlaneCanvas}
 use Rattle.macroblock.specs.Macroblock.{Choice, vectorFor, shown}
 use Rattle.macroblock.specs.MacroblockNeeds.{givenBy}
+use Rattle.macroblock.specs.Slices.{Slices}
 
 -- macroblock k of a canvas that is cols macroblocks wide
 pub record Stands (c : Canvas) (cols k : ℕ) : Type 0 where
@@ -33,10 +34,10 @@ pub record ReconRoom (cols k : ℕ) (xs : List ℕ) : Type 0 where
   pub holds : Holds 16 cols (suc k) xs
 
 -- macroblock k's samples and vectors, put into the three slices; every other entry stays
-pub record Laid (cols k : ℕ) (samples : List ℕ) (vs : List Svq1Mv) (recon vx vy recon' vx' vy' : List ℕ) : Type 0 where
-  pub recon-put : recon' ≡ putPart 16 cols k samples recon
-  pub vx-put : vx' ≡ putPart 2 cols k (map (λ (v : Svq1Mv). signedByte (v .x)) vs) vx
-  pub vy-put : vy' ≡ putPart 2 cols k (map (λ (v : Svq1Mv). signedByte (v .y)) vs) vy
+pub record Laid (cols k : ℕ) (samples : List ℕ) (vs : List Svq1Mv) (u w : Slices) : Type 0 where
+  pub recon-put : w .recon ≡ putPart 16 cols k samples (u .recon)
+  pub vx-put : w .vx ≡ putPart 2 cols k (map (λ (v : Svq1Mv). signedByte (v .x)) vs) (u .vx)
+  pub vy-put : w .vy ≡ putPart 2 cols k (map (λ (v : Svq1Mv). signedByte (v .y)) vs) (u .vy)
 
 -- the macroblock at (x, y), each quarter moved by the vector in its place
 unfoldable pub quarters : Canvas → ℕ → ℕ → List Svq1Mv → List ℕ

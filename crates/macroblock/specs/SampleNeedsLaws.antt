@@ -36,6 +36,7 @@ use Rattle.macroblock.specs.Macroblock.{Given, Motion, still, single, fo
 use Rattle.macroblock.specs.MacroblockNeeds.{givenBy}
 use Rattle.macroblock.specs.MotionForms.{motionOf}
 use Rattle.macroblock.specs.SampleNeeds.{Stands, Laid, Showing, Shows, quarters}
+use Rattle.macroblock.specs.Slices.{Slices}
 
 -- the macroblocks in a row, and macroblock k's place, by the stride
 module _ (c : Canvas) (cols k : ℕ) (s : Stands c cols k) where
@@ -148,11 +149,11 @@ four-are (a ∷ b ∷ c ∷ []) h = absurd (omega arith)
 four-are (a ∷ b ∷ c ∷ d ∷ []) h = refl
 four-are (a ∷ b ∷ c ∷ d ∷ e ∷ vs) h = absurd (omega arith)
 
-pub laid-four : (cols k : ℕ) (samples : List ℕ) (vs : List Svq1Mv) (recon vx vy recon' vx' vy' : List ℕ) → length vs ≡ 4 → recon' ≡ putPart 16 cols k samples recon
-    → Stored cols k (getD vs 0 zeroMv ∷ getD vs 1 zeroMv ∷ getD vs 2 zeroMv ∷ getD vs 3 zeroMv ∷ []) vx vy vx' vy' → Laid cols k samples vs recon vx vy recon' vx' vy'
-laid-four cols k samples vs recon vx vy recon' vx' vy' n e s =
+pub laid-four : (cols k : ℕ) (samples : List ℕ) (vs : List Svq1Mv) (u w : Slices) → length vs ≡ 4 → w .recon ≡ putPart 16 cols k samples (u .recon)
+    → Stored cols k (getD vs 0 zeroMv ∷ getD vs 1 zeroMv ∷ getD vs 2 zeroMv ∷ getD vs 3 zeroMv ∷ []) (u .vx) (u .vy) (w .vx) (w .vy) → Laid cols k samples vs u w
+laid-four cols k samples vs u w n e s =
     record {
       recon-put = e;
-      vx-put = s .x-put ∙ ap (λ (l : List Svq1Mv). putPart 2 cols k (map (λ (v : Svq1Mv). signedByte (v .x)) l) vx) (sym (four-are vs n));
-      vy-put = s .y-put ∙ ap (λ (l : List Svq1Mv). putPart 2 cols k (map (λ (v : Svq1Mv). signedByte (v .y)) l) vy) (sym (four-are vs n));
+      vx-put = s .x-put ∙ ap (λ (l : List Svq1Mv). putPart 2 cols k (map (λ (v : Svq1Mv). signedByte (v .x)) l) (u .vx)) (sym (four-are vs n));
+      vy-put = s .y-put ∙ ap (λ (l : List Svq1Mv). putPart 2 cols k (map (λ (v : Svq1Mv). signedByte (v .y)) l) (u .vy)) (sym (four-are vs n));
     }

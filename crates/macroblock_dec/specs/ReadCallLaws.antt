@@ -18,7 +18,7 @@ use Rattle.canvas.specs.declared.svq1_plane.Svq1PlaneCanvas.{Svq1PlaneCanvas}
 use Rattle.macroblock_dec.specs.declared.svq1_plane.inner.reading.ReadChoice.{ReadChoice}
 use Rattle.macroblock.specs.Macroblock.{Given, cols, rows, Choice, halfOf}
 use Rattle.macroblock.specs.Reading.{readMacroblock}
-use Rattle.macroblock.specs.Slices.{Slices, slicesBy, near}
+use Rattle.macroblock.specs.Slices.{Slices, near}
 use Rattle.macroblock.specs.MacroblockNeeds.{givenBy, byBook}
 use Rattle.macroblock.specs.MacroblockNeedsLaws.{fits, book-passes, stands, vectors-held, recon-held}
 use Rattle.macroblock_dec.specs.FindingNeeds.{readMotionOf, choiceFound, modeDifference, ChoiceFound}
@@ -67,7 +67,7 @@ module _ (c : Svq1PlaneCanvas) (reference book codebook raised s : List ℕ) (at
 
     module _ (z : r .refused ≡ 0) where
       pub lay-ready : ShowingIf (r .skip) (g .reference) (blocksAlong (c .width)) k (length raised) (halfOf (readMotionOf r)) (treeOf (r .blocks))
-          × Laying c k (r .vectors) (u .recon) (u .vx) (u .vy)
+          × Laying c k (r .vectors) u
       lay-ready = (
         record { place = stands g raised (go .ok) k (go .number); copy = ap length (go .ok .copy) ∙ raised-length codebook; sound = f .sound z },
         record {
@@ -80,13 +80,13 @@ module _ (c : Svq1PlaneCanvas) (reference book codebook raised s : List ℕ) (at
         },
       )
 
-      pub call-laid : (recon' vx' vy' : List ℕ) → Bytes codebook → LaysChoice c reference raised k (choiceFound r) (r .vectors) (u .recon) (u .vx) (u .vy) recon' vx' vy'
-          → MbRead g s at k u (record { refused = 0; next = r .next }) (slicesBy recon' vx' vy')
-      call-laid recon' vx' vy' bytes l =
+      pub call-laid : (w : Slices) → Bytes codebook → LaysChoice c reference raised k (choiceFound r) (r .vectors) u w
+          → MbRead g s at k u (record { refused = 0; next = r .next }) w
+      call-laid w bytes l =
           let is : got (choiceFound r) (drop (r .next) (bitsOf s)) ≡ here = rw (eq-eqb (r .refused) 0 z) at (f .found .is) in
           record {
             choice = choiceFound r;
             is = is ∙ here-is;
             within = f .found .within;
-            slices = laid-is g k (choiceFound r) u (r .vectors) recon' vx' vy' (f .vectors-are) (l book codebook bytes (go .ok .copy));
+            slices = laid-is g k (choiceFound r) u w (r .vectors) (f .vectors-are) (l book codebook bytes (go .ok .copy));
           }

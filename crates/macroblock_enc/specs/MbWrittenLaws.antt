@@ -25,7 +25,7 @@ use Rattle.macroblock.specs.MacroblockLaws.{Fine, Good, tried-good, Codables, p
 use Rattle.macroblock.specs.LimitLaws.{skip-fits}
 use Rattle.macroblock.specs.Choice.{Task, planningFor, motionsTried, tried, weightOf}
 use Rattle.macroblock.specs.MotionForms.{motionOf}
-use Rattle.macroblock.specs.Slices.{Slices, slicesBy, xSlice, ySlice, near}
+use Rattle.macroblock.specs.Slices.{Slices, xSlice, ySlice, near}
 use Rattle.macroblock.specs.MacroblockNeeds.{givenBy}
 use Rattle.macroblock.specs.MacroblockNeedsLaws.{fits, book-passes, stands, vectors-held, recon-held}
 use Rattle.macroblock_choice.specs.CandidateNeeds.{skips, choiceOf, codedFor}
@@ -108,7 +108,7 @@ module _ (v : Svq1PlaneCanvas) (reference book codebook raised source : List ℕ
     sound-it : skips (c .mode) ≡ false → SoundTree (halfOf (motionOf (c .motion) (c .vectors))) (treeOf (c .blocks))
     sound-it e = let z : Codes n (coded (motionOf (c .motion) (c .vectors)) (treeOf (c .blocks))) = rw (is-coded c e) at codes-it in z .1
 
-    pub lay-ready : LayReady v reference (length raised) k c (s .recon) (s .vx) (s .vy)
+    pub lay-ready : LayReady v reference (length raised) k c s
     lay-ready =
         let f = fits g raised (ready .ok) in
         record {
@@ -124,11 +124,11 @@ module _ (v : Svq1PlaneCanvas) (reference book codebook raised source : List ℕ
           vectors = h .stated .vectors;
         }
 
-    pub mb-written : (r : WrittenMb) (left recon' vx' vy' : List ℕ) → Bytes codebook → CandidateWritten book n c out at r left
-        → CandidateLaid v reference raised k c (length out) at (s .recon) (s .vx) (s .vy) recon' vx' vy'
-        → MbWritten g t k spent out at s r left (slicesBy recon' vx' vy')
+    pub mb-written : (r : WrittenMb) (left : List ℕ) (u : Slices) → Bytes codebook → CandidateWritten book n c out at r left
+        → CandidateLaid v reference raised k c (length out) at s u
+        → MbWritten g t k spent out at s r left u
     unfolding weightOf
-    mb-written r left recon' vx' vy' bytes w l =
+    mb-written r left u bytes w l =
         let ec = chosen-it in
         let eb : c .bits ≡ mbWeight g t k spent s .bits = h .stated .bits ∙ rw (ec, en) in
         let ee : c .error ≡ mbWeight g t k spent s .err = h .stated .error ∙ rw ec in

@@ -23,7 +23,7 @@ use Rattle.canvas.specs.declared.svq1_plane.Svq1PlaneCanvas.{Svq1PlaneCanvas}
 use Rattle.macroblock.specs.Macroblock.{Given, cols, rows, Motion, Choice, skipped, coded, modeOf, halfOf, vectorsOf, motionBits, choiceBits}
 use Rattle.macroblock.specs.MacroblockLaws.{Codables}
 use Rattle.macroblock.specs.Choice.{Task, weightOf, chosen}
-use Rattle.macroblock.specs.Slices.{Slices, slicesBy, BlockSlice, blocksIn, near, laid}
+use Rattle.macroblock.specs.Slices.{Slices, BlockSlice, blocksIn, near, laid}
 use Rattle.macroblock.specs.MacroblockNeeds.{givenBy, Accepted, Held, byBook}
 use Rattle.macroblock.specs.LayingNeeds.{ShowingIf, Laying}
 use Rattle.macroblock.specs.MotionForms.{motionOf, Differs}
@@ -52,16 +52,16 @@ pub record PutReady (book : List ℕ) (n : Near) (c : MbCandidate) (bytes at : �
 
 -- ---- samples and vectors
 -- a candidate that can be shown, result slices that hold the macroblock, and the vectors to store
-pub record LayReady (c : Svq1PlaneCanvas) (reference : List ℕ) (raised k : ℕ) (d : MbCandidate) (recon vx vy : List ℕ) : Type 0 where
+pub record LayReady (c : Svq1PlaneCanvas) (reference : List ℕ) (raised k : ℕ) (d : MbCandidate) (u : Slices) : Type 0 where
   pub shows : ShowingIf (skips (d .mode)) (record { samples = reference; stride = c .stride; rows = c .rows }) (blocksAlong (c .width)) k raised (halfOf (motionOf (d .motion) (d .vectors))) (treeOf (d .blocks))
-  pub lays : Laying c k (d .vectors) recon vx vy
+  pub lays : Laying c k (d .vectors) u
   pub vectors : d .vectors ≡ vectorsOf (choiceOf d)
 
 -- the slices as the candidate leaves them, by any codebook whose raised copy was lent
-abbrev pub LaysCandidate : Svq1PlaneCanvas → List ℕ → List ℕ → ℕ → MbCandidate → List ℕ → List ℕ → List ℕ → List ℕ → List ℕ → List ℕ → Type 0
-LaysCandidate c reference raised k d recon vx vy recon' vx' vy' =
+abbrev pub LaysCandidate : Svq1PlaneCanvas → List ℕ → List ℕ → ℕ → MbCandidate → Slices → Slices → Type 0
+LaysCandidate c reference raised k d u v =
     (book codebook : List ℕ) → Bytes codebook → raised ≡ raisedCodebook codebook
-    → _≡_ {A = Slices} (slicesBy recon' vx' vy') (laid (givenBy c reference book codebook) k (choiceOf d) (slicesBy recon vx vy))
+    → v ≡ laid (givenBy c reference book codebook) k (choiceOf d) u
 
 -- ---- a candidate written, where it fits
 -- its bits, counted and few, from a bit of a string that is not too long
@@ -88,11 +88,10 @@ pub record CandidateWritten (book : List ℕ) (n : Near) (c : MbCandidate) (out 
   pub output : bitsOf left ≡ pick (fitsIn (length out) at (c .bits)) (putBits (bitsOf out) at (choiceBits (byBook book) n (choiceOf c))) (bitsOf out)
 
 -- and the slices
-abbrev pub CandidateLaid : Svq1PlaneCanvas → List ℕ → List ℕ → ℕ → MbCandidate → ℕ → ℕ → List ℕ → List ℕ → List ℕ → List ℕ → List ℕ → List ℕ → Type 0
-CandidateLaid c reference raised k d bytes at recon vx vy recon' vx' vy' =
+abbrev pub CandidateLaid : Svq1PlaneCanvas → List ℕ → List ℕ → ℕ → MbCandidate → ℕ → ℕ → Slices → Slices → Type 0
+CandidateLaid c reference raised k d bytes at u v =
     (book codebook : List ℕ) → Bytes codebook → raised ≡ raisedCodebook codebook
-    → _≡_ {A = Slices} (slicesBy recon' vx' vy')
-    (pick (fitsIn bytes at (d .bits)) (laid (givenBy c reference book codebook) k (choiceOf d) (slicesBy recon vx vy)) (slicesBy recon vx vy))
+    → v ≡ pick (fitsIn bytes at (d .bits)) (laid (givenBy c reference book codebook) k (choiceOf d) u) u
 
 -- ---- a macroblock written
 -- what is lent passes and holds macroblock k, the output is not too long, the bit lies in it, and the vectors of the macroblocks before k are in -32..31

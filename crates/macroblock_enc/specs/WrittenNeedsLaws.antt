@@ -26,7 +26,7 @@ use Rattle.macroblock.specs.LayLaws.{laid-is}
 use Rattle.macroblock_bits.specs.CodingNeedsLaws.{first-fits, second-fits}
 use Rattle.macroblock_choice.specs.CandidateNeeds.{skips, choiceOf}
 use Rattle.macroblock_enc.specs.WrittenNeeds.{Codes, CodedRoom, PutReady, LaysCandidate, WriteReady, CandidateWritten, CandidateLaid}
-use Rattle.macroblock.specs.Slices.{slicesBy}
+use Rattle.macroblock.specs.Slices.{Slices}
 
 -- ---- vectors and tree
 module _ (book : List ℕ) (n : Near) (m : Motion) (t : List Node) (bytes at : ℕ) (r : CodedRoom book n m t bytes at) where
@@ -93,12 +93,11 @@ module _ (c : MbCandidate) where
     }
 
 -- ---- what it lays
-pub lays-candidate : (v : Svq1PlaneCanvas) (reference raised : List ℕ) (k : ℕ) (c : MbCandidate) (f : Bool) (recon vx vy recon' vx' vy' : List ℕ) → f ≡ skips (c .mode) → c .vectors ≡ vectorsOf (choiceOf c)
-    → LaysChoice v reference raised k (choiceBy f (motionOf (c .motion) (c .vectors)) (treeOf (c .blocks))) (c .vectors) recon vx vy recon' vx' vy'
-    → LaysCandidate v reference raised k c recon vx vy recon' vx' vy'
-lays-candidate v reference raised k c f recon vx vy recon' vx' vy' e ev l book codebook b h =
-    let w = rw e at (l book codebook b h) in
-    laid-is (givenBy v reference book codebook) k (choiceOf c) (slicesBy recon vx vy) (c .vectors) recon' vx' vy' ev w
+pub lays-candidate : (v : Svq1PlaneCanvas) (reference raised : List ℕ) (k : ℕ) (c : MbCandidate) (f : Bool) (u w : Slices) → f ≡ skips (c .mode) → c .vectors ≡ vectorsOf (choiceOf c)
+    → LaysChoice v reference raised k (choiceBy f (motionOf (c .motion) (c .vectors)) (treeOf (c .blocks))) (c .vectors) u w
+    → LaysCandidate v reference raised k c u w
+lays-candidate v reference raised k c f u w e ev l book codebook b h =
+    laid-is (givenBy v reference book codebook) k (choiceOf c) u w (c .vectors) ev (rw e at (l book codebook b h))
 
 -- ---- a candidate, where it fits
 module _ (book : List ℕ) (n : Near) (c : MbCandidate) (out : List ℕ) (at : ℕ) (w : WriteReady book n c (length out) at) where
@@ -123,10 +122,10 @@ module _ (book : List ℕ) (n : Near) (c : MbCandidate) (out : List ℕ) (at : �
       let f = lt-leb (at + c .bits) (8 * length out) h in
       record { mode = refl; bits = refl; error = refl; refused = rw f; next = rw f; output = rw f }
 
-module _ (v : Svq1PlaneCanvas) (reference raised : List ℕ) (k : ℕ) (c : MbCandidate) (bytes at : ℕ) (recon vx vy : List ℕ) where
-  pub laid-candidate : (recon' vx' vy' : List ℕ) → at + c .bits ≤ 8 * bytes → LaysCandidate v reference raised k c recon vx vy recon' vx' vy'
-      → CandidateLaid v reference raised k c bytes at recon vx vy recon' vx' vy'
-  laid-candidate recon' vx' vy' h l book codebook b e = rw (le-leb (at + c .bits) (8 * bytes) h) (l book codebook b e)
+module _ (v : Svq1PlaneCanvas) (reference raised : List ℕ) (k : ℕ) (c : MbCandidate) (bytes at : ℕ) (u : Slices) where
+  pub laid-candidate : (w : Slices) → at + c .bits ≤ 8 * bytes → LaysCandidate v reference raised k c u w
+      → CandidateLaid v reference raised k c bytes at u w
+  laid-candidate w h l book codebook b e = rw (le-leb (at + c .bits) (8 * bytes) h) (l book codebook b e)
 
-  pub laid-nothing : 8 * bytes < at + c .bits → CandidateLaid v reference raised k c bytes at recon vx vy recon vx vy
+  pub laid-nothing : 8 * bytes < at + c .bits → CandidateLaid v reference raised k c bytes at u u
   laid-nothing h book codebook b e = rw (lt-leb (at + c .bits) (8 * bytes) h)

@@ -3,6 +3,7 @@ ghost use mathlib.Core.Path.{_≡_};
 ghost use lib.ListN.{length};
 ghost use Rattle.canvas.specs.Canvas.{blocksAlong};
 ghost use Rattle.tree.specs.NodeForms.{treeOf};
+ghost use Rattle.macroblock.specs.Slices.{slicesBy};
 ghost use Rattle.macroblock.specs.Macroblock.{halfOf};
 ghost use Rattle.macroblock.specs.MotionForms.{motionOf};
 ghost use Rattle.macroblock.specs.SampleNeeds.{Shows};
@@ -67,8 +68,8 @@ fn lay_shown(
     out: &mut [u8; 256],
 )
     requires { ⌜ ShowingIf skip (record { samples = now reference; stride = canvas .stride; rows = canvas .rows }) (blocksAlong (canvas .width)) k (length (now raised)) (halfOf (motionOf motion vectors)) (treeOf blocks) × (length (now base) ≡ 256) × (length (now out) ≡ 256) ⌝ }
-    requires { ⌜ Laying canvas k vectors (now recon) (now vx) (now vy) ⌝ }
-    ensures { λ _. ⌜ LaysChoice canvas (now (reference .entry)) (now (raised .entry)) k (choiceBy skip (motionOf motion vectors) (treeOf blocks)) vectors (now (recon .entry)) (now (vx .entry)) (now (vy .entry)) (now (recon .exit)) (now (vx .exit)) (now (vy .exit)) ⌝ }
+    requires { ⌜ Laying canvas k vectors (slicesBy (now recon) (now vx) (now vy)) ⌝ }
+    ensures { λ _. ⌜ LaysChoice canvas (now (reference .entry)) (now (raised .entry)) k (choiceBy skip (motionOf motion vectors) (treeOf blocks)) vectors (slicesBy (now (recon .entry)) (now (vx .entry)) (now (vy .entry))) (slicesBy (now (recon .exit)) (now (vx .exit)) (now (vy .exit))) ⌝ }
 {
     show_choice(
         canvas,
@@ -109,8 +110,8 @@ pub fn lay_choice(
     vy: &mut [u8],
 )
     requires { ⌜ ShowingIf skip (record { samples = now reference; stride = canvas .stride; rows = canvas .rows }) (blocksAlong (canvas .width)) k (length (now raised)) (halfOf (motionOf motion vectors)) (treeOf blocks) ⌝ }
-    requires { ⌜ Laying canvas k vectors (now recon) (now vx) (now vy) ⌝ }
-    ensures { λ _. ⌜ LaysChoice canvas (now (reference .entry)) (now (raised .entry)) k (choiceBy skip (motionOf motion vectors) (treeOf blocks)) vectors (now (recon .entry)) (now (vx .entry)) (now (vy .entry)) (now (recon .exit)) (now (vx .exit)) (now (vy .exit)) ⌝ }
+    requires { ⌜ Laying canvas k vectors (slicesBy (now recon) (now vx) (now vy)) ⌝ }
+    ensures { λ _. ⌜ LaysChoice canvas (now (reference .entry)) (now (raised .entry)) k (choiceBy skip (motionOf motion vectors) (treeOf blocks)) vectors (slicesBy (now (recon .entry)) (now (vx .entry)) (now (vy .entry))) (slicesBy (now (recon .exit)) (now (vx .exit)) (now (vy .exit))) ⌝ }
 {
     let mut base = [0u8; 256];
     let mut out = [0u8; 256];

@@ -11,6 +11,7 @@ ghost use Rattle.canvas.specs.Canvas.{blocksAlong};
 ghost use Rattle.vectors.specs.VectorsLaws.{Inside};
 ghost use Rattle.vectors.specs.declared.svq1_motion_predictor.Svq1Mv.{Svq1Mv};
 ghost use Rattle.tree.specs.NodeForms.{treeOf};
+ghost use Rattle.macroblock.specs.Slices.{slicesBy};
 ghost use Rattle.macroblock.specs.Macroblock.{coded, halfOf, baseline};
 ghost use Rattle.macroblock.specs.MotionForms.{motionOf};
 ghost use Rattle.macroblock.specs.MacroblockNeeds.{givenBy};
@@ -158,7 +159,7 @@ pub fn lay_block(
     vy: &mut [u8],
 )
     requires { ⌜ ReconRoom cols k (now recon) × VectorSlices cols rows (now vx) (now vy) × (k < rows * cols) × All Inside vectors ⌝ }
-    ensures { λ _. ⌜ Laid cols k (now (samples .entry)) vectors (now (recon .entry)) (now (vx .entry)) (now (vy .entry)) (now (recon .exit)) (now (vx .exit)) (now (vy .exit)) ⌝ }
+    ensures { λ _. ⌜ Laid cols k (now (samples .entry)) vectors (slicesBy (now (recon .entry)) (now (vx .entry)) (now (vy .entry))) (slicesBy (now (recon .exit)) (now (vx .exit)) (now (vy .exit))) ⌝ }
 {
     let a = vectors[0];
     let b = vectors[1];

@@ -90,8 +90,8 @@ fn lay_candidate(
     vx: &mut [u8],
     vy: &mut [u8],
 )
-    requires { ⌜ LayReady canvas (now reference) (length (now raised)) k c (now recon) (now vx) (now vy) ⌝ }
-    ensures { λ _. ⌜ LaysCandidate canvas (now (reference .entry)) (now (raised .entry)) k c (now (recon .entry)) (now (vx .entry)) (now (vy .entry)) (now (recon .exit)) (now (vx .exit)) (now (vy .exit)) ⌝ }
+    requires { ⌜ LayReady canvas (now reference) (length (now raised)) k c (slicesBy (now recon) (now vx) (now vy)) ⌝ }
+    ensures { λ _. ⌜ LaysCandidate canvas (now (reference .entry)) (now (raised .entry)) k c (slicesBy (now (recon .entry)) (now (vx .entry)) (now (vy .entry))) (slicesBy (now (recon .exit)) (now (vx .exit)) (now (vy .exit))) ⌝ }
 {
     let mode = c.mode;
     let skip = is_skip(mode);
@@ -138,9 +138,9 @@ fn write_chosen(
     vx: &mut [u8],
     vy: &mut [u8],
 ) -> WrittenMb
-    requires { ⌜ WriteReady (now book) (nearFrom near) c (length (now out)) at × LayReady canvas (now reference) (length (now raised)) k c (now recon) (now vx) (now vy) ⌝ }
+    requires { ⌜ WriteReady (now book) (nearFrom near) c (length (now out)) at × LayReady canvas (now reference) (length (now raised)) k c (slicesBy (now recon) (now vx) (now vy)) ⌝ }
     ensures { λ r. ⌜ CandidateWritten (now (book .entry)) (nearFrom near) c (now (out .entry)) at r (now (out .exit)) ⌝ }
-    ensures { λ r. ⌜ CandidateLaid canvas (now (reference .entry)) (now (raised .entry)) k c (length (now (out .entry))) at (now (recon .entry)) (now (vx .entry)) (now (vy .entry)) (now (recon .exit)) (now (vx .exit)) (now (vy .exit)) ⌝ }
+    ensures { λ r. ⌜ CandidateLaid canvas (now (reference .entry)) (now (raised .entry)) k c (length (now (out .entry))) at (slicesBy (now (recon .entry)) (now (vx .entry)) (now (vy .entry))) (slicesBy (now (recon .exit)) (now (vx .exit)) (now (vy .exit))) ⌝ }
 {
     let mode = c.mode;
     let bits = c.bits;

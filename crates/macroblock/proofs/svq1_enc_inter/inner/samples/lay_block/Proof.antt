@@ -40,7 +40,7 @@ returns : tie.Need-returns
 returns c =
     let s = c .before .before .before .before .before .before .before .before .before .before .before .before .before .before .before .before .before .before in
     let a = s .args in
-    laid-four (a .cols) (a .k) (a .samples .now) (a .t5) _ _ _ _ _ _ (search needs) (c .before .before .before .before .before .before .before .before .before .put-block .ensures) (c .before .before .before .before .store-vectors .ensures)
+    laid-four (a .cols) (a .k) (a .samples .now) (a .t5) _ _ (search needs) (c .before .before .before .before .before .before .before .before .before .put-block .ensures) (c .before .before .before .before .store-vectors .ensures)
 
 pub lay-block-spec : {M : Type 1} → statement M
 lay-block-spec =

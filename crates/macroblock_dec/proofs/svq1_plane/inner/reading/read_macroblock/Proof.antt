@@ -52,7 +52,7 @@ returns-2 c =
     let u : Slices = slicesBy (a .recon .now) (a .vx .now) (a .vy .now) in
     let m = c .before .before .before .before .before .before .before .before .before .before .before .before .before .before .read-among in
     let bytes : Bytes (a .codebook .now) = λ i. omega (arith, c .before .before .before .before .before .before .before .before .before .before .before .before .before .before .before .before .before .before .before .before .before .before .before .before .shared-slice-known3 .given i) in
-    call-laid (a .canvas) (a .reference .now) (a .book .now) (a .codebook .now) (a .raised .now) (a .s .now) (a .at) (a .k) u (s .pre) (m .result) (m .ensures) (c .before .before .before .before .before .before .before .before .before .before .if1 .left) _ _ _ bytes (c .before .before .before .before .before .before .lay-choice .ensures)
+    call-laid (a .canvas) (a .reference .now) (a .book .now) (a .codebook .now) (a .raised .now) (a .s .now) (a .at) (a .k) u (s .pre) (m .result) (m .ensures) (c .before .before .before .before .before .before .before .before .before .before .if1 .left) _ bytes (c .before .before .before .before .before .before .lay-choice .ensures)
 
 pub read-macroblock-spec : {M : Type 1} → statement M
 read-macroblock-spec =

@@ -1,4 +1,5 @@
 -- What is shown, and the vectors as they are stored. Assumes nothing.
+use Rattle.macroblock.specs.Slices.{slicesBy}
 use Rattle.macroblock_enc.specs.WrittenNeedsLaws.{lays-candidate}
 use borrow.Author.Needs.{needs}
 use Rattle.macroblock_enc.proofs.svq1_enc_inter.inner.writing.lay_candidate.Statement.{statement}
@@ -25,7 +26,7 @@ returns : tie.Need-returns
 returns c =
     let s = c .before .before .before .before .before .before .before .before .before .before .before .before .before .before .before .before .before .before in
     let a = s .args in
-    lays-candidate (a .canvas) (a .reference .now) (a .raised .now) (a .k) (a .c) _ (a .recon .now) (a .vx .now) (a .vy .now) _ _ _ (c .before .before .before .before .before .before .before .before .before .before .before .before .is-skip .ensures) (s .pre .vectors) (c .before .before .before .before .before .before .lay-choice .ensures)
+    lays-candidate (a .canvas) (a .reference .now) (a .raised .now) (a .k) (a .c) _ (slicesBy (a .recon .now) (a .vx .now) (a .vy .now)) _ (c .before .before .before .before .before .before .before .before .before .before .before .before .is-skip .ensures) (s .pre .vectors) (c .before .before .before .before .before .before .lay-choice .ensures)
 
 pub lay-candidate-spec : {M : Type 1} → statement M
 lay-candidate-spec =

@@ -84,7 +84,7 @@ returns c =
     let e : nearFrom (c .before .before .before .before .before .before .before .before .before .before .before .before .before .before .before .near-blocks .result) ≡ near (givenBy (a .canvas) (a .reference .now) (a .book .now) (a .codebook .now)) z (a .k) = rw (x, y) at (c .before .before .before .before .before .before .before .before .before .before .before .before .before .before .before .near-blocks .ensures) in
     let er = rw (x, y) at (c .before .before .before .before .before .before .before .before .before .before .before .before .before .before .room-at .ensures) in
     let w = c .before .before .before .before .before .before .before .before .write-chosen .ensures in
-    mb-written (a .canvas) (a .reference .now) (a .book .now) (a .codebook .now) (a .raised .now) (a .source .now) (a .settings) (a .limit) (a .spent) (a .k) (a .at) (a .out .now) z (s .pre .0) (λ j. c .before .before .before .before .before .before .before .before .before .before .before .before .before .before .before .before .before .before .before .before .before .before .before .before .before .before .before .before .shared-slice-known .given j .fits) (λ j. c .before .before .before .before .before .before .before .before .before .before .before .before .before .before .before .before .before .before .before .before .before .before .before .before .before .before .before .shared-slice-known2 .given j .fits) (s .pre .1) _ e _ _ er (c .before .before .before .before .before .before .before .before .before .before .before .before .before .choose-macroblock .ensures (limitOf (a .limit))) _ _ _ _ _ (λ j. c .before .before .before .before .before .before .before .before .before .before .before .before .before .before .before .before .before .before .before .before .before .before .before .before .before .shared-slice-known4 .given j .fits) (w .0) (w .1)
+    mb-written (a .canvas) (a .reference .now) (a .book .now) (a .codebook .now) (a .raised .now) (a .source .now) (a .settings) (a .limit) (a .spent) (a .k) (a .at) (a .out .now) z (s .pre .0) (λ j. c .before .before .before .before .before .before .before .before .before .before .before .before .before .before .before .before .before .before .before .before .before .before .before .before .before .before .before .before .shared-slice-known .given j .fits) (λ j. c .before .before .before .before .before .before .before .before .before .before .before .before .before .before .before .before .before .before .before .before .before .before .before .before .before .before .before .shared-slice-known2 .given j .fits) (s .pre .1) _ e _ _ er (c .before .before .before .before .before .before .before .before .before .before .before .before .before .choose-macroblock .ensures (limitOf (a .limit))) _ _ _ (λ j. c .before .before .before .before .before .before .before .before .before .before .before .before .before .before .before .before .before .before .before .before .before .before .before .before .before .shared-slice-known4 .given j .fits) (w .0) (w .1)
 
 pub write-macroblock-spec : {M : Type 1} → statement M
 write-macroblock-spec =
