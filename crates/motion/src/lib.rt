@@ -1,3 +1,2 @@
 // The motion search.
-pub mod inner;
 pub mod svq1_enc_inter;

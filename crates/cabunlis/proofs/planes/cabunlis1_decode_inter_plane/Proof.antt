@@ -20,7 +20,7 @@ same-length-3 : tie.Need-same-length-3
 same-length-3 c = search needs
 
 returns : tie.Need-returns
-returns c = host-read _ _ _ _ _ _ _ _ _ (c .before .before .before .before .before .before .before .decode-inter-plane .ensures) (c .answer .ensures)
+returns c = host-read _ _ _ _ _ _ _ (c .before .before .before .before .before .before .before .decode-inter-plane .ensures) (c .answer .ensures)
 
 pub cabunlis1-decode-inter-plane-spec : {M : Type 1} → statement M
 cabunlis1-decode-inter-plane-spec =
