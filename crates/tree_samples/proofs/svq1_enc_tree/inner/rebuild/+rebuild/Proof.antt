@@ -13,7 +13,7 @@ use Rattle.tree_samples.specs.RebuildNeedsLaws.{turn-left, turn-right, t
 use Rattle.tree_samples.proofs.svq1_enc_tree.inner.rebuild.rebuild.Reads as rebuild
 use Rattle.tree_samples.proofs.svq1_enc_tree.inner.rebuild.rebuild.Kinds as rebuild-kinds
 use Rattle.tree_samples.proofs.svq1_enc_tree.inner.rebuild.+rebuild.Lts-rebuild as rebuild-lts
-use Rattle.tree.proofs.walk.is_split.Reads as is-split-reads
+use Rattle.tree.proofs.svq1_enc_tree.inner.walk.is_split.Reads as is-split-reads
 use Rattle.tree_samples.proofs.svq1_enc_tree.inner.rebuild.paint_node.Reads as paint-node-reads
 use Rattle.tree_samples.proofs.svq1_enc_tree.inner.rebuild.+rebuild.{statement}
 use Rattle.tree_samples.proofs.svq1_enc_tree.inner.rebuild.+rebuild.Tie.{close}
