@@ -1,53 +1,28 @@
 -- Laws of a part that is read inside the canvas, row by row: it is the part of the definition.
 -- Assumes nothing.
-use Prim.Native.Nat.{ℕ, zero, suc, _+_, _-_, _*_, _/_, _%_, _<_, _≤_}
+use Prim.Native.Nat.{ℕ, _+_, _-_, _*_, _/_, _%_, _<_, _≤_}
 use mathlib.Core.Path.{_≡_, refl, sym, ap, ap₂, _∙_}
 use mathlib.Core.List.{List}
 use mathlib.Core.Bool.{true}
 use native.Mathlib.Omega.{arith}
-use native.Mathlib.Nat.{mul-comm, mod-lt, div-lt-iff-lt-mul, add-zero, zero-add, add-mul, one-mul}
-use native.Mathlib.Numerals.{add-one}
+use native.Mathlib.Nat.{mul-comm, mod-lt, div-lt-iff-lt-mul, zero-add, add-mul, one-mul}
 use lib.Arith.{digits-lt, digits-div, digits-mod}
 use lib.Dec.{leb}
 use lib.IntN.{pos, _+ℤ_}
-use lib.ListN.{length, getD, set}
+use lib.ListN.{length, getD}
 use lib.Seq.{ext-getD}
 use borrow.Author.Tests.{leb-true, eq-eqb, ne-eqb}
 use Rattle.bits.specs.Basics.{valuesFrom}
 use Rattle.bits.specs.BasicsLaws.{both-true, length-values, value-at}
 use Rattle.canvas.specs.Canvas.{Canvas}
 use Rattle.compensation.specs.Compensation.{mean2, mean4, halfSample, movedSample}
-use Rattle.mv_cache.specs.Grid.{entryOf, putPart}
-use Rattle.mv_cache.specs.PutLaws.{putTo, put-all}
+use Rattle.mv_cache.specs.Grid.{rowSet, entryOf, putPart}
+use Rattle.mv_cache.specs.PutLaws.{putTo, put-all, row-same, row-to, along, entry-along, row-below}
 use Rattle.compensation.specs.RowForms.{cell}
 use Rattle.compensation.specs.RowFormsLaws.{half-in, row-fits}
 use Rattle.bits.specs.DifferenceLaws.{pos-sub, sub-pos}
-use Rattle.compensation.specs.MovedForms.{movedPart, Parts, down, downMv, rowSet, InCanvas, cellPart, insideUp}
+use Rattle.compensation.specs.MovedForms.{movedPart, Parts, down, downMv, InCanvas, cellPart, insideUp}
 use Rattle.compensation.specs.MovedFormsLaws.{side-some, cols-some, part-steps}
-
--- ---- a row set, one sample after the other
-pub row-none : (o : ℕ) (f : ℕ → ℕ) (xs : List ℕ) → xs ≡ rowSet o f 0 xs
-unfolding rowSet
-row-none o f xs = refl
-
-pub row-more : (o : ℕ) (f : ℕ → ℕ) (i w : ℕ) (xs ys : List ℕ) → ys ≡ rowSet o f i xs → w ≡ f i → set ys (o + i) w ≡ rowSet o f (i + 1) xs
-unfolding rowSet
-row-more o f i w xs ys e q = rw (e, q, add-one i)
-
-pub row-same : (o : ℕ) (f g : ℕ → ℕ) (n : ℕ) (xs : List ℕ) → ((k : ℕ) → k < n → f k ≡ g k) → rowSet o f n xs ≡ rowSet o g n xs
-unfolding rowSet
-row-same o f g zero xs h = refl
-row-same o f g (suc n) xs h = ap₂ (λ (ys : List ℕ) (w : ℕ). set ys (o + n) w) (row-same o f g n xs (λ k l. h k (omega arith))) (h n (omega arith))
-
--- where the row's places are a part's
-row-to : (s cols q : ℕ) (v : List ℕ) (o m : ℕ) (f : ℕ → ℕ) (n : ℕ) (xs : List ℕ) → ((k : ℕ) → k < n → entryOf s cols q (m + k) ≡ o + k)
-    → ((k : ℕ) → k < n → f k ≡ getD v (m + k) 0) → rowSet o f n (putTo s cols q v m xs) ≡ putTo s cols q v (m + n) xs
-unfolding rowSet putTo
-row-to s cols q v o m f zero xs p h = ap (λ (i : ℕ). putTo s cols q v i xs) (sym (add-zero m))
-row-to s cols q v o m f (suc n) xs p h =
-    let e : m + suc n ≡ suc (m + n) = omega arith in
-    let r = row-to s cols q v o m f n xs (λ k l. p k (omega arith)) (λ k l. h k (omega arith)) in
-    rw (e, r, h n (omega arith), p n (omega arith)) refl
 
 -- ---- a row of cells, by the code's cases
 module _ (c : Canvas) (ox oy o p n : ℕ) (xs : List ℕ) where
@@ -81,18 +56,6 @@ module _ (c : Canvas) (ox oy x0 y0 s cols q : ℕ) (parts : Parts s cols q) wher
   abbrev pub cellValues : List ℕ
   cellValues = valuesFrom (λ j. cell c ox oy ((y0 + j / s) * c .stride + x0 + j % s)) (s * s) 0
 
-  -- place k of row i
-  along : (i k : ℕ) → k < s → ((s * i + k) / s ≡ i) × ((s * i + k) % s ≡ k)
-  along i k h =
-      let e : s * i + k ≡ i * s + k = omega (arith, mul-comm s i) in
-      (ap (λ (n : ℕ). n / s) e ∙ digits-div i h, ap (λ (n : ℕ). n % s) e ∙ digits-mod i h)
-
-  pub entry-along : (i k : ℕ) → k < s → entryOf s cols q (s * i + k) ≡ (q / cols * s + i) * (s * cols) + q % cols * s + k
-  entry-along i k h = let a = along i k h in rw (a .0, a .1) (omega arith)
-
-  row-below : (i k : ℕ) → i < s → k < s → s * i + k < s * s
-  row-below i k h l = let e : i * s + k < s * s = digits-lt h l in omega (arith, mul-comm s i)
-
   pub part-next : (i : ℕ) (xs ys zs : List ℕ) → i < s → ys ≡ putTo s cols q cellValues (s * i) xs
       → zs ≡ rowSet ((q / cols * s + i) * (s * cols) + q % cols * s) (λ k. cell c ox oy ((y0 + i) * c .stride + x0 + k)) s ys
       → zs ≡ putTo s cols q cellValues (s * (i + 1)) xs
@@ -100,11 +63,11 @@ module _ (c : Canvas) (ox oy x0 y0 s cols q : ℕ) (parts : Parts s cols q) wher
       let step : s * i + s ≡ s * (i + 1) = simp (mul-comm s, add-mul, one-mul) in
       f ∙ ap (rowSet ((q / cols * s + i) * (s * cols) + q % cols * s) (λ k. cell c ox oy ((y0 + i) * c .stride + x0 + k)) s) e
       ∙ row-to s cols q cellValues ((q / cols * s + i) * (s * cols) + q % cols * s) (s * i) (λ k. cell c ox oy ((y0 + i) * c .stride + x0 + k)) s xs
-      (λ k l. entry-along i k l)
+      (λ k l. entry-along s cols q i k l)
       (λ k l.
-      let a = along i k l in
+      let a = along s cols q i k l in
       sym
-      (value-at (λ j. cell c ox oy ((y0 + j / s) * c .stride + x0 + j % s)) (s * s) 0 (s * i + k) 0 (row-below i k h l)
+      (value-at (λ j. cell c ox oy ((y0 + j / s) * c .stride + x0 + j % s)) (s * s) 0 (s * i + k) 0 (row-below s cols q i k h l)
       ∙ ap (λ (j : ℕ). cell c ox oy ((y0 + j / s) * c .stride + x0 + j % s)) (zero-add (s * i + k)) ∙ rw (a .0, a .1) refl))
       ∙ ap (λ (m : ℕ). putTo s cols q cellValues m xs) step
 
@@ -120,8 +83,8 @@ module _ (c : Canvas) (ox oy x0 y0 s cols q : ℕ) (parts : Parts s cols q) wher
   pub row-place : (i : ℕ) → i < s → (q / cols * s + i) * (s * cols) + q % cols * s + s ≤ 256
   row-place i h =
       let l : s - 1 < s = omega (arith, side-some s cols q parts) in
-      let e = entry-along i (s - 1) l in
-      let b = part-steps s cols q parts (s * i + (s - 1)) (row-below i (s - 1) h l) .all in
+      let e = entry-along s cols q i (s - 1) l in
+      let b = part-steps s cols q parts (s * i + (s - 1)) (row-below s cols q i (s - 1) h l) .all in
       omega arith
 
   pub row-first : (i : ℕ) → i < s → q / cols * s + i < 256

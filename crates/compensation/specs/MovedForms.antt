@@ -1,11 +1,11 @@
 -- Parts of a macroblock's 256 samples, moved by a vector, as the code writes them, and the numbers it raises places by (document 01, `svq1_enc_inter.rs`, over the definitions of Compensation).
-use Prim.Native.Nat.{ℕ, zero, suc, _+_, _-_, _*_, _/_, _%_, _<_, _≤_}
+use Prim.Native.Nat.{ℕ, _+_, _-_, _*_, _/_, _%_, _<_, _≤_}
 use mathlib.Core.Path.{_≡_}
 use mathlib.Core.Bool.{Bool, _&&_}
 use mathlib.Core.List.{List}
 use lib.IntN.{ℤ, subℕ}
 use lib.Dec.{leb}
-use lib.ListN.{length, set}
+use lib.ListN.{length}
 use Rattle.bits.specs.Basics.{valuesFrom}
 use Rattle.vectors.specs.declared.svq1_motion_predictor.Svq1Mv.{Svq1Mv}
 use Rattle.canvas.specs.Canvas.{Canvas, largestSide, padded16}
@@ -50,11 +50,6 @@ pub record Lifted (z : ℤ) (u : ℕ) : Type 0 where
   pub most : u ≤ 6442450944
 
 -- ---- where every read lies in the canvas
--- n samples from place o on, by a function
-unfoldable pub rowSet : ℕ → (ℕ → ℕ) → ℕ → List ℕ → List ℕ
-rowSet o f zero xs = xs
-rowSet o f (suc n) xs = set (rowSet o f n xs) (o + n) (f n)
-
 -- a part of side s whose corner is read at x0, y0, between columns and rows as ox and oy say
 pub record InCanvas (c : Canvas) (s ox oy x0 y0 : ℕ) : Type 0 where
   pub ox-bit : ox < 2

@@ -19,7 +19,7 @@ use Rattle.canvas.specs.declared.svq1_plane.Svq1PlaneCanvas.{Svq1PlaneCanvas}
 use Rattle.macroblock.specs.Macroblock.{Given, cols, rows, Motion, Choice, coded, vectorsOf, shown}
 use Rattle.macroblock.specs.Slices.{Slices, BlockSlice, xSlice, ySlice, blocksIn, storedIn, laid}
 use Rattle.macroblock.specs.LayingNeeds.{choiceBy, Laying, LaysChoice}
-use Rattle.macroblock.specs.SampleNeeds.{Stands, ReconRoom, Laid, Shows}
+use Rattle.macroblock.specs.SampleNeeds.{Stands, Laid, Shows}
 use Rattle.macroblock.specs.SampleNeedsLaws.{cols-is, skip-shown}
 
 -- ---- shown
@@ -44,7 +44,7 @@ module _ (c : Svq1PlaneCanvas) (k : ℕ) (vs : List Svq1Mv) (u : Slices) (g : La
   rows-by : c .rows / 16 ≡ blocksAlong (c .height)
   rows-by = omega (arith, g .rows-are)
 
-  pub lay-asks : ReconRoom (c .stride / 16) k (u .recon) × cache.VectorSlices (c .stride / 16) (c .rows / 16) (u .vx) (u .vy) × (k < c .rows / 16 * (c .stride / 16)) × All Inside vs
+  pub lay-asks : cache.BlocksRoom 16 (c .stride / 16) k (u .recon) × cache.VectorSlices (c .stride / 16) (c .rows / 16) (u .vx) (u .vy) × (k < c .rows / 16 * (c .stride / 16)) × All Inside vs
   lay-asks = rw (cols-by, rows-by) (g .recon-room, g .vectors-room, g .number, g .inside)
 
   pub lays : (reference raised : List ℕ) (d : Choice) (out : List ℕ) (w : Slices) → Shows c reference raised k d out → Laid (c .stride / 16) k out vs u w

@@ -17,7 +17,7 @@ use Rattle.canvas.specs.Canvas.{Canvas, blocksAlong, padded16}
 use Rattle.canvas.specs.declared.svq1_plane.Svq1PlaneCanvas.{Svq1PlaneCanvas}
 use Rattle.macroblock.specs.MacroblockNeeds.{givenBy}
 use Rattle.macroblock.specs.Slices.{Slices}
-use Rattle.macroblock.specs.SampleNeeds.{Stands, ReconRoom, Laid}
+use Rattle.macroblock.specs.SampleNeeds.{Stands, Laid}
 
 -- SKIP, or a motion with its tree
 abbrev pub choiceBy : Bool → Motion → List Node → Choice
@@ -34,7 +34,7 @@ pub record ShowingIf (skip : Bool) (c : Canvas) (wide k raised : ℕ) (h : Svq1H
 pub record Laying (c : Svq1PlaneCanvas) (k : ℕ) (vs : List Svq1Mv) (u : Slices) : Type 0 where
   pub stride-is : c .stride ≡ padded16 (c .width)
   pub rows-are : c .rows ≡ padded16 (c .height)
-  pub recon-room : ReconRoom (blocksAlong (c .width)) k (u .recon)
+  pub recon-room : cache.BlocksRoom 16 (blocksAlong (c .width)) k (u .recon)
   pub vectors-room : cache.VectorSlices (blocksAlong (c .width)) (blocksAlong (c .height)) (u .vx) (u .vy)
   pub number : k < blocksAlong (c .height) * blocksAlong (c .width)
   pub inside : All Inside vs

@@ -17,7 +17,7 @@ use Rattle.canvas.specs.CanvasLaws.{Fitting, plane-passes}
 use Rattle.macroblock.specs.Macroblock.{Given, cols, rows}
 use Rattle.macroblock.specs.Slices.{Slices, xSlice, ySlice}
 use Rattle.macroblock.specs.MacroblockNeeds.{Accepted, Held}
-use Rattle.macroblock.specs.SampleNeeds.{Stands, ReconRoom}
+use Rattle.macroblock.specs.SampleNeeds.{Stands}
 
 -- four block vectors a macroblock, two rows of two
 pub four-each : (r c : ℕ) → 4 * (r * c) ≡ r * 2 * (2 * c)
@@ -65,10 +65,10 @@ module _ (g : Given) (raised : List ℕ) (ok : Accepted g raised) where
     }
 
     -- macroblock k in the reconstruction
-    pub recon-held : (k : ℕ) → k < rows g * cols g → ReconRoom (cols g) k (s .recon)
+    pub recon-held : (k : ℕ) → k < rows g * cols g → cache.BlocksRoom 16 (cols g) k (s .recon)
     recon-held k h =
         let f = fits in
         let size : length (s .recon) ≡ rows g * 16 * (16 * cols g) =
         held .recon-whole ∙ rw (f .stride, f .rows) (mul-comm (16 * cols g) (16 * rows g) ∙ ap (λ (n : ℕ). n * (16 * cols g)) (mul-comm 16 (rows g))) in
         let far : (j : ℕ) → owner 16 (cols g) j < suc k → j < length (s .recon) = λ j l. omega (arith, size, in-owner 16 (cols g) (omega arith) wide (rows g) j (omega arith)) in
-        record { wide = wide; cols-most = omega (arith, f .width .most); holds = far }
+        record { some = omega arith; side-most = omega arith; wide = wide; cols-most = omega (arith, f .width .most); holds = far }

@@ -1,7 +1,7 @@
 -- A macroblock's 256 samples in a plane, and its quarters moved each by a vector of its own (document 01, `svq1_enc_inter.rs`).
 use mathlib.Core.List.{List, map}
 use mathlib.Core.Path.{_≡_}
-use Prim.Native.Nat.{ℕ, suc, _*_, _/_, _%_, _≤_, _<_}
+use Prim.Native.Nat.{ℕ, _*_, _/_, _%_, _<_}
 use lib.ListN.{getD}
 use Rattle.bits.specs.Basics.{Bytes, valuesFrom, signedByte}
 use Rattle.book.specs.Book.{codebookBytes}
@@ -9,10 +9,9 @@ use Rattle.book.specs.declared.svq1_vlc.Svq1Half.{Svq1Half}
 use Rattle.codebook.specs.CodebookForms.{raisedCodebook}
 use Rattle.vectors.specs.declared.svq1_motion_predictor.Svq1Mv.{Svq1Mv}
 use Rattle.vectors.specs.Vectors.{zeroMv}
-use Rattle.canvas.specs.Canvas.{Canvas, largestSide, blocksAlong}
+use Rattle.canvas.specs.Canvas.{Canvas}
 use Rattle.compensation.specs.Compensation.{movedSample}
 use Rattle.mv_cache.specs.Grid.{putPart}
-use Rattle.mv_cache.specs.GridLaws.{Holds}
 use Rattle.compensation.specs.MovedForms.{Placed}
 use Rattle.tree.specs.TreeBits.{Node}
 use Rattle.tree.specs.WalkNeeds.{SoundTree}
@@ -26,12 +25,6 @@ pub record Stands (c : Canvas) (cols k : ℕ) : Type 0 where
   pub wide : 0 < cols
   pub across : c .stride ≡ 16 * cols
   pub placed : Placed c (16 * (k % cols)) (16 * (k / cols))
-
--- a slice of samples, cols macroblocks wide, that holds macroblock k
-pub record ReconRoom (cols k : ℕ) (xs : List ℕ) : Type 0 where
-  pub wide : 0 < cols
-  pub cols-most : cols ≤ blocksAlong largestSide
-  pub holds : Holds 16 cols (suc k) xs
 
 -- macroblock k's samples and vectors, put into the three slices; every other entry stays
 pub record Laid (cols k : ℕ) (samples : List ℕ) (vs : List Svq1Mv) (u w : Slices) : Type 0 where

@@ -10,10 +10,9 @@ use lib.Arith.{digits-div, digits-mod}
 use lib.ListN.{length, getD, set, length-set}
 use lib.Seq.{ext-getD, getD-set-same, getD-set-other}
 use Rattle.bits.specs.BasicsLaws.{length-values, value-at}
-use Rattle.mv_cache.specs.Grid.{entryOf, part}
-use Rattle.compensation.specs.MovedForms.{rowSet}
+use Rattle.mv_cache.specs.Grid.{rowSet, entryOf, part}
+use Rattle.mv_cache.specs.PutLaws.{row-same}
 use Rattle.compensation.specs.MovedFormsLaws.{place-in}
-use Rattle.compensation.specs.InsideLaws.{row-same}
 use Rattle.canvas.specs.Canvas.{largestSide, blocksAlong, padded16}
 use Rattle.macroblock.specs.Choice.{paddedSource, targetOf}
 use Rattle.macroblock_search.specs.TargetForms.{targetSample, Sources, RowsFilled}

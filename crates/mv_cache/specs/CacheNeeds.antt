@@ -31,11 +31,13 @@ pub record VectorSlices (cols rows : ℕ) (vx vy : List ℕ) : Type 0 where
   pub x-holds : rows * 2 * (2 * cols) ≤ length vx
   pub y-holds : rows * 2 * (2 * cols) ≤ length vy
 
--- one slice that holds macroblock k
-pub record BlocksRoom (cols k : ℕ) (vs : List ℕ) : Type 0 where
+-- a slice, cols macroblocks of s entries wide, that holds macroblock k
+pub record BlocksRoom (s cols k : ℕ) (xs : List ℕ) : Type 0 where
+  pub some : 0 < s
+  pub side-most : s ≤ 16
   pub wide : 0 < cols
   pub cols-most : cols ≤ blocksAlong largestSide
-  pub holds : Holds 2 cols (suc k) vs
+  pub holds : Holds s cols (suc k) xs
 
 -- the vectors vs stored as macroblock k's, a byte for each component; every other byte stays
 pub record Stored (cols k : ℕ) (vs : List Svq1Mv) (vx vy ux uy : List ℕ) : Type 0 where

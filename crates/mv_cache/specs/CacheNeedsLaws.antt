@@ -63,15 +63,15 @@ module _ (cols rows : ℕ) (vx vy : List ℕ) where
       (omega (arith, s .rows-most), omega (arith, s .cols-most, mod-lt k (s .wide)))
 
   -- slices of a plane hold its macroblocks
-  pub room-x : (k : ℕ) → VectorSlices cols rows vx vy → k < rows * cols → BlocksRoom cols k vx
+  pub room-x : (k : ℕ) → VectorSlices cols rows vx vy → k < rows * cols → BlocksRoom 2 cols k vx
   room-x k s h =
       let far : (j : ℕ) → owner 2 cols j < suc k → j < length vx = λ j l. omega (arith, in-owner 2 cols (omega arith) (s .wide) rows j (omega arith), s .x-holds) in
-      record { wide = s .wide; cols-most = s .cols-most; holds = far }
+      record { some = omega arith; side-most = omega arith; wide = s .wide; cols-most = s .cols-most; holds = far }
 
-  pub room-y : (k : ℕ) → VectorSlices cols rows vx vy → k < rows * cols → BlocksRoom cols k vy
+  pub room-y : (k : ℕ) → VectorSlices cols rows vx vy → k < rows * cols → BlocksRoom 2 cols k vy
   room-y k s h =
       let far : (j : ℕ) → owner 2 cols j < suc k → j < length vy = λ j l. omega (arith, in-owner 2 cols (omega arith) (s .wide) rows j (omega arith), s .y-holds) in
-      record { wide = s .wide; cols-most = s .cols-most; holds = far }
+      record { some = omega arith; side-most = omega arith; wide = s .wide; cols-most = s .cols-most; holds = far }
 
 -- ---- bytes
 pub low-signed : (b : ℕ) → b < 128 → pos b ≡ signedOf b

@@ -1,10 +1,15 @@
 -- A plane as a grid of macroblocks: which macroblock an entry of a slice belongs to, a macroblock's entries, and writing them (document 01, the last sentence of `svq1_mv_cache.rs`, and "gathering it by plane").
 -- One form serves samples (16 a side) and block vectors (2 a side).
-use Prim.Native.Nat.{ℕ, suc, _+_, _*_, _/_, _%_}
+use Prim.Native.Nat.{ℕ, zero, suc, _+_, _*_, _/_, _%_}
 use mathlib.Core.List.{List, [], _∷_}
 use lib.Dec.{eqb}
-use lib.ListN.{getD}
+use lib.ListN.{getD, set}
 use Rattle.bits.specs.Basics.{pick, valuesFrom}
+
+-- n entries from place o on, by a function
+unfoldable pub rowSet : ℕ → (ℕ → ℕ) → ℕ → List ℕ → List ℕ
+rowSet o f zero xs = xs
+rowSet o f (suc n) xs = set (rowSet o f n xs) (o + n) (f n)
 
 -- entry p of a slice whose rows are cols macroblocks of s entries each, s rows a macroblock: the macroblock that it belongs to, and its place there, both in raster order
 unfoldable pub owner : ℕ → ℕ → ℕ → ℕ

@@ -2,12 +2,13 @@
 ghost use mathlib.Core.Path.{_≡_};
 ghost use Prim.Native.Nat.{_+_, _<_, _≤_, min};
 ghost use lib.ListN.{length, getD};
-ghost use Rattle.compensation.specs.MovedForms.{rowSet};
+ghost use Rattle.mv_cache.specs.Grid.{rowSet};
 ghost use Rattle.canvas.specs.Canvas.{largestSide};
 ghost use Rattle.macroblock.specs.Choice.{targetOf};
 ghost use Rattle.macroblock_search.specs.TargetForms.{Sources};
 use canvas::svq1_plane::Svq1PlaneCanvas;
 use canvas::svq1_plane::inner::blocks_along;
+use mv_cache::svq1_mv_cache::inner::copy_row;
 
 fn lesser(a: usize, b: usize) -> usize
     ensures { λ r. ⌜ r ≡ min a b ⌝ }
@@ -15,18 +16,7 @@ fn lesser(a: usize, b: usize) -> usize
     if a < b { a } else { b }
 }
 
-// Sixteen samples from place o on: those from place p on, and those from column x of the row at p on, its last column repeated.
-fn copy_row(out: &mut [u8], source: &[u8], o: usize, p: usize)
-    requires { ⌜ (o + 16 ≤ length (now out)) × (p + 16 ≤ length (now source)) ⌝ }
-    ensures { λ _. ⌜ now (out .exit) ≡ rowSet o (λ j. getD (now (source .entry)) (p + j) 0) 16 (now (out .entry)) ⌝ }
-{
-    let mut i = 0;
-    while i < 16 {
-        out[o + i] = source[p + i];
-        i += 1;
-    }
-}
-
+// Sixteen samples from place o on: those from column x of the row at p on, its last column repeated.
 fn repeat_row(out: &mut [u8], source: &[u8], o: usize, p: usize, x: usize, last: usize)
     requires { ⌜ (o + 16 ≤ length (now out)) × (p + last < length (now source)) × (x ≤ largestSide) ⌝ }
     ensures { λ _. ⌜ now (out .exit) ≡ rowSet o (λ j. getD (now (source .entry)) (p + min (x + j) last) 0) 16 (now (out .entry)) ⌝ }
@@ -38,13 +28,13 @@ fn repeat_row(out: &mut [u8], source: &[u8], o: usize, p: usize, x: usize, last:
     }
 }
 
-// The one where the row goes that far, else the other.
+// The same; where the row goes that far, nothing is repeated.
 fn target_row(out: &mut [u8], source: &[u8], o: usize, p: usize, x: usize, last: usize)
     requires { ⌜ (o + 16 ≤ length (now out)) × (p + last < length (now source)) × (x ≤ largestSide) ⌝ }
     ensures { λ _. ⌜ now (out .exit) ≡ rowSet o (λ j. getD (now (source .entry)) (p + min (x + j) last) 0) 16 (now (out .entry)) ⌝ }
 {
     if x + 15 <= last {
-        copy_row(out, source, o, p + x);
+        copy_row(out, source, o, p + x, 16);
         return;
     }
     repeat_row(out, source, o, p, x, last);

@@ -2,12 +2,13 @@
 // everybody else are in the modules that keep the names of the original's files.
 ghost use mathlib.Core.Path.{_≡_};
 ghost use mathlib.Core.List.{_∷_, [], map};
-ghost use Prim.Native.Nat.{_*_, _<_};
+ghost use Prim.Native.Nat.{_+_, _*_, _<_, _≤_};
+ghost use lib.ListN.{length, getD};
 ghost use lib.IntN.{subℕ};
 ghost use Rattle.bits.specs.Basics.{signedOf, signedByte};
 ghost use Rattle.vectors.specs.VectorsLaws.{InRange, Inside};
 ghost use Rattle.mv_cache.specs.Neighbours.{neighbourAt, nearOf};
-ghost use Rattle.mv_cache.specs.Grid.{putPart};
+ghost use Rattle.mv_cache.specs.Grid.{rowSet, putPart};
 ghost use Rattle.mv_cache.specs.CacheNeeds.{nearFrom, VectorSlices, BlocksRoom, Stored};
 use super::super::svq1_mv_cache::NearBlocks;
 use vectors::svq1_motion_predictor::Neighbour;
@@ -91,25 +92,38 @@ pub fn near_blocks(vx: &[u8], vy: &[u8], cols: usize, rows: usize, k: usize) -> 
     }
 }
 
-// Macroblock k's four bytes, in raster order, into one slice.
-fn store_bytes(s: &mut [u8], cols: usize, k: usize, v: &[u8; 4])
-    requires { ⌜ BlocksRoom cols k (now s) ⌝ }
-    ensures { λ _. ⌜ now (s .exit) ≡ putPart 2 cols k (now (v .entry)) (now (s .entry)) ⌝ }
+// n entries from place o on, copied from place p on.
+pub fn copy_row(out: &mut [u8], source: &[u8], o: usize, p: usize, n: usize)
+    requires { ⌜ (o + n ≤ length (now out)) × (p + n ≤ length (now source)) ⌝ }
+    ensures { λ _. ⌜ now (out .exit) ≡ rowSet o (λ j. getD (now (source .entry)) (p + j) 0) n (now (out .entry)) ⌝ }
 {
-    let mut j: usize = 0;
-    while j < 4 {
-        s[(k / cols * 2 + j / 2) * (2 * cols) + (k % cols * 2 + j % 2)] = v[j];
-        j += 1;
+    let mut i = 0;
+    while i < n {
+        out[o + i] = source[p + i];
+        i += 1;
     }
 }
 
-// The same from four components.
+// The entries v as macroblock k of a slice that is cols macroblocks wide, with `side` entries in a macroblock's row, and as many rows.
+pub fn put_part(out: &mut [u8], side: usize, cols: usize, k: usize, v: &[u8])
+    requires { ⌜ BlocksRoom side cols k (now out) × (length (now v) ≡ side * side) ⌝ }
+    ensures { λ _. ⌜ now (out .exit) ≡ putPart side cols k (now (v .entry)) (now (out .entry)) ⌝ }
+{
+    let mut i = 0;
+    while i < side {
+        let o = (k / cols * side + i) * (side * cols) + k % cols * side;
+        copy_row(out, v, o, side * i, side);
+        i += 1;
+    }
+}
+
+// Macroblock k's four components, in raster order, into one slice.
 fn store_components(s: &mut [u8], cols: usize, k: usize, a: i32, b: i32, c: i32, d: i32)
-    requires { ⌜ BlocksRoom cols k (now s) × InRange a × InRange b × InRange c × InRange d ⌝ }
+    requires { ⌜ BlocksRoom 2 cols k (now s) × InRange a × InRange b × InRange c × InRange d ⌝ }
     ensures { λ _. ⌜ now (s .exit) ≡ putPart 2 cols k (map signedByte (a ∷ b ∷ c ∷ d ∷ [])) (now (s .entry)) ⌝ }
 {
     let v = [byte_of(a), byte_of(b), byte_of(c), byte_of(d)];
-    store_bytes(s, cols, k, &v);
+    put_part(s, 2, cols, k, &v);
 }
 
 // The four vectors of macroblock k, in raster order, into both slices.

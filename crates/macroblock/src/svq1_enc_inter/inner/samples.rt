@@ -4,8 +4,8 @@ ghost use mathlib.Core.List.{List};
 ghost use Prim.Native.Nat.{ℕ, _*_, _<_};
 ghost use lib.ListN.{length, replicate};
 ghost use Rattle.bits.specs.Basics.{All};
-ghost use Rattle.mv_cache.specs.CacheNeeds.{VectorSlices};
-ghost use Rattle.mv_cache.specs.Grid.{part, putPart};
+ghost use Rattle.mv_cache.specs.CacheNeeds.{VectorSlices, BlocksRoom};
+ghost use Rattle.mv_cache.specs.Grid.{part};
 ghost use Rattle.compensation.specs.MovedForms.{Placed};
 ghost use Rattle.canvas.specs.Canvas.{blocksAlong};
 ghost use Rattle.vectors.specs.VectorsLaws.{Inside};
@@ -15,12 +15,13 @@ ghost use Rattle.macroblock.specs.Slices.{slicesBy};
 ghost use Rattle.macroblock.specs.Macroblock.{coded, halfOf, baseline};
 ghost use Rattle.macroblock.specs.MotionForms.{motionOf};
 ghost use Rattle.macroblock.specs.MacroblockNeeds.{givenBy};
-ghost use Rattle.macroblock.specs.SampleNeeds.{Stands, ReconRoom, Laid, Showing, Shows, quarters};
+ghost use Rattle.macroblock.specs.SampleNeeds.{Stands, Laid, Showing, Shows, quarters};
 use super::super::super::svq1_enc_inter::MbMotion;
 use book::svq1_vlc::Svq1Half;
 use canvas::svq1_plane::Svq1PlaneCanvas;
 use compensation::svq1_mc::inner::mc_macroblock;
 use compensation::svq1_mc::inner::mc_quarter;
+use mv_cache::svq1_mv_cache::inner::put_part;
 use mv_cache::svq1_mv_cache::inner::store_vectors;
 use tree::svq1_enc_tree::Block;
 use tree_samples::svq1_enc_tree::inner::rebuild::rebuild;
@@ -42,18 +43,6 @@ pub fn take_block(
     let x = 16 * (k % cols);
     let y = 16 * (k / cols);
     mc_macroblock(out, plane, stride, rows, x, y, zero_vector());
-}
-
-// The samples v as macroblock k of a plane that is cols macroblocks wide.
-pub fn put_block(plane: &mut [u8], cols: usize, k: usize, v: &[u8; 256])
-    requires { ⌜ ReconRoom cols k (now plane) ⌝ }
-    ensures { λ _. ⌜ now (plane .exit) ≡ putPart 16 cols k (now (v .entry)) (now (plane .entry)) ⌝ }
-{
-    let mut j: usize = 0;
-    while j < 256 {
-        plane[(k / cols * 16 + j / 16) * (16 * cols) + (k % cols * 16 + j % 16)] = v[j];
-        j += 1;
-    }
 }
 
 // Zeros.
@@ -158,13 +147,13 @@ pub fn lay_block(
     vx: &mut [u8],
     vy: &mut [u8],
 )
-    requires { ⌜ ReconRoom cols k (now recon) × VectorSlices cols rows (now vx) (now vy) × (k < rows * cols) × All Inside vectors ⌝ }
+    requires { ⌜ BlocksRoom 16 cols k (now recon) × VectorSlices cols rows (now vx) (now vy) × (k < rows * cols) × All Inside vectors ⌝ }
     ensures { λ _. ⌜ Laid cols k (now (samples .entry)) vectors (slicesBy (now (recon .entry)) (now (vx .entry)) (now (vy .entry))) (slicesBy (now (recon .exit)) (now (vx .exit)) (now (vy .exit))) ⌝ }
 {
     let a = vectors[0];
     let b = vectors[1];
     let c = vectors[2];
     let d = vectors[3];
-    put_block(recon, cols, k, samples);
+    put_part(recon, 16, cols, k, samples);
     store_vectors(vx, vy, cols, rows, k, a, b, c, d);
 }

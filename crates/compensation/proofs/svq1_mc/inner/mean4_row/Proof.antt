@@ -3,8 +3,8 @@ use mathlib.Core.Path.{_≡_}
 use Prim.Native.Nat.{_+_, _-_, _≤_}
 use lib.ListN.{getD}
 use Rattle.compensation.specs.Compensation.{mean4}
-use Rattle.compensation.specs.MovedForms.{rowSet}
-use Rattle.compensation.specs.InsideLaws.{row-none, row-more}
+use Rattle.mv_cache.specs.Grid.{rowSet}
+use Rattle.mv_cache.specs.PutLaws.{row-none, row-more}
 use native.Mathlib.Omega.{arith}
 use borrow.Author.Needs.{needs}
 use Rattle.compensation.proofs.svq1_mc.inner.mean4_row.Statement.{statement}

@@ -3,8 +3,8 @@ use mathlib.Core.Path.{_≡_, refl, ap}
 use Prim.Native.Nat.{ℕ, _+_, _-_, _≤_, min}
 use lib.ListN.{getD, length}
 use native.Mathlib.Omega.{arith}
-use Rattle.compensation.specs.MovedForms.{rowSet}
-use Rattle.compensation.specs.InsideLaws.{row-none, row-more}
+use Rattle.mv_cache.specs.Grid.{rowSet}
+use Rattle.mv_cache.specs.PutLaws.{row-none, row-more}
 use borrow.Author.Needs.{needs}
 use Rattle.macroblock_search.proofs.svq1_enc.inner.repeat_row.Statement.{statement}
 use Rattle.macroblock_search.proofs.svq1_enc.inner.repeat_row.Tie as tie

@@ -18,8 +18,11 @@ byte-of-requires-3 c κs = search needs
 byte-of-requires-4 : tie.Need-byte-of-requires-4
 byte-of-requires-4 c κs = search needs
 
-store-bytes-requires : tie.Need-store-bytes-requires
-store-bytes-requires c κs = search needs
+slice-aggregate-put-part : tie.Need-slice-aggregate-put-part
+slice-aggregate-put-part c = search needs
+
+put-part-requires : tie.Need-put-part-requires
+put-part-requires c κs = search needs
 
 same-length : tie.Need-same-length
 same-length c = search needs
@@ -36,7 +39,7 @@ returns c =
     let h2 = simp e2 at (b .before .before .byte-of2 .ensures) in
     let h3 = simp e3 at (b .before .byte-of3 .ensures) in
     let h4 = simp e4 at (b .byte-of4 .ensures) in
-    c .before .before .store-bytes .ensures ∙ simp (h1, h2, h3, h4)
+    c .before .before .put-part .ensures ∙ simp (h1, h2, h3, h4)
 
 pub store-components-spec : {M : Type 1} → statement M
 store-components-spec =
@@ -46,6 +49,7 @@ store-components-spec =
     byte-of-requires-2
     byte-of-requires-3
     byte-of-requires-4
-    store-bytes-requires
+    slice-aggregate-put-part
+    put-part-requires
     same-length
     returns)

@@ -16,12 +16,12 @@ array-copy-out-c c = search needs
 array-copy-out-d : tie.Need-array-copy-out-d
 array-copy-out-d c = search needs
 
-put-block-requires : tie.Need-put-block-requires
-put-block-requires c κs = search needs
+put-part-requires : tie.Need-put-part-requires
+put-part-requires c κs = search needs
 
 store-vectors-requires : tie.Need-store-vectors-requires
 store-vectors-requires c κs =
-    let s = c .before .before .before .before .before .before .before .before .before .before .before .before .before in
+    let s = c .before .before .before .before .before .before .before .before .before .before .before .before .before .before in
     let vs = s .args .t5 in
     let p = s .pre in
     let i = inside-at vs (p .3) in
@@ -38,9 +38,9 @@ same-length-3 c = search needs
 
 returns : tie.Need-returns
 returns c =
-    let s = c .before .before .before .before .before .before .before .before .before .before .before .before .before .before .before .before .before .before in
+    let s = c .before .before .before .before .before .before .before .before .before .before .before .before .before .before .before .before .before .before .before in
     let a = s .args in
-    laid-four (a .cols) (a .k) (a .samples .now) (a .t5) _ _ (search needs) (c .before .before .before .before .before .before .before .before .before .put-block .ensures) (c .before .before .before .before .store-vectors .ensures)
+    laid-four (a .cols) (a .k) (a .samples .now) (a .t5) _ _ (search needs) (c .before .before .before .before .before .before .before .before .before .put-part .ensures) (c .before .before .before .before .store-vectors .ensures)
 
 pub lay-block-spec : {M : Type 1} → statement M
 lay-block-spec =
@@ -50,7 +50,7 @@ lay-block-spec =
     array-copy-out-b
     array-copy-out-c
     array-copy-out-d
-    put-block-requires
+    put-part-requires
     store-vectors-requires
     same-length
     same-length-2

@@ -3,17 +3,17 @@ use mathlib.Core.Path.{_≡_, refl}
 use Prim.Native.Nat.{_+_, _-_, _≤_}
 use lib.ListN.{getD, length}
 use native.Mathlib.Omega.{arith}
-use Rattle.compensation.specs.MovedForms.{rowSet}
-use Rattle.compensation.specs.InsideLaws.{row-none, row-more}
+use Rattle.mv_cache.specs.Grid.{rowSet}
+use Rattle.mv_cache.specs.PutLaws.{row-none, row-more}
 use borrow.Author.Needs.{needs}
-use Rattle.macroblock_search.proofs.svq1_enc.inner.copy_row.Statement.{statement}
-use Rattle.macroblock_search.proofs.svq1_enc.inner.copy_row.Tie as tie
+use Rattle.mv_cache.proofs.svq1_mv_cache.inner.copy_row.Statement.{statement}
+use Rattle.mv_cache.proofs.svq1_mv_cache.inner.copy_row.Tie as tie
 
 abbrev Inv-loop : tie.InvT-loop
-Inv-loop out₀ source o p i₀ out i = (i ≤ 16) × (length out ≡ length out₀) × (out ≡ rowSet o (λ j. getD source (p + j) 0) i out₀)
+Inv-loop out₀ source o p n i₀ out i = (i ≤ n) × (length out ≡ length out₀) × (out ≡ rowSet o (λ j. getD source (p + j) 0) i out₀)
 
 abbrev μ-loop : tie.MeasureT-loop
-μ-loop out₀ source o p i₀ out i = 16 - i
+μ-loop out₀ source o p n i₀ out i = n - i
 
 loop-holds : tie.Need-loop-holds Inv-loop μ-loop
 loop-holds c = (omega arith, refl, row-none _ _ _)
@@ -45,7 +45,7 @@ same-length c = c .before .loop .inv .1
 returns : tie.Need-returns Inv-loop μ-loop
 returns c =
     let l = c .before .loop in
-    let e : l .i ≡ 16 = omega arith in
+    let e : l .i ≡ c .before .before .args .n = omega arith in
     rw e at (l .inv .2)
 
 pub copy-row-spec : {M : Type 1} → statement M
