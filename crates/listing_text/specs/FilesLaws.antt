@@ -23,7 +23,7 @@ use Rattle.plane.specs.Refusals.{lengthsRefusal, slicesRefusal, writeRefusal}
 use Rattle.plane.specs.RefusalsLaws.{lent-passes, write-passes}
 use Rattle.listing_job.specs.Job.{Job, mostWidth, mostHeight}
 use Rattle.listing_text.specs.Listing.{Files, givenOf, taskOf, filesRefusalBy, filesRefusal, outputBytes, noSlices, planeText, refusedText, jobText}
-use Rattle.listing_text.specs.LineForms.{TextPut}
+use Rattle.listing_text.specs.LineForms.{ListedPut}
 use Rattle.listing_text.specs.Listed.{listingRoom, mostBlocks, filesBy, FilesChecked, Listable}
 
 -- ---- the refusals in their order
@@ -102,7 +102,7 @@ module _ (f : Files) (j : Job) where
   files-listable a b e = record { wide = a; high = b; passes = files-pass (replicate outputBytes 0) (lit≤ tt) e }
 
   -- what is printed
-  pub put-job-refused : (n : ℕ) → n ≡ filesRefusal f j → (n ≡ 0 → ⊥) → (text : List ℕ) (r : ℕ) (after : List ℕ) → TextPut 29 text 0 (refusedText n) r after → TextPut listingRoom text 0 (jobText f (some j)) r after
+  pub put-job-refused : (n : ℕ) → n ≡ filesRefusal f j → (n ≡ 0 → ⊥) → (text : List ℕ) (r : ℕ) (after : List ℕ) → ListedPut 29 text 0 (refusedText n) r after → ListedPut listingRoom text 0 (jobText f (some j)) r after
   unfolding jobText
   put-job-refused n e h text r after p = rw (← e, ne-eqb n 0 h) (record { next = p .next; short = omega (arith, p .short); bytes-after = p .bytes-after })
 

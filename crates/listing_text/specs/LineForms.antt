@@ -11,7 +11,7 @@ use Rattle.macroblock.specs.declared.svq1_enc_inter.Svq1MbMode.the-variants.{In
 use Rattle.listing_text.specs.Listing.{modeName}
 
 -- what writing a text of at most `most` bytes promises, where there is room for so many: the place behind it and every byte
-pub record TextPut (most : ℕ) (bytes : List ℕ) (at : ℕ) (t : List ℕ) (r : ℕ) (after : List ℕ) : Type 0 where
+pub record ListedPut (most : ℕ) (bytes : List ℕ) (at : ℕ) (t : List ℕ) (r : ℕ) (after : List ℕ) : Type 0 where
   pub next : r ≡ at + length t
   pub short : length t ≤ most
   pub bytes-after : after ≡ putText bytes at t

@@ -12,7 +12,7 @@ use borrow.Author.Tests.{le-leb}
 use Rattle.bits.specs.Basics.{pick}
 use Rattle.text.specs.Text.{ascii, comma, lineFeed, digitsBefore, decimal, joined, lineOf}
 use Rattle.text.specs.WritingForms.{putText, TextPut}
-use Rattle.listing_text.specs.LineForms.{TextPut, nameAt, lineText, listingLineAt, linesFrom}
+use Rattle.listing_text.specs.LineForms.{ListedPut, nameAt, lineText, listingLineAt, linesFrom}
 use Rattle.listing_text.specs.Listing.{totalLine, refusedText}
 
 -- a written number has at most twenty digits
@@ -32,7 +32,7 @@ decimal-most n = digits-most 20 n []
 
 -- a text put where there is room
 pub put-room : (most : ℕ) (bytes : List ℕ) (at : ℕ) (t : List ℕ) (r : ℕ) (after : List ℕ) → TextPut bytes at t r after → length t ≤ most → at + most ≤ length bytes
-    → TextPut most bytes at t r after
+    → ListedPut most bytes at t r after
 put-room most bytes at t r after p h room =
     let e = le-leb (at + length t) (length bytes) (omega arith) in
     record { next = rw e at (p .next); short = h; bytes-after = rw e at (p .bytes-after) }
@@ -56,11 +56,11 @@ put-length bytes at t room =
     let front : length (take at bytes) ≡ at = length-take-le at bytes (omega arith) in
     length-append (take at bytes) (t ++ drop (at + length t) bytes) ∙ omega (arith, front, length-append t (drop (at + length t) bytes), length-drop (at + length t) bytes)
 
-module _ (most : ℕ) (bytes : List ℕ) (at : ℕ) (s : List ℕ) (x : ℕ) (mid : List ℕ) (p : TextPut most bytes at s x mid) (room : at + most ≤ length bytes) where
+module _ (most : ℕ) (bytes : List ℕ) (at : ℕ) (s : List ℕ) (x : ℕ) (mid : List ℕ) (p : ListedPut most bytes at s x mid) (room : at + most ≤ length bytes) where
   inside : at + length s ≤ length bytes
   inside = omega (arith, p .short)
 
-  pub put-two : (more : ℕ) (t : List ℕ) (r : ℕ) (after : List ℕ) → TextPut more mid x t r after → TextPut (most + more) bytes at (s ++ t) r after
+  pub put-two : (more : ℕ) (t : List ℕ) (r : ℕ) (after : List ℕ) → ListedPut more mid x t r after → ListedPut (most + more) bytes at (s ++ t) r after
   put-two more t r after q =
       let long = length-append s t in
       record {
@@ -70,7 +70,7 @@ module _ (most : ℕ) (bytes : List ℕ) (at : ℕ) (s : List ℕ) (x : ℕ) (mi
       }
 
   -- a byte behind a text
-  pub put-byte : (b : ℕ) → at + most < length bytes → TextPut (most + 1) bytes at (s ++ (b ∷ [])) (x + 1) (set mid x b)
+  pub put-byte : (b : ℕ) → at + most < length bytes → ListedPut (most + 1) bytes at (s ++ (b ∷ [])) (x + 1) (set mid x b)
   unfolding putText
   put-byte b h =
       let one : suc x ≡ x + 1 = omega arith in
@@ -94,9 +94,9 @@ line-fields row column mode bits error = simp append-assoc
 
 -- a macroblock's line, field by field
 pub put-line : (bytes : List ℕ) (at row column mode bits error a b c d r : ℕ) (s t u v after : List ℕ) → at + 94 ≤ length bytes
-    → TextPut 21 bytes at (commaBehind (decimal row)) a s → TextPut 21 s a (commaBehind (decimal column)) b t → TextPut 10 t b (commaBehind (nameAt mode)) c u
-    → TextPut 21 u c (commaBehind (decimal bits)) d v → TextPut 21 v d (lastOf (decimal error)) r after
-    → TextPut 94 bytes at (lineText row column mode bits error) r after
+    → ListedPut 21 bytes at (commaBehind (decimal row)) a s → ListedPut 21 s a (commaBehind (decimal column)) b t → ListedPut 10 t b (commaBehind (nameAt mode)) c u
+    → ListedPut 21 u c (commaBehind (decimal bits)) d v → ListedPut 21 v d (lastOf (decimal error)) r after
+    → ListedPut 94 bytes at (lineText row column mode bits error) r after
 put-line bytes at row column mode bits error a b c d r s t u v after room p q o n m =
     let two = put-two 21 bytes at _ a s p (omega arith) 21 _ b t q in
     let three = put-two 42 bytes at _ b t two (omega arith) 10 _ c u o in
@@ -109,8 +109,8 @@ unfolding totalLine lineOf joined
 total-fields bits error = simp append-assoc
 
 pub put-total : (bytes : List ℕ) (at bits error a b r : ℕ) (s t after : List ℕ) → at + 48 ≤ length bytes
-    → TextPut bytes at (ascii "total,") a s → TextPut 21 s a (commaBehind (decimal bits)) b t → TextPut 21 t b (lastOf (decimal error)) r after
-    → TextPut 48 bytes at (totalLine bits error) r after
+    → TextPut bytes at (ascii "total,") a s → ListedPut 21 s a (commaBehind (decimal bits)) b t → ListedPut 21 t b (lastOf (decimal error)) r after
+    → ListedPut 48 bytes at (totalLine bits error) r after
 put-total bytes at bits error a b r s t after room p q o =
     let one = put-room 6 bytes at _ a s p (omega arith) (omega arith) in
     let two = put-two 6 bytes at _ a s one (omega arith) 21 _ b t q in
@@ -122,20 +122,20 @@ unfolding refusedText lineOf joined
 refused-fields n = simp append-assoc
 
 pub put-refusal : (bytes : List ℕ) (n a r : ℕ) (s after : List ℕ) → 29 ≤ length bytes
-    → TextPut bytes 0 (ascii "refused,") a s → TextPut 21 s a (lastOf (decimal n)) r after
-    → TextPut 29 bytes 0 (refusedText n) r after
+    → TextPut bytes 0 (ascii "refused,") a s → ListedPut 21 s a (lastOf (decimal n)) r after
+    → ListedPut 29 bytes 0 (refusedText n) r after
 put-refusal bytes n a r s after room p q =
     let one = put-room 8 bytes 0 _ a s p (omega arith) (omega arith) in
     rw (← refused-fields n) (put-two 8 bytes 0 _ a s one (omega arith) 21 _ r after q)
 
 -- ---- the lines of all macroblocks
 -- before the first, and one more
-pub no-lines : (cols : ℕ) (stated bytes : List ℕ) → TextPut (94 * 0) bytes 0 (linesFrom cols stated 0) 0 bytes
+pub no-lines : (cols : ℕ) (stated bytes : List ℕ) → ListedPut (94 * 0) bytes 0 (linesFrom cols stated 0) 0 bytes
 unfolding linesFrom putText
 no-lines cols stated bytes = record { next = refl; short = omega arith; bytes-after = refl }
 
-pub more-lines : (cols : ℕ) (stated bytes : List ℕ) (k at r : ℕ) (mid after : List ℕ) → 94 * k ≤ length bytes → TextPut (94 * k) bytes 0 (linesFrom cols stated k) at mid
-    → TextPut 94 mid at (listingLineAt cols stated k) r after → TextPut (94 * (k + 1)) bytes 0 (linesFrom cols stated (k + 1)) r after
+pub more-lines : (cols : ℕ) (stated bytes : List ℕ) (k at r : ℕ) (mid after : List ℕ) → 94 * k ≤ length bytes → ListedPut (94 * k) bytes 0 (linesFrom cols stated k) at mid
+    → ListedPut 94 mid at (listingLineAt cols stated k) r after → ListedPut (94 * (k + 1)) bytes 0 (linesFrom cols stated (k + 1)) r after
 unfolding linesFrom
 more-lines cols stated bytes k at r mid after room p q =
     let e : 94 * (k + 1) ≡ 94 * k + 94 = omega arith in

@@ -32,7 +32,7 @@ use Rattle.plane_enc.specs.WriterNeeds.{writeEndOf}
 use Rattle.plane_enc.specs.Stated.{threeOf, statedTo, statedIn, PlaneStated}
 use Rattle.listing_job.specs.Job.{mostWidth, mostHeight}
 use Rattle.listing_text.specs.Listing.{outputBytes, modeName, noSlices, macroblockLine, linesTo, totalLine, refusedText, textInto, planeText}
-use Rattle.listing_text.specs.LineForms.{TextPut, nameAt, lineText, listingLineAt, linesFrom}
+use Rattle.listing_text.specs.LineForms.{ListedPut, nameAt, lineText, listingLineAt, linesFrom}
 use Rattle.listing_text.specs.LineFormsLaws.{put-two}
 use Rattle.listing_text.specs.Listed.{listingRoom, mostBlocks, Listable, Fresh, ListedEnd, endText}
 use Rattle.listing_text.specs.FilesLaws.{count-small, area-small}
@@ -139,12 +139,12 @@ module _ (g : Given) (t : Task) (out : List ℕ) (passes : writeRefusal g t out 
 
 -- ---- the text put into a slice
 module _ (cols : ℕ) (stated : List ℕ) (e : WriteEnd) (bytes : List ℕ) (room : listingRoom ≤ length bytes) (r : ℕ) (after : List ℕ) where
-  pub put-refused-end : (e .refused ≡ 0 → ⊥) → TextPut 29 bytes 0 (refusedText (e .refused)) r after → TextPut listingRoom bytes 0 (endText cols stated e) r after
+  pub put-refused-end : (e .refused ≡ 0 → ⊥) → ListedPut 29 bytes 0 (refusedText (e .refused)) r after → ListedPut listingRoom bytes 0 (endText cols stated e) r after
   unfolding endText
   put-refused-end h p = rw (ne-eqb (e .refused) 0 h) (record { next = p .next; short = omega (arith, p .short); bytes-after = p .bytes-after })
 
-  pub put-listed-end : (at : ℕ) (mid : List ℕ) → e .refused ≡ 0 → e .done ≤ mostBlocks → TextPut (94 * e .done) bytes 0 (linesFrom cols stated (e .done)) at mid
-      → TextPut 48 mid at (totalLine (e .bits) (e .error)) r after → TextPut listingRoom bytes 0 (endText cols stated e) r after
+  pub put-listed-end : (at : ℕ) (mid : List ℕ) → e .refused ≡ 0 → e .done ≤ mostBlocks → ListedPut (94 * e .done) bytes 0 (linesFrom cols stated (e .done)) at mid
+      → ListedPut 48 mid at (totalLine (e .bits) (e .error)) r after → ListedPut listingRoom bytes 0 (endText cols stated e) r after
   unfolding endText
   put-listed-end at mid h few p q =
       let both = put-two (94 * e .done) bytes 0 _ at mid p (omega arith) 48 _ r after q in

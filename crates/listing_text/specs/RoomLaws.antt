@@ -21,7 +21,7 @@ use Rattle.plane.specs.Plane.{count, Writing, stepStated, writePlane}
 use Rattle.listing_job.specs.Job.{Job, mostWidth, mostHeight, jobIn}
 use Rattle.listing_job.specs.JobLaws.{job-small}
 use Rattle.listing_text.specs.Listing.{Files, givenOf, taskOf, filesRefusal, noSlices, modeName, stateAt, macroblockLine, linesTo, totalLine, refusedText, textInto, planeText, jobText, listing}
-use Rattle.listing_text.specs.LineForms.{TextPut}
+use Rattle.listing_text.specs.LineForms.{ListedPut}
 use Rattle.listing_text.specs.LineFormsLaws.{decimal-most}
 use Rattle.listing_text.specs.Listed.{listingRoom, mostBlocks, Listed}
 use Rattle.listing_text.specs.FilesLaws.{count-small}
@@ -90,7 +90,7 @@ module _ (f : Files) (text : List ℕ) where
   pub listed-short : length text < listingRoom → Listed f text 0 text
   listed-short h = let e = lt-leb listingRoom (length text) h in record { answer = rw e; text-after = rw e; within = omega arith; counted = refl }
 
-  pub listed-put : (r : ℕ) (after : List ℕ) → listingRoom ≤ length text → TextPut listingRoom text 0 (listing f) r after → Listed f text r after
+  pub listed-put : (r : ℕ) (after : List ℕ) → listingRoom ≤ length text → ListedPut listingRoom text 0 (listing f) r after → Listed f text r after
   unfolding putText
   listed-put r after h p =
       let e = le-leb listingRoom (length text) h in
@@ -100,11 +100,11 @@ module _ (f : Files) (text : List ℕ) where
       record { answer = rw e n; text-after = rw e is; within = inside; counted = sym (length-take-le r after inside) }
 
   -- a job line of another form
-  pub listed-none : (r : ℕ) (after : List ℕ) → listingRoom ≤ length text → jobIn (f .job) ≡ none → TextPut 29 text 0 (refusedText 1) r after → Listed f text r after
+  pub listed-none : (r : ℕ) (after : List ℕ) → listingRoom ≤ length text → jobIn (f .job) ≡ none → ListedPut 29 text 0 (refusedText 1) r after → Listed f text r after
   unfolding listing jobText
   listed-none r after h q p =
       listed-put r after h (rw q (record { next = p .next; short = omega (arith, p .short); bytes-after = p .bytes-after }))
 
-  pub listed-job : (j : Job) (r : ℕ) (after : List ℕ) → listingRoom ≤ length text → jobIn (f .job) ≡ some j → TextPut listingRoom text 0 (jobText f (some j)) r after → Listed f text r after
+  pub listed-job : (j : Job) (r : ℕ) (after : List ℕ) → listingRoom ≤ length text → jobIn (f .job) ≡ some j → ListedPut listingRoom text 0 (jobText f (some j)) r after → Listed f text r after
   unfolding listing
   listed-job j r after h q p = listed-put r after h (rw q p)

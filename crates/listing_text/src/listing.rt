@@ -9,7 +9,7 @@ ghost use Rattle.macroblock_choice.specs.ChosenNeeds.{taskBy};
 ghost use Rattle.macroblock.specs.MacroblockNeeds.{givenBy};
 ghost use Rattle.listing_job.specs.Job.{mostWidth, mostHeight};
 ghost use Rattle.listing_job.specs.JobForms.{jobBy};
-ghost use Rattle.listing_text.specs.LineForms.{TextPut};
+ghost use Rattle.listing_text.specs.LineForms.{ListedPut};
 ghost use Rattle.listing_text.specs.Listing.{filesRefusalBy, planeText, jobText};
 ghost use Rattle.listing_text.specs.Listed.{listingRoom, Listed, filesBy, canvasOf, FilesChecked, Listable, Fresh, ListedEnd, endText};
 use super::inner::lines::put_lines;
@@ -64,7 +64,7 @@ fn files_refusal(
 // What is printed of a plane that was written: its macroblocks and the total, or where it ended early its refusal.
 fn put_plane(text: &mut [u8], cols: usize, stated: &[u32], end: WriteEnd) -> usize
     requires { ⌜ ListedEnd cols (now stated) end × (listingRoom ≤ length (now text)) ⌝ }
-    ensures { λ r. ⌜ TextPut listingRoom (now (text .entry)) 0 (endText cols (now (stated .entry)) end) r (now (text .exit)) ⌝ }
+    ensures { λ r. ⌜ ListedPut listingRoom (now (text .entry)) 0 (endText cols (now (stated .entry)) end) r (now (text .exit)) ⌝ }
 {
     if end.refused != 0 {
         return put_refused(text, end.refused);
@@ -89,7 +89,7 @@ fn list_into(
     text: &mut [u8],
 ) -> usize
     requires { ⌜ Listable (givenBy canvas (now reference) (now book) (now codebook)) (taskBy (now source) settings) × Fresh (now out) (now recon) (now vx) (now vy) (now stated) × (listingRoom ≤ length (now text)) ⌝ }
-    ensures { λ r. ⌜ TextPut listingRoom (now (text .entry)) 0 (planeText (givenBy canvas (now (reference .entry)) (now (book .entry)) (now (codebook .entry))) (taskBy (now (source .entry)) settings)) r (now (text .exit)) ⌝ }
+    ensures { λ r. ⌜ ListedPut listingRoom (now (text .entry)) 0 (planeText (givenBy canvas (now (reference .entry)) (now (book .entry)) (now (codebook .entry))) (taskBy (now (source .entry)) settings)) r (now (text .exit)) ⌝ }
 {
     let cols = canvas.stride / 16;
     let samples = canvas.stride * canvas.rows;
@@ -122,7 +122,7 @@ fn list_plane(
     text: &mut [u8],
 ) -> usize
     requires { ⌜ Listable (givenBy canvas (now reference) (now book) (now codebook)) (taskBy (now source) settings) × (listingRoom ≤ length (now text)) ⌝ }
-    ensures { λ r. ⌜ TextPut listingRoom (now (text .entry)) 0 (planeText (givenBy canvas (now (reference .entry)) (now (book .entry)) (now (codebook .entry))) (taskBy (now (source .entry)) settings)) r (now (text .exit)) ⌝ }
+    ensures { λ r. ⌜ ListedPut listingRoom (now (text .entry)) 0 (planeText (givenBy canvas (now (reference .entry)) (now (book .entry)) (now (codebook .entry))) (taskBy (now (source .entry)) settings)) r (now (text .exit)) ⌝ }
 {
     let mut out = [0u8; 65536];
     let mut recon = [0u8; 25344];
@@ -155,7 +155,7 @@ fn list_job(
     text: &mut [u8],
 ) -> usize
     requires { ⌜ (job .width ≤ mostWidth) × (job .height ≤ mostHeight) × (listingRoom ≤ length (now text)) ⌝ }
-    ensures { λ r. ⌜ TextPut listingRoom (now (text .entry)) 0 (jobText (filesBy (now (book .entry)) (now (codebook .entry)) (now (source .entry)) (now (reference .entry)) []) (some (jobBy job))) r (now (text .exit)) ⌝ }
+    ensures { λ r. ⌜ ListedPut listingRoom (now (text .entry)) 0 (jobText (filesBy (now (book .entry)) (now (codebook .entry)) (now (source .entry)) (now (reference .entry)) []) (some (jobBy job))) r (now (text .exit)) ⌝ }
 {
     let mut held = [0u8; BOOK_BYTES];
     let canvas = canvas_of(job.width, job.height);

@@ -3,13 +3,13 @@ ghost use mathlib.Core.List.{[], _∷_, _++_};
 ghost use Prim.Native.Nat.{_+_, _*_, _≤_, _<_};
 ghost use lib.ListN.{length};
 ghost use Rattle.text.specs.Text.{comma, decimal};
-ghost use Rattle.listing_text.specs.LineForms.{TextPut, nameAt, lineText, linesFrom};
+ghost use Rattle.listing_text.specs.LineForms.{ListedPut, nameAt, lineText, linesFrom};
 ghost use Rattle.listing_text.specs.Listing.{totalLine, refusedText};
 
 // A number and the byte behind it.
 fn put_number(text: &mut [u8], at: usize, n: u64, behind: u8) -> usize
     requires { ⌜ at + 21 ≤ length (now text) ⌝ }
-    ensures { λ r. ⌜ TextPut 21 (now (text .entry)) at (decimal n ++ (behind ∷ [])) r (now (text .exit)) ⌝ }
+    ensures { λ r. ⌜ ListedPut 21 (now (text .entry)) at (decimal n ++ (behind ∷ [])) r (now (text .exit)) ⌝ }
 {
     let next = text::put_decimal(text, at, n);
     text[next] = behind;
@@ -19,7 +19,7 @@ fn put_number(text: &mut [u8], at: usize, n: u64, behind: u8) -> usize
 // A mode's name, by its position in the mode table, and the comma behind it.
 fn put_mode(text: &mut [u8], at: usize, mode: u32) -> usize
     requires { ⌜ at + 10 ≤ length (now text) ⌝ }
-    ensures { λ r. ⌜ TextPut 10 (now (text .entry)) at (nameAt mode ++ (comma ∷ [])) r (now (text .exit)) ⌝ }
+    ensures { λ r. ⌜ ListedPut 10 (now (text .entry)) at (nameAt mode ++ (comma ∷ [])) r (now (text .exit)) ⌝ }
 {
     if mode == 0 {
         return text::put_text(text, at, b"INTER,");
@@ -44,7 +44,7 @@ fn put_macroblock_line(
     error: u64,
 ) -> usize
     requires { ⌜ at + 94 ≤ length (now text) ⌝ }
-    ensures { λ r. ⌜ TextPut 94 (now (text .entry)) at (lineText row column mode bits error) r (now (text .exit)) ⌝ }
+    ensures { λ r. ⌜ ListedPut 94 (now (text .entry)) at (lineText row column mode bits error) r (now (text .exit)) ⌝ }
 {
     let a = put_number(text, at, row, b',');
     let b = put_number(text, a, column, b',');
@@ -56,7 +56,7 @@ fn put_macroblock_line(
 // The lines of `count` macroblocks, `cols` to a row, from three numbers each: the mode's position, the bits, the error.
 pub fn put_lines(text: &mut [u8], cols: usize, stated: &[u32], count: usize) -> usize
     requires { ⌜ (0 < cols) × (3 * count ≤ length (now stated)) × (94 * count ≤ length (now text)) ⌝ }
-    ensures { λ r. ⌜ TextPut (94 * count) (now (text .entry)) 0 (linesFrom cols (now (stated .entry)) count) r (now (text .exit)) ⌝ }
+    ensures { λ r. ⌜ ListedPut (94 * count) (now (text .entry)) 0 (linesFrom cols (now (stated .entry)) count) r (now (text .exit)) ⌝ }
 {
     let mut at = 0;
     let mut k = 0;
@@ -79,7 +79,7 @@ pub fn put_lines(text: &mut [u8], cols: usize, stated: &[u32], count: usize) -> 
 // The last line: both totals.
 pub fn put_total_line(text: &mut [u8], at: usize, bits: u64, error: u64) -> usize
     requires { ⌜ at + 48 ≤ length (now text) ⌝ }
-    ensures { λ r. ⌜ TextPut 48 (now (text .entry)) at (totalLine bits error) r (now (text .exit)) ⌝ }
+    ensures { λ r. ⌜ ListedPut 48 (now (text .entry)) at (totalLine bits error) r (now (text .exit)) ⌝ }
 {
     let a = text::put_text(text, at, b"total,");
     let b = put_number(text, a, bits, b',');
@@ -89,7 +89,7 @@ pub fn put_total_line(text: &mut [u8], at: usize, bits: u64, error: u64) -> usiz
 // A refusal in place of the lines.
 pub fn put_refused(text: &mut [u8], refused: u8) -> usize
     requires { ⌜ 29 ≤ length (now text) ⌝ }
-    ensures { λ r. ⌜ TextPut 29 (now (text .entry)) 0 (refusedText refused) r (now (text .exit)) ⌝ }
+    ensures { λ r. ⌜ ListedPut 29 (now (text .entry)) 0 (refusedText refused) r (now (text .exit)) ⌝ }
 {
     let a = text::put_text(text, 0, b"refused,");
     put_number(text, a, refused as u64, b'\n')

@@ -3,14 +3,14 @@ use native.Mathlib.Omega.{arith}
 use Prim.Native.Nat.{_+_, _-_, _*_, _≤_}
 use mathlib.Core.Path.{_≡_, refl, _∙_}
 use lib.ListN.{length}
-use Rattle.listing_text.specs.LineForms.{TextPut, linesFrom}
+use Rattle.listing_text.specs.LineForms.{ListedPut, linesFrom}
 use Rattle.listing_text.specs.LineFormsLaws.{no-lines, more-lines}
 use borrow.Author.Needs.{needs}
 use Rattle.listing_text.proofs.inner.lines.put_lines.Statement.{statement}
 use Rattle.listing_text.proofs.inner.lines.put_lines.Tie as tie
 
 abbrev Inv-loop : tie.InvT-loop
-Inv-loop text₀ cols stated count at₀ k₀ text at k = (k ≤ count) × (length text ≡ length text₀) × TextPut (94 * k) text₀ 0 (linesFrom cols stated k) at text
+Inv-loop text₀ cols stated count at₀ k₀ text at k = (k ≤ count) × (length text ≡ length text₀) × ListedPut (94 * k) text₀ 0 (linesFrom cols stated k) at text
 
 abbrev μ-loop : tie.MeasureT-loop
 μ-loop text₀ cols stated count at₀ k₀ text at k = count - k
