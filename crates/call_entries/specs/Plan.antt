@@ -4,7 +4,8 @@ use mathlib.Core.List.{List, map}
 use lib.ListN.{replicate}
 use Rattle.bits.specs.Calls.{Answer, done, refused}
 use Rattle.tree.specs.Blocks.{blockCount}
-use Rattle.tree.specs.TreeBits.{Node, PlanMade}
+use Rattle.tree.specs.TreeBits.{Node}
+use Rattle.plan.specs.PlanAnswer.{PlanMade}
 use Rattle.call_entries.specs.Leaf.{filled}
 use Rattle.call_entries.specs.Node.{bareNode, nodePart}
 use Rattle.call_entries.specs.declared.inner.NodePart.{NodePart}

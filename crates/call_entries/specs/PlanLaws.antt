@@ -12,7 +12,8 @@ use Rattle.leaf.specs.LeafCall.{BlockIn}
 use Rattle.tree.specs.Blocks.{blockCount}
 use Rattle.tree.specs.NodeForms.{treeOf}
 use Rattle.plan_call.specs.PlanCall.{PlanAnswered}
-use Rattle.tree.specs.TreeBits.{Node, Off, planAnswer}
+use Rattle.tree.specs.TreeBits.{Node, Off}
+use Rattle.plan.specs.PlanAnswer.{planAnswer}
 use Rattle.plan_call.specs.declared.svq1_enc_tree.PlanAnswer.{PlanAnswer}
 use Rattle.call_entries.specs.declared.inner.NodePart.{NodePart}
 use Rattle.call_entries.specs.LeafLaws.{filled-back}

@@ -1,6 +1,7 @@
 -- The definitions that the contracts of this crate cite.
 pub mod PlanLaws
 pub mod ChoiceLaws
+pub mod PlanAnswer
 pub mod PlanClaim
 pub mod PlanClaimLaws
 pub mod PlannedForms

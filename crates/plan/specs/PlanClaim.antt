@@ -9,7 +9,8 @@ use Rattle.code_tables.specs.Codes.{got}
 use Rattle.leaf.specs.Leaf.{sse}
 use Rattle.leaf.specs.LeafCall.{BlockIn, blockRefusal}
 use Rattle.tree.specs.Plan.{Planning, planWeight, prunedCost}
-use Rattle.tree.specs.TreeBits.{planTree, treeBits, readTree, treeShown, planningOf}
+use Rattle.tree.specs.TreeBits.{planTree, treeBits, readTree, treeShown}
+use Rattle.plan.specs.PlanAnswer.{planningOf}
 
 -- lambda up to here
 abbrev pub largestLambda : ℕ

@@ -27,7 +27,8 @@ use Rattle.tree.specs.RowsLaws.{bytes-gather}
 use Rattle.tree.specs.GeometryLaws.{In, at-first, in-first, in-parts, first-whole, length-block, error-most, error-is, shown, length-shown, bytes-shown}
 use Rattle.tree.specs.Plan.{Weight, Planning, total, pruned, root, leafAt, shownAt, weightAt, planWeight, planSplits, prunedCost, planned}
 use Rattle.plan.specs.PlanLaws.{Under, most-bits, most-err, planned-under, optimal, room, own-plan, splits-zero}
-use Rattle.tree.specs.TreeBits.{Split, Ends, planTree, treeBits, readTree, treeShown, planningOf}
+use Rattle.tree.specs.TreeBits.{Split, Ends, planTree, treeBits, readTree, treeShown}
+use Rattle.plan.specs.PlanAnswer.{planningOf}
 use Rattle.tree.specs.TreeLaws.{Stands, tree-read}
 use Rattle.plan.specs.ChoiceLaws.{bits-are, shown-are}
 use Rattle.plan.specs.PlanClaim.{largestLambda, planCost, PlanClaimed}

@@ -16,7 +16,8 @@ use Rattle.tree.specs.NodeForms.{treeOf, offBlock, CleanBlock}
 use Rattle.plan.specs.PlanClaim.{PlanClaim}
 use Rattle.plan.specs.PlannedForms.{weight}
 use Rattle.plan.specs.PlanNeeds.{planningIn, PlanFound}
-use Rattle.tree.specs.TreeBits.{PlanMade, planAnswer, planTree, treeShown}
+use Rattle.tree.specs.TreeBits.{planTree, treeShown}
+use Rattle.plan.specs.PlanAnswer.{PlanMade, planAnswer}
 use Rattle.plan.specs.declared.svq1_enc_tree.MbPlan.{MbPlan}
 use Rattle.plan_call.specs.declared.svq1_enc_tree.PlanAnswer.{PlanAnswer}
 

@@ -20,7 +20,8 @@ use Rattle.tree.specs.Plan.{Planning}
 use Rattle.plan.specs.PlanNeeds.{PlanReady, planningIn, PlanFound}
 use Rattle.plan.specs.PlanNeedsLaws.{plan-ready}
 use Rattle.tree_samples.specs.ShownLaws.{rebuilt-shown}
-use Rattle.tree.specs.TreeBits.{treeShown, planMade, planAnswer}
+use Rattle.tree.specs.TreeBits.{treeShown}
+use Rattle.plan.specs.PlanAnswer.{planMade, planAnswer}
 use Rattle.tree.specs.NodeForms.{treeOf, offBlock, CleanBlock}
 use Rattle.tree.specs.WalkNeeds.{SoundTree}
 use Rattle.plan.specs.FrontNeeds.{FrontReady, FrontShown}

@@ -5,16 +5,13 @@ use mathlib.Core.List.{List, [], _∷_, _++_}
 use lib.Dec.{eqb}
 use lib.ListN.{length, getD, replicate}
 use Rattle.bits.specs.Basics.{pick}
-use Rattle.bits.specs.Calls.{Answer, done, unlessRefused}
 use Rattle.code_tables.specs.Codes.{Got, got, bad, then}
-use Rattle.book.specs.Book.{Tables, tablesOf}
+use Rattle.book.specs.Book.{Tables}
 use Rattle.book.specs.Level.{width, area}
-use Rattle.codebook.specs.Codebook.{vectorAt}
 use Rattle.leaf.specs.Leaf.{Leaf, Vectors}
 use Rattle.leaf.specs.LeafBits.{leafBits, readLeaf}
-use Rattle.leaf.specs.LeafCall.{BlockIn, termsOf, blockRefusal}
 use Rattle.tree.specs.Blocks.{blockCount, level, first, rebuilt}
-use Rattle.tree.specs.Plan.{Weight, Planning, root, leafAt, shownAt, planSplits, planWeight}
+use Rattle.tree.specs.Plan.{Planning, root, leafAt, shownAt, planSplits}
 
 -- a block that the tree does not reach, a split, a leaf
 pub data Node : Type 0 where
@@ -90,28 +87,3 @@ nodeShows shows i (Ends l) = shows i l
 unfoldable pub treeShown : (ℕ → Vectors) → ℕ → List ℕ → List Node → List ℕ
 treeShown vectors d predictor t =
     rebuilt (width d) (λ i. isSplit (getD t i Off)) (λ i. nodeShows (shownAt vectors (width d) predictor) i (getD t i Off)) d (first d) (replicate (area d) 0)
-
--- ---- a plan as a call: its tree, its bits and error, the samples that it shows; it takes no result slice
-abbrev pub planningOf : BlockIn → ℕ → Planning
-planningOf b lambda = record {
-  tables = tablesOf (b .book) (termsOf b .half);
-  vectors = vectorAt (b .codebook) (termsOf b .half);
-  terms = termsOf b;
-  lambda = lambda;
-  level = b .level;
-  target = b .target;
-  predictor = b .predictor;
-}
-
-pub record PlanMade : Type 0 where
-  pub tree : List Node
-  pub weight : Weight
-  pub shown : List ℕ
-
-unfoldable pub planMade : BlockIn → ℕ → PlanMade
-planMade b lambda =
-    let g = planningOf b lambda in
-    record { tree = planTree g; weight = planWeight g; shown = treeShown (g .vectors) (g .level) (g .predictor) (planTree g) }
-
-unfoldable pub planAnswer : BlockIn → ℕ → Answer PlanMade
-planAnswer b lambda = unlessRefused (blockRefusal b) (done (planMade b lambda))
