@@ -7,7 +7,7 @@ use lib.ListN.{getD}
 use Rattle.bits.specs.Basics.{pick}
 use Rattle.text.specs.Text.{same}
 use Rattle.plane_enc.specs.declared.svq1_enc_inter.WriteEnd.{WriteEnd}
-use Rattle.plane.specs.declared.svq1_plane.ReadEnd.{ReadEnd}
+use Rattle.plane_dec.specs.declared.svq1_plane.ReadEnd.{ReadEnd}
 use Rattle.replay.specs.declared.inner.file.Job.{Job}
 use Rattle.replay.specs.declared.inner.compare.Difference.{Difference}
 use Rattle.replay.specs.declared.inner.compare.Difference.the-variants.{Same, Refusal, Done, Next, Count, Bits, Steps, Samples, X, Y}
