@@ -1,4 +1,4 @@
--- Laws of raised numbers: differences, one sample more in a loop, the first of the least, the mean, vectors added in place, and the stages.
+-- Laws of raised numbers: differences, a vector's sample added, the first of the least, the mean, vectors added in place, and the stages.
 -- Assumes nothing.
 use mathlib.Core.Path.{_≡_, refl, sym, _∙_, ap}
 use mathlib.Core.List.{List, [], _∷_, _++_, map, append-assoc, append-nil}
@@ -11,23 +11,16 @@ use borrow.Author.Tests.{lt-ltb, le-ltb}
 use lib.IntN.{ℤ, pos, subℕ, _+ℤ_, negℤ}
 use lib.ListN.{length, take, drop, getD, set, length-map}
 use lib.Seq.{take-length, drop-cons, drop-length, take-suc-set, drop-set-lt, drop-drop, getD-drop}
-use Rattle.bits.specs.Basics.{gap, Bytes}
+use Rattle.bits.specs.Basics.{Bytes}
 use Rattle.bits.specs.DifferenceLaws.{sub-add, pos-is}
 use Rattle.book.specs.declared.svq1_vlc.Svq1Half.{Svq1Half}
 use Rattle.book.specs.declared.svq1_vlc.Svq1Half.the-variants.{Intra, Inter}
 use Rattle.codebook.specs.Mean.{residual, rounded, clampMean, meanOf, saturate}
 use Rattle.leaf.specs.Leaf.{sse, plus, samples, seeded, argmin, stageError, bestVector, stages}
-use Rattle.leaf.specs.LeafForms.{less, vector, vectorsIn, vectorError, sampleSum, plusN, sqd}
-
-pub gap-le : {t c : ℕ} → t ≤ 255 → c ≤ 255 → gap t c ≤ 255
-gap-le ht hc = omega arith
+use Rattle.leaf.specs.LeafForms.{less, vector, vectorsIn, vectorError, sampleSum, plusN}
 
 pub square-le : {d : ℕ} → d ≤ 255 → d * d ≤ 65025
 square-le h = mul-le-mul h h
-
-pub sqd-le : {t c : ℕ} → t ≤ 255 → c ≤ 255 → sqd t c ≤ 65025
-unfolding sqd
-sqd-le {t} {c} ht hc = square-le (gap-le {t = t} {c = c} ht hc)
 
 -- the biased code of a signed number, clamped
 pub saturate-less : (a b : ℕ) → saturate (subℕ a b) ≡ min 255 (a - b)

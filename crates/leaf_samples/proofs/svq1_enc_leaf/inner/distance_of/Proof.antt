@@ -1,9 +1,7 @@
 -- The squared distance of two blocks, in two 16-bit totals (`Totals`). Assumes nothing.
 use Prim.Native.Nat.{_-_}
 use lib.ListN.{length}
-use Rattle.leaf.specs.LeafForms.{sqd}
 use Rattle.leaf_samples.specs.TotalsLaws.{Totals, one-more, all-summed}
-use native.Mathlib.Omega.{arith}
 use borrow.Author.Needs.{needs}
 use Rattle.leaf_samples.proofs.svq1_enc_leaf.inner.distance_of.Statement.{statement}
 use Rattle.leaf_samples.proofs.svq1_enc_leaf.inner.distance_of.Tie as tie

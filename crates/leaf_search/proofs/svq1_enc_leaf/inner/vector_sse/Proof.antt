@@ -1,6 +1,5 @@
 -- The squared distance from the sums with the vector added, in two 16-bit totals (`Totals`). Assumes nothing.
 use native.Mathlib.Omega.{arith}
-use mathlib.Core.Path.{_∙_}
 use Prim.Native.Nat.{_-_}
 use lib.ListN.{length}
 use Rattle.leaf.specs.Leaf.{plus, samples}
@@ -60,7 +59,7 @@ loop-again c =
     let l = c .before .before .before .before .before .before .loop in
     let s = c .before .before .before .before .before .before .before .before .before .before in
     let v = vector-at (s .args .a .now) (s .args .w .now) (s .args .bias) (l .i) (search needs) (search needs) (s .pre .4) in
-    one-more (l .inv) (c .error-at .result) (search needs) (v .0) ((rw (c .before .wide .ensures .0) at (c .error-at .ensures .0)) ∙ rw (v .1)) (c .error-at .ensures .1)
+    one-more (l .inv) (c .error-at .result) (search needs) (v .0) (rw (v .1, ← c .before .wide .ensures .0) (c .error-at .ensures .0)) (c .error-at .ensures .1)
 
 cast-result : tie.Need-cast-result Inv-loop μ-loop
 cast-result c = search needs
