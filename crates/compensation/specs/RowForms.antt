@@ -24,15 +24,17 @@ pub record Sides (n : ℕ) : Type 0 where
   pub even : n % 8 ≡ 0
   pub most : n ≤ 16
 
--- the absolute error of the n samples of t from place ti on against the means of those of s from a and b on, and of four
-abbrev pub againstTwo : List ℕ → List ℕ → ℕ → ℕ → ℕ → ℕ → ℕ
-againstTwo t s ti a b n = sum (λ k. gap (getD t (ti + k) 0) (mean2 (getD s (a + k) 0) (getD s (b + k) 0))) n
+-- the absolute error of n samples of t against a row, against the means of two rows, and of four
+abbrev pub against : List ℕ → List ℕ → ℕ → ℕ
+against t a n = sum (λ k. gap (getD t k 0) (getD a k 0)) n
 
-abbrev pub againstFour : List ℕ → List ℕ → ℕ → ℕ → ℕ → ℕ → ℕ
-againstFour t s ti a b n =
-    sum (λ k. gap (getD t (ti + k) 0) (mean4 (getD s (a + k) 0) (getD s (a + 1 + k) 0) (getD s (b + k) 0) (getD s (b + 1 + k) 0))) n
+abbrev pub againstTwo : List ℕ → List ℕ → List ℕ → ℕ → ℕ
+againstTwo t a b n = sum (λ k. gap (getD t k 0) (mean2 (getD a k 0) (getD b k 0))) n
 
--- the same against those at p, between columns and rows as ox and oy say
+abbrev pub againstFour : List ℕ → List ℕ → List ℕ → List ℕ → List ℕ → ℕ → ℕ
+againstFour t a b c d n = sum (λ k. gap (getD t k 0) (mean4 (getD a k 0) (getD b k 0) (getD c k 0) (getD d k 0))) n
+
+-- the absolute error of the n samples of t from place ti on against those at p, between columns and rows as ox and oy say
 abbrev pub cells : List ℕ → Canvas → ℕ → ℕ → ℕ → ℕ → ℕ → ℕ
 cells t c n ox oy ti p = sum (λ j. gap (getD t (ti + j) 0) (cell c ox oy (p + j))) n
 

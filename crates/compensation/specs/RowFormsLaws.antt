@@ -11,11 +11,10 @@ use lib.IntN.{pos}
 use lib.ListN.{length, getD, take, drop, length-take, length-drop}
 use lib.Seq.{getD-drop, getD-take}
 use borrow.Author.Tests.{lt-ltb, eq-eqb, ne-eqb, eqb-false}
-use Rattle.bits.specs.Basics.{gap, sum}
 use Rattle.compensation.specs.declared.svq1_enc_inter.inner.Taken.{Taken}
 use Rattle.canvas.specs.Canvas.{Canvas}
-use Rattle.compensation.specs.Compensation.{mean2, mean4, sampleAt, halfSample}
-use Rattle.compensation.specs.RowForms.{againstTwo, againstFour, cell, cells, ReadIn, Summed}
+use Rattle.compensation.specs.Compensation.{sampleAt, halfSample}
+use Rattle.compensation.specs.RowForms.{against, againstTwo, againstFour, cell, cells, ReadIn, Summed}
 use Rattle.bits.specs.SumLaws.{sum-same}
 
 -- ---- inside the canvas
@@ -101,40 +100,41 @@ partOf xs a n = take (a + n - a) (drop a xs)
 pub part-len : (xs : List ℕ) (a n : ℕ) → a + n ≤ length xs → length (partOf xs a n) ≡ n
 part-len xs a n h = simp (length-take, length-drop) (omega arith)
 
-pub part-at : (xs : List ℕ) (a n j : ℕ) → j < n → getD (partOf xs a n) j 0 ≡ getD xs (a + j) 0
-part-at xs a n j h = let e : a + n - a ≡ n = omega arith in rw e (rw (getD-take, getD-drop))
+pub part-at : (xs : List ℕ) (a n j : ℕ) → j < n → getD (partOf xs a n) j 0 ≡ getD (drop a xs) j 0
+part-at xs a n j h = let e : a + n - a ≡ n = omega arith in rw e (rw getD-take)
 
 -- sums over parts
 module _ (t s : List ℕ) (ti a b n : ℕ) where
-  pub parts-two : sum (λ k. gap (getD (partOf t ti n) k 0) (mean2 (getD (partOf s a n) k 0) (getD (partOf s b n) k 0))) n ≡ againstTwo t s ti a b n
+  pub parts-two : againstTwo (partOf t ti n) (partOf s a n) (partOf s b n) n ≡ againstTwo (drop ti t) (drop a s) (drop b s) n
   parts-two = sum-same _ _ n (λ k h. simp (part-at t ti n k h, part-at s a n k h, part-at s b n k h))
 
-  pub parts-four : sum (λ k. gap (getD (partOf t ti n) k 0) (mean4 (getD (partOf s a n) k 0) (getD (partOf s (a + 1) n) k 0) (getD (partOf s b n) k 0) (getD (partOf s (b + 1) n) k 0))) n
-      ≡ againstFour t s ti a b n
+  pub parts-four : againstFour (partOf t ti n) (partOf s a n) (partOf s (a + 1) n) (partOf s b n) (partOf s (b + 1) n) n
+      ≡ againstFour (drop ti t) (drop a s) (drop (a + 1) s) (drop b s) (drop (b + 1) s) n
   parts-four = sum-same _ _ n (λ k h. simp (part-at t ti n k h, part-at s a n k h, part-at s (a + 1) n k h, part-at s b n k h, part-at s (b + 1) n k h))
 
 -- ---- a row at a full sample, between columns, between rows, and between both
 module _ (t : List ℕ) (c : Canvas) (n ox oy ti p : ℕ) where
-  pub row-full : ox ≡ 0 → oy ≡ 0 → sum (λ k. gap (getD (partOf t ti n) k 0) (getD (partOf (c .samples) p n) k 0)) n ≡ cells t c n ox oy ti p
+  pub row-full : ox ≡ 0 → oy ≡ 0 → against (partOf t ti n) (partOf (c .samples) p n) n ≡ cells t c n ox oy ti p
   unfolding cell
-  row-full e f = sum-same _ _ n (λ k h. simp (eq-eqb ox 0 e, eq-eqb oy 0 f, part-at t ti n k h, part-at (c .samples) p n k h))
+  row-full e f = sum-same _ _ n (λ k h. simp (eq-eqb ox 0 e, eq-eqb oy 0 f, part-at t ti n k h, part-at (c .samples) p n k h, getD-drop))
 
-  pub row-across : (ox ≡ 0 → ⊥) → oy ≡ 0 → againstTwo t (c .samples) ti p (p + 1) n ≡ cells t c n ox oy ti p
+  pub row-across : (ox ≡ 0 → ⊥) → oy ≡ 0 → againstTwo (drop ti t) (drop p (c .samples)) (drop (p + 1) (c .samples)) n ≡ cells t c n ox oy ti p
   unfolding cell
-  row-across e f = sum-same _ _ n (λ k h. let q : p + 1 + k ≡ p + k + 1 = omega arith in simp (ne-eqb ox 0 e, eq-eqb oy 0 f, q))
+  row-across e f = sum-same _ _ n (λ k h. let q : p + 1 + k ≡ p + k + 1 = omega arith in simp (ne-eqb ox 0 e, eq-eqb oy 0 f, getD-drop, q))
 
-  pub row-down : ox ≡ 0 → (oy ≡ 0 → ⊥) → againstTwo t (c .samples) ti p (p + c .stride) n ≡ cells t c n ox oy ti p
+  pub row-down : ox ≡ 0 → (oy ≡ 0 → ⊥) → againstTwo (drop ti t) (drop p (c .samples)) (drop (p + c .stride) (c .samples)) n ≡ cells t c n ox oy ti p
   unfolding cell
-  row-down e f = sum-same _ _ n (λ k h. let q : p + c .stride + k ≡ p + k + c .stride = omega arith in simp (eq-eqb ox 0 e, ne-eqb oy 0 f, q))
+  row-down e f = sum-same _ _ n (λ k h. let q : p + c .stride + k ≡ p + k + c .stride = omega arith in simp (eq-eqb ox 0 e, ne-eqb oy 0 f, getD-drop, q))
 
-  pub row-both : (ox ≡ 0 → ⊥) → (oy ≡ 0 → ⊥) → againstFour t (c .samples) ti p (p + c .stride) n ≡ cells t c n ox oy ti p
+  pub row-both : (ox ≡ 0 → ⊥) → (oy ≡ 0 → ⊥)
+      → againstFour (drop ti t) (drop p (c .samples)) (drop (p + 1) (c .samples)) (drop (p + c .stride) (c .samples)) (drop (p + c .stride + 1) (c .samples)) n ≡ cells t c n ox oy ti p
   unfolding cell
   row-both e f =
       sum-same _ _ n (λ k h.
       let q : p + c .stride + k ≡ p + k + c .stride = omega arith in
       let r : p + 1 + k ≡ p + k + 1 = omega arith in
       let s : p + c .stride + 1 + k ≡ p + k + c .stride + 1 = omega arith in
-      simp (ne-eqb ox 0 e, ne-eqb oy 0 f, q, r, s))
+      simp (ne-eqb ox 0 e, ne-eqb oy 0 f, getD-drop, q, r, s))
 
 -- ---- row i of a block that is read inside the canvas
 pub record RowIn (t : List ℕ) (c : Canvas) (n ox oy x0 y0 i : ℕ) : Type 0 where

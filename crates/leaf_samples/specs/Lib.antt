@@ -1,4 +1,5 @@
 -- The definitions that the contracts of this crate cite; the laws that callers cite stand in the files named `..Laws`.
 pub mod RaisedLaws
+pub mod TotalsLaws
 pub mod ShowNeeds
 pub mod ShowNeedsLaws

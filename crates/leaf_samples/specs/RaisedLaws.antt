@@ -1,4 +1,4 @@
--- Laws of raised numbers: differences, one sample more in a loop, the first of the least, the mean, vectors added in place, and the stages.
+-- Laws of raised numbers: differences, a vector's sample added, the first of the least, the mean, vectors added in place, and the stages.
 -- Assumes nothing.
 use mathlib.Core.Path.{_≡_, refl, sym, _∙_, ap}
 use mathlib.Core.List.{List, [], _∷_, _++_, map, append-assoc, append-nil}
@@ -11,23 +11,16 @@ use borrow.Author.Tests.{lt-ltb, le-ltb}
 use lib.IntN.{ℤ, pos, subℕ, _+ℤ_, negℤ}
 use lib.ListN.{length, take, drop, getD, set, length-map}
 use lib.Seq.{take-length, drop-cons, drop-length, take-suc-set, drop-set-lt, drop-drop, getD-drop}
-use Rattle.bits.specs.Basics.{gap, Bytes}
+use Rattle.bits.specs.Basics.{Bytes}
 use Rattle.bits.specs.DifferenceLaws.{sub-add, pos-is}
 use Rattle.book.specs.declared.svq1_vlc.Svq1Half.{Svq1Half}
 use Rattle.book.specs.declared.svq1_vlc.Svq1Half.the-variants.{Intra, Inter}
 use Rattle.codebook.specs.Mean.{residual, rounded, clampMean, meanOf, saturate}
 use Rattle.leaf.specs.Leaf.{sse, plus, samples, seeded, argmin, stageError, bestVector, stages}
-use Rattle.leaf.specs.LeafForms.{less, vector, vectorsIn, vectorError, sampleSum, plusN, sqd}
-
-pub gap-le : {t c : ℕ} → t ≤ 255 → c ≤ 255 → gap t c ≤ 255
-gap-le ht hc = omega arith
+use Rattle.leaf.specs.LeafForms.{less, vector, vectorsIn, vectorError, sampleSum, plusN}
 
 pub square-le : {d : ℕ} → d ≤ 255 → d * d ≤ 65025
 square-le h = mul-le-mul h h
-
-pub sqd-le : {t c : ℕ} → t ≤ 255 → c ≤ 255 → sqd t c ≤ 65025
-unfolding sqd
-sqd-le {t} {c} ht hc = square-le (gap-le {t = t} {c = c} ht hc)
 
 -- the biased code of a signed number, clamped
 pub saturate-less : (a b : ℕ) → saturate (subℕ a b) ≡ min 255 (a - b)
@@ -41,27 +34,19 @@ saturate-less a b = go (decLe b a)
         let e : a - b ≡ 0 = omega arith in
         simp (lt-ltb _ _ h₁, e)
 
--- one sample more
-pub sse-step : (t a : List ℕ) (b i : ℕ) → i < length t → length a ≡ length t →
-    sse (drop i t) (samples (less b (drop i a)))
-    ≡ sqd (getD t i 0) (saturate (subℕ (getD a i 0) b)) + sse (drop (i + 1) t) (samples (less b (drop (i + 1) a)))
-unfolding sse less samples sqd
-sse-step t a b i h e =
-    let h₁ : i < length a = omega arith in
-    simp (add-one, drop-cons t i 0 h, drop-cons a i 0 h₁)
-
--- ---- a difference of two naturals
-
--- one sample more, with a vector added
-pub vector-step : (t a w : List ℕ) (b i : ℕ) → i < length t → length a ≡ length t → length w ≡ length t → 128 ≤ b →
-    sse (drop i t) (samples (plus (less (b - 128) (drop i a)) (less 128 (drop i w))))
-    ≡ sqd (getD t i 0) (saturate (subℕ (getD a i 0 + getD w i 0) b)) + sse (drop (i + 1) t) (samples (plus (less (b - 128) (drop (i + 1) a)) (less 128 (drop (i + 1) w))))
-unfolding sse less plus samples sqd
-vector-step t a w b i h e f l =
-    let h₁ : i < length a = omega arith in
-    let h₂ : i < length w = omega arith in
+-- sample i of the sums with a vector added; the two biases add up
+pub vector-at : (a w : List ℕ) (b i : ℕ) → i < length a → length w ≡ length a → 128 ≤ b →
+    (i < length (samples (plus (less (b - 128) a) (less 128 w)))) ×
+    (getD (samples (plus (less (b - 128) a) (less 128 w))) i 0 ≡ saturate (subℕ (getD a i 0 + getD w i 0) b))
+unfolding samples plus less
+vector-at [] w b i h e l = absurd (omega arith)
+vector-at (x ∷ a) [] b i h e l = absurd (omega arith)
+vector-at (x ∷ a) (y ∷ w) b zero h e l =
     let m : b - 128 + 128 ≡ b = omega arith in
-    simp (add-one, drop-cons t i 0 h, drop-cons a i 0 h₁, drop-cons w i 0 h₂, sub-add, m)
+    (omega arith, simp (sub-add, m))
+vector-at (x ∷ a) (y ∷ w) b (suc i) h e l =
+    let r = vector-at a w b i (omega arith) (omega arith) l in
+    (omega (arith, r .0), r .1)
 
 -- ---- the first place of the least
 
@@ -263,13 +248,6 @@ samples-bytes (x ∷ p) b =
     rw e (ap (λ (l : List ℕ). x ∷ l) (samples-bytes p (λ k. b (suc k))))
 
 -- ---- blocks of samples
-pub plain-step : (t p : List ℕ) (i : ℕ) → i < length t → length p ≡ length t
-    → sse (drop i t) (drop i p) ≡ gap (getD t i 0) (getD p i 0) * gap (getD t i 0) (getD p i 0) + sse (drop (i + 1) t) (drop (i + 1) p)
-unfolding sse
-plain-step t p i h e =
-    let h₁ : i < length p = omega arith in
-    simp (add-one, drop-cons t i 0 h, drop-cons p i 0 h₁)
-
 pub length-shown-sums : (b : ℕ) (a : List ℕ) → length (samples (less b a)) ≡ length a
 unfolding samples less
 length-shown-sums b a = length-map (map (λ x. subℕ x b) a) saturate ∙ length-map a (λ x. subℕ x b)

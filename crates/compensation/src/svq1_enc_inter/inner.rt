@@ -1,9 +1,9 @@
 ghost use mathlib.Core.Path.{_≡_};
 ghost use Prim.Native.Nat.{_+_, _*_, _<_, _≤_};
-ghost use lib.ListN.{length, getD};
-ghost use Rattle.bits.specs.Basics.{sum, gap as gapOf};
+ghost use lib.ListN.{length, drop};
+ghost use Rattle.bits.specs.Basics.{gap as gapOf};
 ghost use Rattle.compensation.specs.Compensation.{mean2 as meanOf2, mean4 as meanOf4};
-ghost use Rattle.compensation.specs.RowForms.{Sides, againstTwo, againstFour, cells, ReadIn, Summed};
+ghost use Rattle.compensation.specs.RowForms.{Sides, against, againstTwo, againstFour, cells, ReadIn, Summed};
 
 // What summing a vector's absolute error answers: its sum, and the rows taken.
 pub struct Taken {
@@ -37,7 +37,7 @@ pub fn mean4(a: u8, b: u8, c: u8, d: u8) -> u8
 // sum is kept in 16 bits, which lets it be made by `psadbw`.
 fn sad(t: &[u8], a: &[u8], n: usize) -> u16
     requires { ⌜ (n ≤ 16) × (length (now t) ≡ n) × (length (now a) ≡ n) ⌝ }
-    ensures { λ r. ⌜ (r ≡ sum (λ k. gapOf (getD (now (t .entry)) k 0) (getD (now (a .entry)) k 0)) n) × (r ≤ 255 * n) ⌝ }
+    ensures { λ r. ⌜ (r ≡ against (now (t .entry)) (now (a .entry)) n) × (r ≤ 255 * n) ⌝ }
 {
     let mut sum: u16 = 0;
     let mut i = 0;
@@ -50,7 +50,7 @@ fn sad(t: &[u8], a: &[u8], n: usize) -> u16
 
 fn sum_two(t: &[u8], a: &[u8], b: &[u8], n: usize) -> u16
     requires { ⌜ (n ≤ 16) × (length (now t) ≡ n) × (length (now a) ≡ n) × (length (now b) ≡ n) ⌝ }
-    ensures { λ r. ⌜ (r ≡ sum (λ k. gapOf (getD (now (t .entry)) k 0) (meanOf2 (getD (now (a .entry)) k 0) (getD (now (b .entry)) k 0))) n) × (r ≤ 255 * n) ⌝ }
+    ensures { λ r. ⌜ (r ≡ againstTwo (now (t .entry)) (now (a .entry)) (now (b .entry)) n) × (r ≤ 255 * n) ⌝ }
 {
     let mut sum: u16 = 0;
     let mut i = 0;
@@ -63,7 +63,7 @@ fn sum_two(t: &[u8], a: &[u8], b: &[u8], n: usize) -> u16
 
 fn sum_four(t: &[u8], a: &[u8], b: &[u8], c: &[u8], d: &[u8], n: usize) -> u16
     requires { ⌜ (n ≤ 16) × (length (now t) ≡ n) × (length (now a) ≡ n) × (length (now b) ≡ n) × (length (now c) ≡ n) × (length (now d) ≡ n) ⌝ }
-    ensures { λ r. ⌜ (r ≡ sum (λ k. gapOf (getD (now (t .entry)) k 0) (meanOf4 (getD (now (a .entry)) k 0) (getD (now (b .entry)) k 0) (getD (now (c .entry)) k 0) (getD (now (d .entry)) k 0))) n) × (r ≤ 255 * n) ⌝ }
+    ensures { λ r. ⌜ (r ≡ againstFour (now (t .entry)) (now (a .entry)) (now (b .entry)) (now (c .entry)) (now (d .entry)) n) × (r ≤ 255 * n) ⌝ }
 {
     let mut sum: u16 = 0;
     let mut i = 0;
@@ -77,7 +77,7 @@ fn sum_four(t: &[u8], a: &[u8], b: &[u8], c: &[u8], d: &[u8], n: usize) -> u16
 // The same with the side as a constant in each call, so that each loop has a known length.
 fn gaps_two(t: &[u8], a: &[u8], b: &[u8], n: usize) -> u16
     requires { ⌜ Sides n × (length (now t) ≡ n) × (length (now a) ≡ n) × (length (now b) ≡ n) ⌝ }
-    ensures { λ r. ⌜ (r ≡ sum (λ k. gapOf (getD (now (t .entry)) k 0) (meanOf2 (getD (now (a .entry)) k 0) (getD (now (b .entry)) k 0))) n) × (r ≤ 255 * n) ⌝ }
+    ensures { λ r. ⌜ (r ≡ againstTwo (now (t .entry)) (now (a .entry)) (now (b .entry)) n) × (r ≤ 255 * n) ⌝ }
 {
     if n == 16 {
         return sum_two(t, a, b, 16);
@@ -87,7 +87,7 @@ fn gaps_two(t: &[u8], a: &[u8], b: &[u8], n: usize) -> u16
 
 fn gaps_four(t: &[u8], a: &[u8], b: &[u8], c: &[u8], d: &[u8], n: usize) -> u16
     requires { ⌜ Sides n × (length (now t) ≡ n) × (length (now a) ≡ n) × (length (now b) ≡ n) × (length (now c) ≡ n) × (length (now d) ≡ n) ⌝ }
-    ensures { λ r. ⌜ (r ≡ sum (λ k. gapOf (getD (now (t .entry)) k 0) (meanOf4 (getD (now (a .entry)) k 0) (getD (now (b .entry)) k 0) (getD (now (c .entry)) k 0) (getD (now (d .entry)) k 0))) n) × (r ≤ 255 * n) ⌝ }
+    ensures { λ r. ⌜ (r ≡ againstFour (now (t .entry)) (now (a .entry)) (now (b .entry)) (now (c .entry)) (now (d .entry)) n) × (r ≤ 255 * n) ⌝ }
 {
     if n == 16 {
         return sum_four(t, a, b, c, d, 16);
@@ -99,7 +99,7 @@ fn gaps_four(t: &[u8], a: &[u8], b: &[u8], c: &[u8], d: &[u8], n: usize) -> u16
 // from one place further on each.
 fn two_at(t: &[u8], reference: &[u8], ti: usize, a: usize, b: usize, n: usize) -> u16
     requires { ⌜ Sides n × (ti + n ≤ length (now t)) × (a + n ≤ length (now reference)) × (b + n ≤ length (now reference)) ⌝ }
-    ensures { λ r. ⌜ (r ≡ againstTwo (now (t .entry)) (now (reference .entry)) ti a b n) × (r ≤ 255 * n) ⌝ }
+    ensures { λ r. ⌜ (r ≡ againstTwo (drop ti (now (t .entry))) (drop a (now (reference .entry))) (drop b (now (reference .entry))) n) × (r ≤ 255 * n) ⌝ }
 {
     gaps_two(
         &t[ti..ti + n],
@@ -111,7 +111,7 @@ fn two_at(t: &[u8], reference: &[u8], ti: usize, a: usize, b: usize, n: usize) -
 
 fn four_at(t: &[u8], reference: &[u8], ti: usize, a: usize, b: usize, n: usize) -> u16
     requires { ⌜ Sides n × (ti + n ≤ length (now t)) × (a + 1 + n ≤ length (now reference)) × (b + 1 + n ≤ length (now reference)) ⌝ }
-    ensures { λ r. ⌜ (r ≡ againstFour (now (t .entry)) (now (reference .entry)) ti a b n) × (r ≤ 255 * n) ⌝ }
+    ensures { λ r. ⌜ (r ≡ againstFour (drop ti (now (t .entry))) (drop a (now (reference .entry))) (drop (a + 1) (now (reference .entry))) (drop b (now (reference .entry))) (drop (b + 1) (now (reference .entry))) n) × (r ≤ 255 * n) ⌝ }
 {
     let c = a + 1;
     let d = b + 1;

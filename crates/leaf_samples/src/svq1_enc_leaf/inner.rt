@@ -5,7 +5,7 @@ ghost use lib.ListN.{length, take, drop, getD};
 ghost use lib.IntN.{subℕ};
 ghost use Rattle.bits.specs.Basics.{gap};
 ghost use Rattle.leaf.specs.Leaf.{coded, sse, samples, seeded, staged, leafShown};
-ghost use Rattle.leaf.specs.LeafForms.{less, Below, plusN, vectorsIn, leafOf};
+ghost use Rattle.leaf.specs.LeafForms.{less, Below, plusN, sqd, vectorsIn, leafOf};
 ghost use Rattle.leaf_samples.specs.ShowNeeds.{MeanKnown, Sized, Staging, CodeShows, Adding};
 use book::svq1_vlc::Svq1Half;
 use leaf::svq1_enc_leaf::LeafCode;
@@ -28,11 +28,20 @@ pub fn shown(a: u16, bias: u16) -> u16
 }
 
 // The distance of two samples.
-pub fn distance(t: u8, c: u16) -> u16
+fn distance(t: u8, c: u16) -> u16
     ensures { λ r. ⌜ r ≡ gap t c ⌝ }
 {
     let x = t as u16;
     if x < c { c - x } else { x - c }
+}
+
+// The square of that distance.
+pub fn squared(t: u8, c: u16) -> u16
+    requires { ⌜ c ≤ 255 ⌝ }
+    ensures { λ r. ⌜ (r ≡ sqd t c) × (r ≤ 65025) ⌝ }
+{
+    let d = distance(t, c);
+    d * d
 }
 
 pub fn wide(x: u8) -> u16
@@ -79,7 +88,7 @@ pub fn seed(a: &mut [u16], p: &[u8], mean: u16)
     }
 }
 
-// The squared distance of two blocks.
+// The squared distance of two blocks. Two 16-bit totals, of the low and the high bytes, cannot overflow for 256 samples.
 pub fn distance_of(t: &[u8], p: &[u8]) -> u32
     requires { ⌜ (length (now t) ≤ 256) × (length (now p) ≡ length (now t)) ⌝ }
     ensures { λ r. ⌜ r ≡ sse (now (t .entry)) (now (p .entry)) ⌝ }
@@ -88,20 +97,12 @@ pub fn distance_of(t: &[u8], p: &[u8]) -> u32
     let mut high: u16 = 0;
     let mut i = 0;
     while i < t.len() {
-        let d = distance(t[i], wide(p[i]));
-        let e = squared(d);
+        let e = squared(t[i], wide(p[i]));
         low += e % 256;
         high += e / 256;
         i += 1;
     }
     (low as u32) + (high as u32) * 256
-}
-
-fn squared(d: u16) -> u16
-    requires { ⌜ d ≤ 255 ⌝ }
-    ensures { λ r. ⌜ (r ≡ d * d) × (r ≤ 65025) ⌝ }
-{
-    d * d
 }
 
 // The samples that the sums show.

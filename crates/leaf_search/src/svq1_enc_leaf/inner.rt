@@ -20,11 +20,11 @@ use leaf::svq1_plane::inner::signed_mean;
 use leaf_samples::svq1_enc_leaf::inner::add_stage;
 use leaf_samples::svq1_enc_leaf::inner::bias_of;
 use leaf_samples::svq1_enc_leaf::inner::copy;
-use leaf_samples::svq1_enc_leaf::inner::distance;
 use leaf_samples::svq1_enc_leaf::inner::distance_of;
 use leaf_samples::svq1_enc_leaf::inner::seed;
 use leaf_samples::svq1_enc_leaf::inner::show;
 use leaf_samples::svq1_enc_leaf::inner::shown;
+use leaf_samples::svq1_enc_leaf::inner::squared;
 use leaf_samples::svq1_enc_leaf::inner::wide;
 
 // The squared error of one sum against the sample `t`.
@@ -32,25 +32,7 @@ fn error_at(t: u8, a: u16, bias: u16) -> u16
     ensures { λ r. ⌜ r ≡ sqd t (saturate (subℕ a bias)) ⌝ }
     ensures { λ r. ⌜ r ≤ 65025 ⌝ }
 {
-    let d = distance(t, shown(a, bias));
-    d * d
-}
-
-// The squared error of the sums `a` against `t`. Two 16-bit totals, of the low and the high bytes, cannot overflow for 256 samples.
-fn block_sse(t: &[u8], a: &[u16], bias: u16) -> u32
-    requires { ⌜ (length (now t) ≤ 256) × (length (now a) ≡ length (now t)) ⌝ }
-    ensures { λ r. ⌜ r ≡ sse (now (t .entry)) (samples (less bias (now (a .entry)))) ⌝ }
-{
-    let mut low: u16 = 0;
-    let mut high: u16 = 0;
-    let mut i = 0;
-    while i < t.len() {
-        let e = error_at(t[i], a[i], bias);
-        low += e % 256;
-        high += e / 256;
-        i += 1;
-    }
-    (low as u32) + (high as u32) * 256
+    squared(t, shown(a, bias))
 }
 
 // The squared error of the sums `a` with the vector `w` added. A sum is kept plus `bias` - 128, and `w`'s samples plus 128.
@@ -220,7 +202,8 @@ fn search_coded(
     let half = terms.half;
     let mean = residual_mean(half, t, p);
     seed(a, p, mean);
-    let first = block_sse(t, a, 256);
+    show(a, 256, out);
+    let first = distance_of(t, out);
     let s = search_stages(t, a, book, base, 256, terms.cap, first);
     let count = s.count;
     let stages = s.index;

@@ -1,18 +1,16 @@
 -- The sum of the first i gaps; 16 of them stay below 2^16.
 use mathlib.Core.Path.{_≡_, refl, _∙_}
 use Prim.Native.Nat.{_-_, _*_, _≤_}
-use lib.ListN.{getD}
-use Rattle.bits.specs.Basics.{sum, gap}
-use Rattle.compensation.specs.Compensation.{mean4}
+use Rattle.bits.specs.Basics.{sum}
 use Rattle.bits.specs.SumLaws.{sum-more}
+use Rattle.compensation.specs.RowForms.{againstFour}
 use native.Mathlib.Omega.{arith}
 use borrow.Author.Needs.{needs}
 use Rattle.compensation.proofs.svq1_enc_inter.inner.sum_four.Statement.{statement}
 use Rattle.compensation.proofs.svq1_enc_inter.inner.sum_four.Tie as tie
 
 abbrev Inv-loop : tie.InvT-loop
-Inv-loop t a b c d n total₀ i₀ total i =
-    (i ≤ n) × (total ≡ sum (λ k. gap (getD t k 0) (mean4 (getD a k 0) (getD b k 0) (getD c k 0) (getD d k 0))) i) × (total ≤ 255 * i)
+Inv-loop t a b c d n total₀ i₀ total i = (i ≤ n) × (total ≡ againstFour t a b c d i) × (total ≤ 255 * i)
 
 abbrev μ-loop : tie.MeasureT-loop
 μ-loop t a b c d n total₀ i₀ total i = n - i

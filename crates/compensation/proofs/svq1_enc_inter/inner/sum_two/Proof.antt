@@ -1,18 +1,16 @@
 -- The sum of the first i gaps; 16 of them stay below 2^16.
 use mathlib.Core.Path.{_≡_, refl, _∙_}
 use Prim.Native.Nat.{_-_, _*_, _≤_}
-use lib.ListN.{getD}
-use Rattle.bits.specs.Basics.{sum, gap}
-use Rattle.compensation.specs.Compensation.{mean2}
+use Rattle.bits.specs.Basics.{sum}
 use Rattle.bits.specs.SumLaws.{sum-more}
+use Rattle.compensation.specs.RowForms.{againstTwo}
 use native.Mathlib.Omega.{arith}
 use borrow.Author.Needs.{needs}
 use Rattle.compensation.proofs.svq1_enc_inter.inner.sum_two.Statement.{statement}
 use Rattle.compensation.proofs.svq1_enc_inter.inner.sum_two.Tie as tie
 
 abbrev Inv-loop : tie.InvT-loop
-Inv-loop t a b n total₀ i₀ total i =
-    (i ≤ n) × (total ≡ sum (λ k. gap (getD t k 0) (mean2 (getD a k 0) (getD b k 0))) i) × (total ≤ 255 * i)
+Inv-loop t a b n total₀ i₀ total i = (i ≤ n) × (total ≡ againstTwo t a b i) × (total ≤ 255 * i)
 
 abbrev μ-loop : tie.MeasureT-loop
 μ-loop t a b n total₀ i₀ total i = n - i

@@ -1,4 +1,4 @@
--- The coded leaf: mean, seed, stages and samples. Assumes nothing.
+-- The coded leaf: mean, seed, the error before any stage, stages and samples. Assumes nothing.
 use mathlib.Core.Path.{_≡_}
 use Prim.Native.Nat.{_<_}
 use native.Mathlib.Omega.{arith}
@@ -18,24 +18,28 @@ residual-mean-requires c κs = search needs
 seed-requires : tie.Need-seed-requires
 seed-requires c κs = search needs
 
-block-sse-requires : tie.Need-block-sse-requires
-block-sse-requires c κs = search needs
+show-requires : tie.Need-show-requires
+show-requires c κs = search needs
+
+distance-of-requires : tie.Need-distance-of-requires
+distance-of-requires c κs = search needs
 
 search-stages-requires : tie.Need-search-stages-requires
 search-stages-requires c κs =
-    ((c .before .before .before .before .before .before .before .before .before .before .before .before .before .pre .few, search needs, c .before .before .before .before .before .seed .ensures .1, search needs), (c .before .before .before .before .before .before .before .before .before .before .before .before .before .pre .stages, c .before .before .before .before .before .before .before .before .before .before .before .before .before .pre .page, c .before .block-sse .ensures))
+    let s = c .before .before .before .before .before .before .before .before .before .before .before .before .before .before .before .before .before .before in
+    ((s .pre .few, search needs, c .before .before .before .before .before .before .before .before .before .before .seed .ensures .1, search needs), (s .pre .stages, s .pre .page, rw (c .before .before .before .before .before .show .ensures) at (c .before .distance-of .ensures)))
 
 bias-of-requires : tie.Need-bias-of-requires
 bias-of-requires c κs = search needs
 
-show-requires : tie.Need-show-requires
-show-requires c κs = search needs
+show-requires-2 : tie.Need-show-requires-2
+show-requires-2 c κs = search needs
 
 signed-mean-requires : tie.Need-signed-mean-requires
 signed-mean-requires c κs = search needs
 
-cast-t27 : tie.Need-cast-t27
-cast-t27 c = search needs
+cast-t31 : tie.Need-cast-t31
+cast-t31 c = omega (arith, c .before .before .before .before .before .before .before .before .before .before .search-stages .ensures .counted, c .before .before .before .before .before .before .before .before .before .before .before .before .before .before .before .before .before .before .before .before .before .before .before .before .before .before .before .before .before .pre .stages)
 
 same-length : tie.Need-same-length
 same-length c = search needs
@@ -45,16 +49,17 @@ same-length-2 c = search needs
 
 returns : tie.Need-returns
 returns c =
-    let q = c .before .before .before .before .before .before .before .before .before .before .before .before .before .before .before .before .before .before .before .before .before .before .before .before in
+    let q = c .before .before .before .before .before .before .before .before .before .before .before .before .before .before .before .before .before .before .before .before .before .before .before .before .before .before .before .before .before in
     let a = q .args in
+    let m = c .before .before .before .before .before .before .before .before .before .before .before .before .before .before .before .before .before .before .before .before .before .before .before .residual-mean in
     let s = c .before .before .before .before .before .before .before .before .before .before .search-stages in
-    let mean = c .before .before .before .before .before .before .before .before .before .before .before .before .before .before .before .before .before .before .residual-mean .result in
-    let small : mean < 32768 = omega (arith, c .before .before .before .before .before .before .before .before .before .before .before .before .before .before .before .before .before .before .residual-mean .ensures .1) in
+    let mean = m .result in
+    let small : mean < 32768 = omega (arith, m .ensures .1) in
     let stored : toZ w16 (ofZ w16 (c .signed-mean .result)) ≡ subℕ mean 256 =
     rw (c .signed-mean .ensures) (toZ-ofZ w16 (subℕ mean 256) (sub-sfits mean 256 small (omega arith))) in
     coded-done (a .terms) (a .t .now) (a .p .now) (a .book .now) _ _ (s .result .index) _ (a .base) mean (s .result .count) (s .result .error)
     (c .before .before .before .before .before .bias-of .result) (toZ w16 (ofZ w16 (c .signed-mean .result)))
-    (c .before .before .before .before .before .before .before .before .before .before .before .before .before .before .before .before .before .before .residual-mean .ensures .0) (c .before .before .before .before .before .before .before .before .before .before .before .before .before .before .before .before .seed .ensures .0) (s .ensures) stored (c .before .before .before .before .before .bias-of .ensures) (c .before .before .before .show .ensures)
+    (m .ensures .0) (c .before .before .before .before .before .before .before .before .before .before .before .before .before .before .before .before .before .before .before .before .before .seed .ensures .0) (s .ensures) stored (c .before .before .before .before .before .bias-of .ensures) (c .before .before .before .show2 .ensures)
     (omega (arith, s .ensures .counted, q .pre .stages))
 
 pub search-coded-spec : {M : Type 1} → statement M
@@ -63,12 +68,13 @@ search-coded-spec =
     (tie.spec
     residual-mean-requires
     seed-requires
-    block-sse-requires
+    show-requires
+    distance-of-requires
     search-stages-requires
     bias-of-requires
-    show-requires
+    show-requires-2
     signed-mean-requires
-    cast-t27
+    cast-t31
     same-length
     same-length-2
     returns)

@@ -1,20 +1,17 @@
--- As the error of a block, with the vector's sample added to each sum; the two biases add up.
+-- The squared distance from the sums with the vector added, in two 16-bit totals (`Totals`). Assumes nothing.
 use native.Mathlib.Omega.{arith}
-use mathlib.Core.Path.{_≡_}
-use Prim.Native.Nat.{_≤_, _*_, _-_, _+_}
-use lib.ListN.{length, drop}
-use lib.Seq.{drop-length}
-use Rattle.leaf.specs.Leaf.{sse, plus, samples}
+use Prim.Native.Nat.{_-_}
+use lib.ListN.{length}
+use Rattle.leaf.specs.Leaf.{plus, samples}
 use Rattle.leaf.specs.LeafForms.{less}
-use Rattle.leaf_samples.specs.RaisedLaws.{vector-step}
+use Rattle.leaf_samples.specs.RaisedLaws.{vector-at}
+use Rattle.leaf_samples.specs.TotalsLaws.{Totals, one-more, all-summed}
 use borrow.Author.Needs.{needs}
 use Rattle.leaf_search.proofs.svq1_enc_leaf.inner.vector_sse.Statement.{statement}
 use Rattle.leaf_search.proofs.svq1_enc_leaf.inner.vector_sse.Tie as tie
 
 abbrev Inv-loop : tie.InvT-loop
-Inv-loop t a w bias low₀ high₀ i₀ low high i =
-    (i ≤ length t) × (low ≤ 255 * i) × (high ≤ 254 * i) ×
-    (low + 256 * high + sse (drop i t) (samples (plus (less (bias - 128) (drop i a)) (less 128 (drop i w)))) ≡ sse t (samples (plus (less (bias - 128) a) (less 128 w))))
+Inv-loop t a w bias low₀ high₀ i₀ low high i = Totals t (samples (plus (less (bias - 128) a) (less 128 w))) low high i
 
 abbrev μ-loop : tie.MeasureT-loop
 μ-loop t a w bias low₀ high₀ i₀ low high i = length t - i
@@ -59,14 +56,10 @@ loop-less c = search needs
 
 loop-again : tie.Need-loop-again Inv-loop μ-loop
 loop-again c =
-    let i = c .before .before .before .before .before .before .loop .i in
+    let l = c .before .before .before .before .before .before .loop in
     let s = c .before .before .before .before .before .before .before .before .before .before in
-    let a = s .args in
-    omega (
-      arith,
-      rw (c .before .wide .ensures .0) at (c .error-at .ensures .0),
-      vector-step (a .t .now) (a .a .now) (a .w .now) (a .bias) i (search needs) (search needs) (search needs) (s .pre .4),
-    )
+    let v = vector-at (s .args .a .now) (s .args .w .now) (s .args .bias) (l .i) (search needs) (search needs) (s .pre .4) in
+    one-more (l .inv) (c .error-at .result) (search needs) (v .0) (rw (v .1, ← c .before .wide .ensures .0) (c .error-at .ensures .0)) (c .error-at .ensures .1)
 
 cast-result : tie.Need-cast-result Inv-loop μ-loop
 cast-result c = search needs
@@ -81,11 +74,7 @@ add-result : tie.Need-add-result Inv-loop μ-loop
 add-result c = search needs
 
 returns : tie.Need-returns Inv-loop μ-loop
-unfolding sse
-returns c =
-    let a = c .before .before .before .before .before .args in
-    let e : c .before .loop .i ≡ length (a .t .now) = omega arith in
-    omega (arith, rw (e, drop-length) at (c .before .loop .inv .3))
+returns c = all-summed (c .before .loop .inv) (search needs)
 
 pub vector-sse-spec : {M : Type 1} → statement M
 vector-sse-spec =
