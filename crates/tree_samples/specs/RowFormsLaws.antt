@@ -1,29 +1,14 @@
 -- One turn of the loops that read and write rows, on plain lists and numbers.
 -- Assumes nothing.
 use mathlib.Core.Path.{_≡_, sym, ap, _∙_}
-use mathlib.Core.List.{List, [], _∷_, append-nil}
+use mathlib.Core.List.{List}
 use Prim.Native.Nat.{ℕ, zero, suc, _+_, _-_, _*_, _≤_, _<_}
 use native.Mathlib.Omega.{arith}
-use native.Mathlib.Numerals.{add-one}
-use lib.ListN.{length, take, drop, getD, set, length-drop, drop-of-length-le}
-use lib.Seq.{sets, sets-eq, take-suc, length-take-le, drop-drop, take-length, length-sets}
+use lib.ListN.{length, take, drop, length-drop}
+use lib.Seq.{sets, length-take-le, drop-drop, length-sets}
+use Rattle.bits.specs.FillLaws.{sets-append, sets-all, part, run}
 use Rattle.tree.specs.Blocks.{gather, paint}
-use Rattle.tree.specs.RowsLaws.{Inside, sets-append, inside-down, length-gather}
-
-pub row-turn : (o xs : List ℕ) (at i : ℕ) → i < length xs → set (sets o at (take i xs)) (at + i) (getD xs i 0) ≡ sets o at (take (i + 1) xs)
-row-turn o xs at i h =
-    let e : length (take i xs) ≡ i = length-take-le i xs (omega arith) in
-    rw (add-one, take-suc xs i 0, sets-append o at (take i xs) (getD xs i 0 ∷ []), e)
-
-pub row-end : (o xs out : List ℕ) (at i : ℕ) → length xs ≤ i → i ≤ length xs → out ≡ sets o at (take i xs) → out ≡ sets o at xs
-row-end o xs out at i a b e = let q : i ≡ length xs = omega arith in e ∙ rw (q, take-length xs)
-
--- the run of w samples from q on
-abbrev pub part : List ℕ → ℕ → ℕ → List ℕ
-part l q w = take (q + w - q) (drop q l)
-
-pub run : (l : List ℕ) (q w : ℕ) → part l q w ≡ take w (drop q l)
-run l q w = let e : q + w - q ≡ w = omega arith in rw e
+use Rattle.tree.specs.RowsLaws.{Inside, inside-down, length-gather}
 
 pub record Painting (s : ℕ) (xs o : List ℕ) (at w h : ℕ) (out : List ℕ) (p q left : ℕ) : Type 0 where
   pub inside : Inside s left w p (length out)
@@ -78,13 +63,9 @@ done : (s : ℕ) (m o : List ℕ) (at w h : ℕ) (out : List ℕ) (p q left : �
 unfolding gather
 done s m o at w h out p q left g l = let z : left ≡ 0 = omega arith in rw z at (g .whole)
 
--- a run as long as the list is the list
-whole : (o xs : List ℕ) → length o ≡ length xs → sets o 0 xs ≡ xs
-whole o xs e = sets-eq xs o 0 (omega arith) ∙ rw (drop-of-length-le o {i = 0 + length xs} (omega arith)) (append-nil xs)
-
 pub gather-end : (s : ℕ) (m o : List ℕ) (at w h : ℕ) (out : List ℕ) (p q left : ℕ) → Gathering s m o at w h out p q left → left ≤ 0
     → length o ≡ h * w → Inside s h w at (length m) → out ≡ gather s h w at m
-gather-end s m o at w h out p q left g l n i = done s m o at w h out p q left g l ∙ whole o (gather s h w at m) (n ∙ sym (length-gather s h w at m i))
+gather-end s m o at w h out p q left g l n i = done s m o at w h out p q left g l ∙ sets-all o (gather s h w at m) (n ∙ sym (length-gather s h w at m i))
 
 -- what a turn finds room for: w samples of the run, and a row of the plane
 rows-room : (left w q h : ℕ) → q + left * w ≡ h * w → 0 < left → q + w ≤ h * w
@@ -98,6 +79,3 @@ paint-room s xs o at w h out p q left g l = (rows-room left w q h (g .run) l, om
 pub gather-room : (s : ℕ) (m o : List ℕ) (at w h : ℕ) (out : List ℕ) (p q left : ℕ) → Gathering s m o at w h out p q left → 0 < left
     → (q + w ≤ h * w) × (p + w ≤ length m)
 gather-room s m o at w h out p q left g l = (rows-room left w q h (g .run) l, omega (arith, g .inside .row 0 l))
-
-pub length-part : (l : List ℕ) (q w : ℕ) → q + w ≤ length l → length (part l q w) ≡ w
-length-part l q w h = ap length (run l q w) ∙ length-take-le w (drop q l) (simp length-drop (omega arith))

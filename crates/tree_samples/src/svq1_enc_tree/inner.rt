@@ -3,24 +3,12 @@
 pub mod rebuild;
 
 ghost use mathlib.Core.Path.{_≡_};
-ghost use Prim.Native.Nat.{_+_, _-_, _*_, _<_, _≤_};
+ghost use Prim.Native.Nat.{_+_, _*_, _<_, _≤_};
 ghost use lib.ListN.{length};
-ghost use lib.Seq.{sets};
 ghost use Rattle.tree.specs.Blocks.{gather, paint, place};
 ghost use Rattle.tree_samples.specs.RowForms.{Rows};
 ghost use Rattle.tree_samples.specs.PlaceLaws.{rowOf, columnOf};
-
-// The run `xs` into `out` from sample `at` on.
-fn put_row(out: &mut [u8], at: usize, xs: &[u8])
-    requires { ⌜ (at + length (now xs) ≤ length (now out)) × (length (now out) ≤ 65536) ⌝ }
-    ensures { λ _. ⌜ now (out .exit) ≡ sets (now (out .entry)) at (now (xs .entry)) ⌝ }
-{
-    let mut i = 0;
-    while i < xs.len() {
-        out[at + i] = xs[i];
-        i += 1;
-    }
-}
+use bits::inner::put_row;
 
 // The samples `xs`, `h` rows of `w`, into the plane `out` of stride `s` from sample `at` on.
 pub fn paint_block(out: &mut [u8], s: usize, at: usize, w: usize, h: usize, xs: &[u8])

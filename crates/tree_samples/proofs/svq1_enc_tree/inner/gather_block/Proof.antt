@@ -1,6 +1,7 @@
 use denote.Ref.{now}
 use mathlib.Core.Path.{refl}
-use Rattle.tree_samples.specs.RowFormsLaws.{Gathering, gather-turn, gather-end, gather-room, length-part}
+use Rattle.bits.specs.FillLaws.{length-part}
+use Rattle.tree_samples.specs.RowFormsLaws.{Gathering, gather-turn, gather-end, gather-room}
 use native.Mathlib.Omega.{arith}
 use Rattle.tree_samples.proofs.svq1_enc_tree.inner.gather_block.Statement.{statement}
 use Rattle.tree_samples.proofs.svq1_enc_tree.inner.gather_block.Tie as tie
@@ -32,7 +33,7 @@ put-row-requires c κs =
     let a = c .before .before .before .before .before .before .args in
     let r = gather-room _ _ _ _ _ _ _ _ _ _ (s .inv) (c .before .before .loop-test .taken) in
     let n = length-part (now (a .m)) (s .p) (a .w) (omega arith) in
-    (omega arith, omega (arith, s .inv .same))
+    omega (arith, s .inv .same)
 
 add-p : tie.Need-add-p Inv-loop μ-loop
 add-p c = omega (arith, gather-room _ _ _ _ _ _ _ _ _ _ (c .before .before .before .before .before .before .loop .inv) (c .before .before .before .before .before .loop-test .taken))
