@@ -3,6 +3,7 @@
 ghost use mathlib.Core.Path.{_≡_};
 ghost use Prim.Native.Nat.{_+_, _*_, _/_, _%_, _-_, _^_, _<_, _≤_, min};
 ghost use lib.ListN.{length, take, drop};
+ghost use lib.Seq.{sets};
 ghost use Rattle.bits.specs.Bits.{msb, valOf, bitsOf, putBits};
 ghost use Rattle.bits.specs.BitNeeds.{Fits, Wrote};
 ghost use Rattle.bits.specs.Calls.{startRefusal, roomRefusal, bitsRefusal};
@@ -120,4 +121,16 @@ pub fn bits_refusal(bytes: usize, at: usize, width: u32, short: u8) -> u8
         return 6;
     }
     room_refusal(bytes, at, width, short)
+}
+
+// The run `xs` into `out` from place `at` on.
+pub fn put_row(out: &mut [u8], at: usize, xs: &[u8])
+    requires { ⌜ at + length (now xs) ≤ length (now out) ⌝ }
+    ensures { λ _. ⌜ now (out .exit) ≡ sets (now (out .entry)) at (now (xs .entry)) ⌝ }
+{
+    let mut i = 0;
+    while i < xs.len() {
+        out[at + i] = xs[i];
+        i += 1;
+    }
 }

@@ -6,6 +6,7 @@ ghost use Rattle.book.specs.Book.{codebookBytes};
 ghost use Rattle.house.specs.Fill.{Filled, BookFilled};
 ghost use Rattle.house.specs.House.{HouseBook, houseCodebook, houseSample};
 ghost use Rattle.bits.specs.Basics.{signedByte};
+use bits::inner::put_row;
 use book::inner::BOOK_BYTES;
 use book::inner::CODEBOOK_BYTES;
 
@@ -2821,18 +2822,6 @@ pub fn house_book() -> [u8; BOOK_BYTES]
     HOUSE_BOOK
 }
 
-// Every byte of `from` copied to `out`.
-fn copy_in(out: &mut [u8], from: &[u8])
-    requires { ⌜ length (now out) ≡ length (now from) ⌝ }
-    ensures { λ _. ⌜ now (out .exit) ≡ now (from .entry) ⌝ }
-{
-    let mut i = 0;
-    while i < from.len() {
-        out[i] = from[i];
-        i += 1;
-    }
-}
-
 // The house book put into a slice of 2,796 bytes; 5 for a slice of another length.
 pub fn fill_house_book(out: &mut [u8]) -> u8
     ensures { λ r. ⌜ BookFilled (now (out .entry)) r (now (out .exit)) ⌝ }
@@ -2841,7 +2830,7 @@ pub fn fill_house_book(out: &mut [u8]) -> u8
         return 5;
     }
     let book = house_book();
-    copy_in(out, &book);
+    put_row(out, 0, &book);
     0
 }
 

@@ -7,9 +7,10 @@ use native.Mathlib.Nat.{mod-lt, div-lt-iff-lt-mul, mul-comm, mul-pos, div-add-mo
 use native.Mathlib.Numerals.{add-one}
 use native.Mathlib.Decide.{ℕ-discrete}
 use mathlib.Core.List.{List}
-use lib.ListN.{length, getD, set, length-set}
-use lib.Seq.{ext-getD, getD-set-same, getD-set-other}
+use lib.ListN.{length, take, drop, getD, set, length-set, length-drop}
+use lib.Seq.{ext-getD, getD-set-same, getD-set-other, getD-drop, sets}
 use lib.Arith.{digits-lt, digits-div, digits-mod}
+use Rattle.bits.specs.FillLaws.{row-step, run, part as slicePart}
 use Rattle.mv_cache.specs.Grid.{rowSet, owner, placeIn, entryOf, putPart}
 use Rattle.mv_cache.specs.GridLaws.{Holds, length-put, put-own, put-other, owner-of, place-of}
 
@@ -126,6 +127,17 @@ row-none o f xs = refl
 pub row-more : (o : ℕ) (f : ℕ → ℕ) (i w : ℕ) (xs ys : List ℕ) → ys ≡ rowSet o f i xs → w ≡ f i → set ys (o + i) w ≡ rowSet o f (i + 1) xs
 unfolding rowSet
 row-more o f i w xs ys e q = rw (e, q, add-one i)
+
+-- a part of a slice written there
+row-run : (o p n : ℕ) (v xs : List ℕ) → p + n ≤ length v → sets xs o (take n (drop p v)) ≡ rowSet o (λ j. getD v (p + j) 0) n xs
+unfolding rowSet
+row-run o p zero v xs h = refl
+row-run o p (suc n) v xs h =
+    let k : n < length (drop p v) = simp length-drop (omega arith) in
+    rw (← add-one n, ← row-step xs (drop p v) o n k, row-run o p n v xs (omega arith), getD-drop p v n 0) refl
+
+pub row-part : (o p n : ℕ) (v xs : List ℕ) → p + n ≤ length v → sets xs o (slicePart v p n) ≡ rowSet o (λ j. getD v (p + j) 0) n xs
+row-part o p n v xs h = rw (run v p n) (row-run o p n v xs h)
 
 pub row-same : (o : ℕ) (f g : ℕ → ℕ) (n : ℕ) (xs : List ℕ) → ((k : ℕ) → k < n → f k ≡ g k) → rowSet o f n xs ≡ rowSet o g n xs
 unfolding rowSet

@@ -7,7 +7,7 @@ use native.Mathlib.Nat.{le-refl}
 use native.Mathlib.Omega.{arith}
 use lib.Dec.{ltb}
 use lib.ListN.{length, take, drop, set, length-append, length-set, take-append-drop, drop-of-length-le}
-use lib.Seq.{take-all, take-take, take-set-le, drop-cons, drop-set-lt, getD-set-same, paste}
+use lib.Seq.{take-take, take-set-le, drop-cons, drop-set-lt, getD-set-same, sets, sets-eq}
 use borrow.Author.Tests.{le-leb, lt-leb, lt-ltb, le-ltb, ltb-true}
 use Rattle.bits.specs.Basics.{pick}
 use Rattle.text.specs.Text.{digitsBefore, decimal}
@@ -25,10 +25,8 @@ module _ (out : List ℕ) (at : ℕ) (t : List ℕ) (room : at + length t ≤ le
   unfolding putText
   put-whole after h = let e = le-leb (at + length t) (length out) room in record { next = rw e; bytes-after = rw e h }
 
-  pub put-end : (after : List ℕ) (i : ℕ) → i ≡ length t → after ≡ paste out at t i → TextPut out at t (at + i) after
-  put-end after i e h =
-      rw e
-      (put-whole after (h ∙ rw (e, take-all (length t) t (le-refl (length t)), append-assoc)))
+  pub put-end : (after : List ℕ) → after ≡ sets out at t → TextPut out at t (at + length t) after
+  put-end after h = put-whole after (h ∙ sets-eq t out at room ∙ append-assoc (take at out) t (drop (at + length t) out))
 
 -- a text of the slice's length takes its place
 pub put-all : (out t : List ℕ) (r : ℕ) (after : List ℕ) → length t ≡ length out → TextPut out 0 t r after → after ≡ t

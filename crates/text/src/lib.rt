@@ -3,6 +3,7 @@ ghost use mathlib.Core.Path.{_≡_};
 ghost use Rattle.text.specs.Text.{numberUpTo, decimal, same as sameText};
 ghost use Rattle.text.specs.ReadingForms.{TextFound, digitOf, digitsFrom, numberOf};
 ghost use Rattle.text.specs.WritingForms.{TextPut, DigitsCounted};
+use bits::inner::put_row;
 
 // What reading a field as a number finds.
 pub enum NumberRead {
@@ -103,12 +104,8 @@ pub fn put_text(out: &mut [u8], at: usize, t: &[u8]) -> usize
     if out.len() - at < t.len() {
         return at;
     }
-    let mut i = 0;
-    while i < t.len() {
-        out[at + i] = t[i];
-        i += 1;
-    }
-    at + i
+    put_row(out, at, t);
+    at + t.len()
 }
 
 // How many decimal digits a number has.

@@ -1,13 +1,14 @@
 -- Laws of rows of samples: reading a block out of a plane, putting one in, and squared distances.
 -- Assumes nothing.
 use mathlib.Core.Path.{_≡_, refl, sym, ap, _∙_}
-use mathlib.Core.List.{List, [], _∷_, _++_, append-assoc, append-nil}
+use mathlib.Core.List.{List, [], _∷_, _++_, append-assoc}
 use Prim.Native.Nat.{ℕ, zero, suc, _+_, _*_, _≤_, _<_, zero-le}
-use native.Mathlib.Nat.{add-zero, zero-add, suc-add, mul-le-mul}
+use native.Mathlib.Nat.{zero-add, suc-add, mul-le-mul}
 use native.Mathlib.Omega.{arith}
 use lib.ListN.{length, take, drop, set, length-append, length-take, length-drop, take-append-drop, drop-of-length-le}
-use lib.Seq.{take-append-le, drop-append-le, take-at, drop-at, length-take-le, take-add, drop-drop, set-comm, sets, sets-eq}
+use lib.Seq.{take-append-le, drop-append-le, take-at, drop-at, length-take-le, take-add, drop-drop, set-comm, sets}
 use Rattle.bits.specs.Basics.{All, Bytes, gap}
+use Rattle.bits.specs.FillLaws.{sets-append, sets-all}
 use Rattle.leaf.specs.Leaf.{sse}
 use Rattle.tree.specs.Blocks.{gather, paint}
 
@@ -105,12 +106,6 @@ gather-whole s zero at m e = sym (drop-of-length-le m {i = at} (omega arith))
 gather-whole s (suc h) at m e = rw (gather-whole s h (at + s) m (omega arith), ← drop-drop s at m) (take-append-drop s (drop at m))
 
 -- ---- putting in
-pub sets-append : (l : List ℕ) (k : ℕ) (x y : List ℕ) → sets l k (x ++ y) ≡ sets (sets l k x) (k + length x) y
-sets-append l k [] y = ap (λ (n : ℕ). sets l n y) (sym (add-zero k))
-sets-append l k (a ∷ x) y =
-    sets-append (set l k a) (suc k) x y
-    ∙ ap (λ (n : ℕ). sets (sets (set l k a) (suc k) x) n y) (let e : suc k + length x ≡ k + suc (length x) = omega arith in e)
-
 set-sets : (xs m : List ℕ) (i j a : ℕ) → j < i → set (sets m i xs) j a ≡ sets (set m j a) i xs
 set-sets [] m i j a h = refl
 set-sets (x ∷ xs) m i j a h =
@@ -172,8 +167,7 @@ paint-run s (suc h) at xs m e =
 -- what fills the plane is the plane, whatever it held
 pub paint-whole : (s h : ℕ) (xs m : List ℕ) → length xs ≡ h * s → length m ≡ h * s → paint s h s 0 xs m ≡ xs
 paint-whole s h xs m a b =
-    paint-run s h 0 xs m a ∙ sets-eq xs m 0 (omega arith)
-    ∙ rw (drop-of-length-le m {i = 0 + length xs} (omega arith)) (append-nil xs)
+    paint-run s h 0 xs m a ∙ sets-all m xs (omega arith)
 
 -- ---- what stands together comes apart in one way
 pub append-apart : (l r l' r' : List ℕ) → length l ≡ length l' → l ++ r ≡ l' ++ r' → (l ≡ l') × (r ≡ r')

@@ -1,103 +1,64 @@
--- One turn of the loops that read and write rows, on plain lists and numbers.
+-- Rows moved one after the other, on plain lists and numbers; painting and gathering are two ways to move them.
 -- Assumes nothing.
-use mathlib.Core.Path.{_≡_, sym, ap, _∙_}
-use mathlib.Core.List.{List, [], _∷_, append-nil}
+use mathlib.Core.Path.{_≡_, refl, sym, ap, _∙_}
+use mathlib.Core.List.{List}
 use Prim.Native.Nat.{ℕ, zero, suc, _+_, _-_, _*_, _≤_, _<_}
+use native.Mathlib.Nat.{mul-comm, mul-le-mul-left}
 use native.Mathlib.Omega.{arith}
-use native.Mathlib.Numerals.{add-one}
-use lib.ListN.{length, take, drop, getD, set, length-drop, drop-of-length-le}
-use lib.Seq.{sets, sets-eq, take-suc, length-take-le, drop-drop, take-length, length-sets}
+use lib.ListN.{length, take, drop, length-drop}
+use lib.Seq.{sets, length-take-le, drop-drop, length-sets}
+use Rattle.bits.specs.FillLaws.{sets-append, sets-all, part, run}
 use Rattle.tree.specs.Blocks.{gather, paint}
-use Rattle.tree.specs.RowsLaws.{Inside, sets-append, inside-down, length-gather}
+use Rattle.tree.specs.RowsLaws.{Inside, inside-down, length-gather}
+use Rattle.tree_samples.specs.RowForms.{Rows, Moves, moved}
 
-pub row-turn : (o xs : List ℕ) (at i : ℕ) → i < length xs → set (sets o at (take i xs)) (at + i) (getD xs i 0) ≡ sets o at (take (i + 1) xs)
-row-turn o xs at i h =
-    let e : length (take i xs) ≡ i = length-take-le i xs (omega arith) in
-    rw (add-one, take-suc xs i 0, sets-append o at (take i xs) (getD xs i 0 ∷ []), e)
+-- ---- one row
+pub move-room : (a b h w q p n k : ℕ) → Moves a b h w q p n k → 0 < h → (q + w ≤ n) × (p + w ≤ k)
+move-room a b h w q p n k r l = (omega (arith, r .to .row 0 l), omega (arith, r .from .row 0 l))
 
-pub row-end : (o xs out : List ℕ) (at i : ℕ) → length xs ≤ i → i ≤ length xs → out ≡ sets o at (take i xs) → out ≡ sets o at xs
-row-end o xs out at i a b e = let q : i ≡ length xs = omega arith in e ∙ rw (q, take-length xs)
-
--- the run of w samples from q on
-abbrev pub part : List ℕ → ℕ → ℕ → List ℕ
-part l q w = take (q + w - q) (drop q l)
-
-pub run : (l : List ℕ) (q w : ℕ) → part l q w ≡ take w (drop q l)
-run l q w = let e : q + w - q ≡ w = omega arith in rw e
-
-pub record Painting (s : ℕ) (xs o : List ℕ) (at w h : ℕ) (out : List ℕ) (p q left : ℕ) : Type 0 where
-  pub inside : Inside s left w p (length out)
-  pub run : q + left * w ≡ h * w
-  pub same : length out ≡ length o
-  pub whole : paint s left w p (drop q xs) out ≡ paint s h w at xs o
-
-pub paint-turn : (s : ℕ) (xs o : List ℕ) (at w h : ℕ) (out new : List ℕ) (p q left : ℕ) → Painting s xs o at w h out p q left → 0 < left
-    → new ≡ sets out p (part xs q w) → Painting s xs o at w h new (p + s) (q + w) (left - 1)
-unfolding paint
-paint-turn s xs o at w h out new p q zero g l e = absurd (omega arith)
-paint-turn s xs o at w h out new p q (suc k) g l e =
+pub move-turn : (a b h w q p : ℕ) (m out new : List ℕ) → 0 < h → Moves a b h w q p (length out) (length m) → new ≡ sets out q (part m p w)
+    → Moves a b (h - 1) w (q + a) (p + b) (length new) (length m) × (length new ≡ length out)
+    × (moved a b (h - 1) w (q + a) (p + b) m new ≡ moved a b h w q p m out)
+unfolding moved
+move-turn a b zero w q p m out new l r e = absurd (omega arith)
+move-turn a b (suc k) w q p m out new l r e =
     let z : suc k - 1 ≡ k = omega arith in
-    let n : length new ≡ length out = ap length e ∙ length-sets out p (part xs q w) in
-    rw (z)
-    (record {
-      inside = rw n (inside-down s k w p (length out) (g .inside));
-      run = omega (arith, g .run);
-      same = n ∙ g .same;
-      whole = rw (e, run xs q w, ← drop-drop w q xs) (g .whole);
-    })
+    let n : length new ≡ length out = ap length e ∙ length-sets out q (part m p w) in
+    rw z (
+      record { to = rw n (inside-down a k w q (length out) (r .to)); from = inside-down b k w p (length m) (r .from); stride = r .stride; step = r .step },
+      n,
+      ap (moved a b k w (q + a) (p + b) m) (e ∙ ap (sets out q) (run m p w)),
+    )
 
-pub record Gathering (s : ℕ) (m o : List ℕ) (at w h : ℕ) (out : List ℕ) (p q left : ℕ) : Type 0 where
-  pub inside : Inside s left w p (length m)
-  pub run : q + left * w ≡ h * w
-  pub same : length out ≡ length o
-  pub whole : sets out q (gather s left w p m) ≡ sets o 0 (gather s h w at m)
+pub move-end : (a b h w q p : ℕ) (m out whole : List ℕ) → h ≤ 0 → moved a b h w q p m out ≡ whole → out ≡ whole
+unfolding moved
+move-end a b h w q p m out whole l e = let z : h ≡ 0 = omega arith in rw z at e
 
-pub gather-turn : (s : ℕ) (m o : List ℕ) (at w h : ℕ) (out new : List ℕ) (p q left : ℕ) → Gathering s m o at w h out p q left → 0 < left
-    → new ≡ sets out q (part m p w) → Gathering s m o at w h new (p + s) (q + w) (left - 1)
-unfolding gather
-gather-turn s m o at w h out new p q zero g l e = absurd (omega arith)
-gather-turn s m o at w h out new p q (suc k) g l e =
-    let z : suc k - 1 ≡ k = omega arith in
-    let r : p + w ≤ length m = omega (arith, g .inside .row 0 (omega arith)) in
-    let lw : length (take w (drop p m)) ≡ w = length-take-le w (drop p m) (simp length-drop (omega arith)) in
-    rw z
-    (record {
-      inside = inside-down s k w p (length m) (g .inside);
-      run = omega (arith, g .run);
-      same = ap length e ∙ length-sets out q (part m p w) ∙ g .same;
-      whole = rw (e, run m p w)
-          (ap (λ (n : ℕ). sets (sets out q (take w (drop p m))) (q + n) (gather s k w (p + s) m)) (sym lw)
-          ∙ sym (sets-append out q (take w (drop p m)) (gather s k w (p + s) m)) ∙ g .whole);
-    })
+-- ---- painting moves from a run to a plane, gathering from a plane to a run
+packed : (h w n : ℕ) → n ≡ h * w → Inside w h w 0 n
+packed h w n e = record { row = λ k l. omega (arith, mul-le-mul-left {m = suc k} {n = h} w l, mul-comm w h) }
 
-pub paint-end : (s : ℕ) (xs o : List ℕ) (at w h : ℕ) (out : List ℕ) (p q left : ℕ) → Painting s xs o at w h out p q left → left ≤ 0 → out ≡ paint s h w at xs o
-unfolding paint
-paint-end s xs o at w h out p q left g l = let z : left ≡ 0 = omega arith in rw z at (g .whole)
+module _ (s h w at n k : ℕ) (r : Rows s h w at n k) where
+  pub paint-moves : Moves s w h w at 0 n k
+  paint-moves = record { to = r .inside; from = packed h w k (r .run); stride = r .apart; step = r .wide }
 
-done : (s : ℕ) (m o : List ℕ) (at w h : ℕ) (out : List ℕ) (p q left : ℕ) → Gathering s m o at w h out p q left → left ≤ 0 → out ≡ sets o 0 (gather s h w at m)
-unfolding gather
-done s m o at w h out p q left g l = let z : left ≡ 0 = omega arith in rw z at (g .whole)
+  pub gather-moves : Moves w s h w 0 at k n
+  gather-moves = record { to = packed h w k (r .run); from = r .inside; stride = r .wide; step = r .apart }
 
--- a run as long as the list is the list
-whole : (o xs : List ℕ) → length o ≡ length xs → sets o 0 xs ≡ xs
-whole o xs e = sets-eq xs o 0 (omega arith) ∙ rw (drop-of-length-le o {i = 0 + length xs} (omega arith)) (append-nil xs)
+pub moved-paint : (s h w at p : ℕ) (xs out : List ℕ) → moved s w h w at p xs out ≡ paint s h w at (drop p xs) out
+unfolding moved paint
+moved-paint s zero w at p xs out = refl
+moved-paint s (suc h) w at p xs out = rw (drop-drop w p xs) (moved-paint s h w (at + s) (p + w) xs (sets out at (take w (drop p xs))))
 
-pub gather-end : (s : ℕ) (m o : List ℕ) (at w h : ℕ) (out : List ℕ) (p q left : ℕ) → Gathering s m o at w h out p q left → left ≤ 0
-    → length o ≡ h * w → Inside s h w at (length m) → out ≡ gather s h w at m
-gather-end s m o at w h out p q left g l n i = done s m o at w h out p q left g l ∙ whole o (gather s h w at m) (n ∙ sym (length-gather s h w at m i))
+moved-run : (s h w at q : ℕ) (m out : List ℕ) → Inside s h w at (length m) → moved w s h w q at m out ≡ sets out q (gather s h w at m)
+unfolding moved gather
+moved-run s zero w at q m out i = refl
+moved-run s (suc h) w at q m out i =
+    let r : at + w ≤ length m = omega (arith, i .row 0 (omega arith)) in
+    let e : length (take w (drop at m)) ≡ w = length-take-le w (drop at m) (simp length-drop (omega arith)) in
+    rw (sets-append out q (take w (drop at m)) (gather s h w (at + s) m), e)
+    (moved-run s h w (at + s) (q + w) m (sets out q (take w (drop at m))) (inside-down s h w at (length m) i))
 
--- what a turn finds room for: w samples of the run, and a row of the plane
-rows-room : (left w q h : ℕ) → q + left * w ≡ h * w → 0 < left → q + w ≤ h * w
-rows-room zero w q h e l = absurd (omega arith)
-rows-room (suc k) w q h e l = omega arith
-
-pub paint-room : (s : ℕ) (xs o : List ℕ) (at w h : ℕ) (out : List ℕ) (p q left : ℕ) → Painting s xs o at w h out p q left → 0 < left
-    → (q + w ≤ h * w) × (p + w ≤ length out)
-paint-room s xs o at w h out p q left g l = (rows-room left w q h (g .run) l, omega (arith, g .inside .row 0 l))
-
-pub gather-room : (s : ℕ) (m o : List ℕ) (at w h : ℕ) (out : List ℕ) (p q left : ℕ) → Gathering s m o at w h out p q left → 0 < left
-    → (q + w ≤ h * w) × (p + w ≤ length m)
-gather-room s m o at w h out p q left g l = (rows-room left w q h (g .run) l, omega (arith, g .inside .row 0 l))
-
-pub length-part : (l : List ℕ) (q w : ℕ) → q + w ≤ length l → length (part l q w) ≡ w
-length-part l q w h = ap length (run l q w) ∙ length-take-le w (drop q l) (simp length-drop (omega arith))
+pub moved-gather : (s h w at : ℕ) (m out : List ℕ) → Rows s h w at (length m) (length out) → moved w s h w 0 at m out ≡ gather s h w at m
+moved-gather s h w at m out r =
+    moved-run s h w at 0 m out (r .inside) ∙ sets-all out (gather s h w at m) (r .run ∙ sym (length-gather s h w at m (r .inside)))

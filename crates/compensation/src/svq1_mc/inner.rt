@@ -7,6 +7,7 @@ ghost use Rattle.compensation.specs.RowForms.{cell};
 ghost use Rattle.compensation.specs.MovedForms.{movedPart, Parts, Placed, down, downHalf, downMv, upEnd, Lifted, InCanvas, cellPart, insideUp};
 use super::super::svq1_enc_inter::inner::mean2;
 use super::super::svq1_enc_inter::inner::mean4;
+use mv_cache::svq1_mv_cache::inner::copy_row;
 use vectors::svq1_motion_predictor::Svq1Mv;
 
 // A place raised by 2^31, clamped to 0 .. size - 1.
@@ -95,19 +96,7 @@ fn part_clamped(
     }
 }
 
-// n samples from place o on: copied from place p on, the means of those from a and from b on, and of those from a, b and from one
-// place further on each.
-fn copy_row(out: &mut [u8; 256], reference: &[u8], o: usize, p: usize, n: usize)
-    requires { ⌜ (o + n ≤ 256) × (p + n ≤ length (now reference)) ⌝ }
-    ensures { λ _. ⌜ now (out .exit) ≡ rowSet o (λ k. getD (now (reference .entry)) (p + k) 0) n (now (out .entry)) ⌝ }
-{
-    let mut i = 0;
-    while i < n {
-        out[o + i] = reference[p + i];
-        i += 1;
-    }
-}
-
+// n samples from place o on: the means of those from a and from b on, and of those from a, b and from one place further on each.
 fn mean_row(out: &mut [u8; 256], reference: &[u8], o: usize, a: usize, b: usize, n: usize)
     requires { ⌜ (o + n ≤ 256) × (a + n ≤ length (now reference)) × (b + n ≤ length (now reference)) ⌝ }
     ensures { λ _. ⌜ now (out .exit) ≡ rowSet o (λ k. meanOf2 (getD (now (reference .entry)) (a + k) 0) (getD (now (reference .entry)) (b + k) 0)) n (now (out .entry)) ⌝ }

@@ -3,6 +3,7 @@ use mathlib.Core.Path.{sym, ap, _∙_}
 use native.Mathlib.Omega.{arith}
 use lib.ListN.{length}
 use borrow.Author.Needs.{needs}
+use Rattle.bits.specs.FillLaws.{sets-all}
 use Rattle.book.specs.Book.{bookBytes}
 use Rattle.house.specs.House.{houseBook}
 use Rattle.house.specs.HouseLaws.{length-house-book}
@@ -16,13 +17,13 @@ returns c = record { filled = fill-refused bookBytes houseBook _ (c .if1 .taken)
 house-book-requires : tie.Need-house-book-requires
 house-book-requires c κs = search needs
 
-slice-aggregate-copy-in : tie.Need-slice-aggregate-copy-in
-slice-aggregate-copy-in c = search needs
+slice-aggregate-put-row : tie.Need-slice-aggregate-put-row
+slice-aggregate-put-row c = search needs
 
-copy-in-requires : tie.Need-copy-in-requires
-copy-in-requires c κs =
+put-row-requires : tie.Need-put-row-requires
+put-row-requires c κs =
     let h = c .before .before in
-    h .before .if1 .left ∙ sym (ap length (h .house-book .ensures .bytes) ∙ length-house-book)
+    omega (arith, h .before .if1 .left, ap length (h .house-book .ensures .bytes) ∙ length-house-book)
 
 same-length : tie.Need-same-length
 same-length c = search needs
@@ -31,10 +32,10 @@ returns-2 : tie.Need-returns-2
 returns-2 c =
     let p = c .before .before in
     let h = p .before .before .before in
-    record {
-      filled = fill-done bookBytes houseBook _ _ (h .before .if1 .left) (p .copy-in .ensures ∙ h .house-book .ensures .bytes);
-      holds = λ e. rw (p .copy-in .ensures) (h .house-book .ensures);
-    }
+    let n = h .before .if1 .left in
+    let b = h .house-book .ensures in
+    let e = p .put-row .ensures ∙ sets-all _ _ (n ∙ sym (ap length (b .bytes) ∙ length-house-book)) in
+    record { filled = fill-done bookBytes houseBook _ _ n (e ∙ b .bytes); holds = λ z. rw e b }
 
 pub fill-house-book-spec : {M : Type 1} → statement M
 fill-house-book-spec =
@@ -42,7 +43,7 @@ fill-house-book-spec =
     (tie.spec
     returns
     house-book-requires
-    slice-aggregate-copy-in
-    copy-in-requires
+    slice-aggregate-put-row
+    put-row-requires
     same-length
     returns-2)

@@ -7,6 +7,7 @@ ghost use Rattle.bits.specs.Basics.{gap};
 ghost use Rattle.leaf.specs.Leaf.{coded, sse, samples, seeded, staged, leafShown};
 ghost use Rattle.leaf.specs.LeafForms.{less, Below, plusN, sqd, vectorsIn, leafOf};
 ghost use Rattle.leaf_samples.specs.ShowNeeds.{MeanKnown, Sized, Staging, CodeShows, Adding};
+use bits::inner::put_row;
 use book::svq1_vlc::Svq1Half;
 use leaf::svq1_enc_leaf::LeafCode;
 use leaf::svq1_enc_leaf::inner::mean_position;
@@ -129,11 +130,7 @@ pub fn copy(p: &[u8], out: &mut [u8])
     requires { ⌜ length (now out) ≡ length (now p) ⌝ }
     ensures { λ _. ⌜ now (out .exit) ≡ now (p .entry) ⌝ }
 {
-    let mut i = 0;
-    while i < out.len() {
-        out[i] = p[i];
-        i += 1;
-    }
+    put_row(out, 0, p)
 }
 
 // The bias of sums with this many stages added.

@@ -11,6 +11,7 @@ ghost use Rattle.mv_cache.specs.Neighbours.{neighbourAt, nearOf};
 ghost use Rattle.mv_cache.specs.Grid.{rowSet, putPart};
 ghost use Rattle.mv_cache.specs.CacheNeeds.{nearFrom, VectorSlices, BlocksRoom, Stored};
 use super::super::svq1_mv_cache::NearBlocks;
+use bits::inner::put_row;
 use vectors::svq1_motion_predictor::Neighbour;
 use vectors::svq1_motion_predictor::Svq1Mv;
 
@@ -97,11 +98,7 @@ pub fn copy_row(out: &mut [u8], source: &[u8], o: usize, p: usize, n: usize)
     requires { ⌜ (o + n ≤ length (now out)) × (p + n ≤ length (now source)) ⌝ }
     ensures { λ _. ⌜ now (out .exit) ≡ rowSet o (λ j. getD (now (source .entry)) (p + j) 0) n (now (out .entry)) ⌝ }
 {
-    let mut i = 0;
-    while i < n {
-        out[o + i] = source[p + i];
-        i += 1;
-    }
+    put_row(out, o, &source[p..p + n])
 }
 
 // The entries v as macroblock k of a slice that is cols macroblocks wide, with `side` entries in a macroblock's row, and as many rows.

@@ -3,22 +3,35 @@
 pub mod rebuild;
 
 ghost use mathlib.Core.Path.{_≡_};
-ghost use Prim.Native.Nat.{_+_, _-_, _*_, _<_, _≤_};
+ghost use Prim.Native.Nat.{_+_, _*_, _<_, _≤_};
 ghost use lib.ListN.{length};
-ghost use lib.Seq.{sets};
 ghost use Rattle.tree.specs.Blocks.{gather, paint, place};
-ghost use Rattle.tree_samples.specs.RowForms.{Rows};
+ghost use Rattle.tree_samples.specs.RowForms.{Rows, Moves, moved};
 ghost use Rattle.tree_samples.specs.PlaceLaws.{rowOf, columnOf};
+use bits::inner::put_row;
 
-// The run `xs` into `out` from sample `at` on.
-fn put_row(out: &mut [u8], at: usize, xs: &[u8])
-    requires { ⌜ (at + length (now xs) ≤ length (now out)) × (length (now out) ≤ 65536) ⌝ }
-    ensures { λ _. ⌜ now (out .exit) ≡ sets (now (out .entry)) at (now (xs .entry)) ⌝ }
+// `h` rows of `w` samples of `m`, from sample `from` on and `step` apart, into `out` from sample `to` on and `stride` apart.
+fn move_rows(
+    out: &mut [u8],
+    stride: usize,
+    to: usize,
+    m: &[u8],
+    step: usize,
+    from: usize,
+    w: usize,
+    h: usize,
+)
+    requires { ⌜ Moves stride step h w to from (length (now out)) (length (now m)) ⌝ }
+    ensures { λ _. ⌜ now (out .exit) ≡ moved stride step h w to from (now (m .entry)) (now (out .entry)) ⌝ }
 {
-    let mut i = 0;
-    while i < xs.len() {
-        out[at + i] = xs[i];
-        i += 1;
+    let mut p = from;
+    let mut q = to;
+    let mut left = h;
+    while 0 < left {
+        put_row(out, q, &m[p..p + w]);
+        p += step;
+        q += stride;
+        left -= 1;
     }
 }
 
@@ -27,15 +40,7 @@ pub fn paint_block(out: &mut [u8], s: usize, at: usize, w: usize, h: usize, xs: 
     requires { ⌜ Rows s h w at (length (now out)) (length (now xs)) ⌝ }
     ensures { λ _. ⌜ now (out .exit) ≡ paint s h w at (now (xs .entry)) (now (out .entry)) ⌝ }
 {
-    let mut p = at;
-    let mut q = 0;
-    let mut left = h;
-    while 0 < left {
-        put_row(out, p, &xs[q..q + w]);
-        p += s;
-        q += w;
-        left -= 1;
-    }
+    move_rows(out, s, at, xs, w, 0, w, h)
 }
 
 // The block of `h` rows of `w` samples of the plane `m` of stride `s` that begins at sample `at`.
@@ -43,15 +48,7 @@ pub fn gather_block(m: &[u8], s: usize, at: usize, w: usize, h: usize, out: &mut
     requires { ⌜ Rows s h w at (length (now m)) (length (now out)) ⌝ }
     ensures { λ _. ⌜ now (out .exit) ≡ gather s h w at (now (m .entry)) ⌝ }
 {
-    let mut p = at;
-    let mut q = 0;
-    let mut left = h;
-    while 0 < left {
-        put_row(out, q, &m[p..p + w]);
-        p += s;
-        q += w;
-        left -= 1;
-    }
+    move_rows(out, w, 0, m, s, at, w, h)
 }
 
 // Where each of the 63 blocks begins in a macroblock.

@@ -1,78 +1,23 @@
-use denote.Ref.{now}
-use mathlib.Core.Path.{refl}
-use Rattle.tree_samples.specs.RowFormsLaws.{Painting, paint-turn, paint-end, paint-room, length-part}
-use native.Mathlib.Omega.{arith}
+-- Rows moved. Assumes nothing.
+use mathlib.Core.Path.{_∙_}
+use borrow.Author.Needs.{needs}
+use Rattle.tree_samples.specs.RowFormsLaws.{paint-moves, moved-paint}
 use Rattle.tree_samples.proofs.svq1_enc_tree.inner.paint_block.Statement.{statement}
 use Rattle.tree_samples.proofs.svq1_enc_tree.inner.paint_block.Tie as tie
 
-abbrev Inv-loop : tie.InvT-loop
-Inv-loop out₀ s at w h xs p₀ q₀ left₀ out p q left = Painting s xs out₀ at w h out p q left
+move-rows-requires : tie.Need-move-rows-requires
+move-rows-requires c κs = paint-moves _ _ _ _ _ _ (c .before .before .before .pre)
 
-abbrev μ-loop : tie.MeasureT-loop
-μ-loop out₀ s at w h xs p₀ q₀ left₀ out p q left = left
+same-length : tie.Need-same-length
+same-length c = search needs
 
-loop-holds : tie.Need-loop-holds Inv-loop μ-loop
-loop-holds c = record { inside = c .before .before .pre .inside; run = omega arith; same = refl; whole = refl }
-
-add-put-row : tie.Need-add-put-row Inv-loop μ-loop
-add-put-row c = omega (arith, paint-room _ _ _ _ _ _ _ _ _ _ (c .before .before .loop .inv) (c .before .loop-test .taken))
-
-sub-put-row : tie.Need-sub-put-row Inv-loop μ-loop
-sub-put-row c = omega (arith, paint-room _ _ _ _ _ _ _ _ _ _ (c .before .before .loop .inv) (c .before .loop-test .taken))
-
-part-put-row-start : tie.Need-part-put-row-start Inv-loop μ-loop
-part-put-row-start c = omega (arith, paint-room _ _ _ _ _ _ _ _ _ _ (c .before .before .loop .inv) (c .before .loop-test .taken))
-
-part-put-row-end : tie.Need-part-put-row-end Inv-loop μ-loop
-part-put-row-end c = omega (arith, paint-room _ _ _ _ _ _ _ _ _ _ (c .before .before .loop .inv) (c .before .loop-test .taken))
-
-put-row-requires : tie.Need-put-row-requires Inv-loop μ-loop
-put-row-requires c κs =
-    let s = c .before .before .before .loop in
-    let a = c .before .before .before .before .before .before .args in
-    let r = paint-room _ _ _ _ _ _ _ _ _ _ (s .inv) (c .before .before .loop-test .taken) in
-    let n = length-part (now (a .xs)) (s .q) (a .w) (omega arith) in
-    (omega arith, omega (arith, s .inv .same))
-
-add-p : tie.Need-add-p Inv-loop μ-loop
-add-p c = omega (arith, paint-room _ _ _ _ _ _ _ _ _ _ (c .before .before .before .before .before .before .loop .inv) (c .before .before .before .before .before .loop-test .taken))
-
-add-q : tie.Need-add-q Inv-loop μ-loop
-add-q c = omega (arith, paint-room _ _ _ _ _ _ _ _ _ _ (c .before .before .before .before .before .before .loop .inv) (c .before .before .before .before .before .loop-test .taken))
-
-sub-left : tie.Need-sub-left Inv-loop μ-loop
-sub-left c = omega (arith, paint-room _ _ _ _ _ _ _ _ _ _ (c .before .before .before .before .before .before .loop .inv) (c .before .before .before .before .before .loop-test .taken))
-
-loop-less : tie.Need-loop-less Inv-loop μ-loop
-loop-less c = omega arith
-
-loop-again : tie.Need-loop-again Inv-loop μ-loop
-loop-again c =
-    let s = c .before .before .before .before .before .before .loop in
-    paint-turn _ _ _ _ _ _ _ _ _ _ _ (s .inv) (c .before .before .before .before .before .loop-test .taken) (c .before .before .put-row .ensures)
-
-same-length : tie.Need-same-length Inv-loop μ-loop
-same-length c = c .before .loop .inv .same
-
-returns : tie.Need-returns Inv-loop μ-loop
-returns c = paint-end _ _ _ _ _ _ _ _ _ _ (c .before .loop .inv) (c .loop-test .left)
+returns : tie.Need-returns
+returns c = c .before .before .move-rows .ensures ∙ moved-paint _ _ _ _ 0 _ _
 
 pub paint-block-spec : {M : Type 1} → statement M
 paint-block-spec =
     tie.close
     (tie.spec
-    Inv-loop
-    μ-loop
-    loop-holds
-    add-put-row
-    sub-put-row
-    part-put-row-start
-    part-put-row-end
-    put-row-requires
-    add-p
-    add-q
-    sub-left
-    loop-less
-    loop-again
+    move-rows-requires
     same-length
     returns)

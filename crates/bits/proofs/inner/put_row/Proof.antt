@@ -1,12 +1,13 @@
+-- The first i elements of the run are there. Assumes nothing.
 use mathlib.Core.Path.{_≡_, refl}
 use Prim.Native.Nat.{_-_, _≤_}
 use lib.ListN.{length, take, length-set}
 use lib.Seq.{sets}
-use Rattle.tree_samples.specs.RowFormsLaws.{row-turn, row-end}
+use Rattle.bits.specs.FillLaws.{row-step, row-end}
 use native.Mathlib.Omega.{arith}
 use borrow.Author.Needs.{needs}
-use Rattle.tree_samples.proofs.svq1_enc_tree.inner.put_row.Statement.{statement}
-use Rattle.tree_samples.proofs.svq1_enc_tree.inner.put_row.Tie as tie
+use Rattle.bits.proofs.inner.put_row.Statement.{statement}
+use Rattle.bits.proofs.inner.put_row.Tie as tie
 
 abbrev Inv-loop : tie.InvT-loop
 Inv-loop out₀ at xs i₀ out i = (i ≤ length xs) × (length out ≡ length out₀) × (out ≡ sets out₀ at (take i xs))
@@ -35,7 +36,7 @@ loop-less c = search needs
 loop-again : tie.Need-loop-again Inv-loop μ-loop
 loop-again c =
     let u = c .before .before in
-    (omega arith, simp length-set (u .loop .inv .1), rw (u .loop .inv .2) (row-turn _ _ _ _ (c .before .loop-test .taken)))
+    (omega arith, simp length-set (u .loop .inv .1), rw (u .loop .inv .2) (row-step _ _ _ _ (c .before .loop-test .taken)))
 
 same-length : tie.Need-same-length Inv-loop μ-loop
 same-length c = c .before .loop .inv .1
