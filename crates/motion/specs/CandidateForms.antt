@@ -1,4 +1,4 @@
--- The search as the code holds it: vectors raised to unsigned numbers, a block inside its canvas, the best so far, and the clipped ranges (document 01, `svq1_enc_inter.rs`, over the definitions of Search). What they amount to is in `CandidatesLaws` and `ScanLaws`.
+-- The search as the code holds it: vectors raised to unsigned numbers, a block inside its canvas, the best so far, and the clipped ranges (document 01, `svq1_enc_inter.rs`, over the definitions of Search). What they amount to is in `CandidateFormsLaws` and `ScanLaws`.
 use Prim.Native.Nat.{ℕ, _+_, _-_, _*_, _/_, _<_, _≤_, min}
 use mathlib.Core.Path.{_≡_}
 use mathlib.Core.Bool.{Bool, false, _&&_}
