@@ -216,7 +216,7 @@ static void one_flipped_bit(const char *folder, unsigned pictures, const struct 
     else
         printf("ends at bit %zu", met.next);
     printf("; in picture %u %.0f%% of the samples are wrong\n", last, 100.0 * (double)wrong / (double)(p.width * p.height));
-    printf("  %s/torn.pgm: left as written, right as shown; above picture %u, below picture %u, the last before the next key picture\n", folder, from, last);
+    printf("  %s/torn.pgm: left as written, right as shown; above picture %u, below the last, picture %u\n", folder, from, last);
     plane_free(&p);
     plane_free(&panel);
 }

@@ -8,7 +8,7 @@
  * For x86-64 Linux (ELF, System V calls). The library calls memcpy, memmove and memset, nothing else; it may stand in a program or
  * in a shared object, position-independent or not. C99 and later, C++98 and later. Link:
  *     cc program.c $(pkg-config --cflags --libs cabunlis)      (where it is installed: ./install)
- *     cc program.c -Iinclude target/staticlib/libcabunlis.a    (in the repository, behind host/build-library)
+ *     cc program.c -Iinclude target/staticlib/libcabunlis.a    (in the repository, after host/build-library)
  *
  * What every entry has in common
  *
@@ -92,9 +92,9 @@
 #include <stdint.h>
 
 /*
- * The version. MAJOR is the interface's number: it is raised with every change of an entry's arguments or of what it answers in C,
- * and each entry's symbol in the library carries it. So a program that was compiled with another interface's header does not link,
- * and never runs with its arguments shifted. MINOR is raised when something is added or answered otherwise, PATCH with the rest.
+ * The version. MAJOR is the interface's number: it is raised with every change of an entry's arguments or of a struct that it
+ * answers, and each entry's symbol in the library carries it. So a program that was compiled with another interface's header does not link,
+ * and never runs with its arguments shifted. MINOR is raised when something is added, or answered otherwise under the same arguments and structs, PATCH with the rest.
  */
 #define CABUNLIS_VERSION_MAJOR 1
 #define CABUNLIS_VERSION_MINOR 0

@@ -1,3 +1,4 @@
+// The levels of the block tree.
 ghost use mathlib.Core.Path.{_≡_};
 ghost use Prim.Native.Nat.{_≤_};
 ghost use Rattle.book.specs.Calls.{partsOf, partsLevel};

@@ -1,4 +1,4 @@
--- Planes and canvases: sizes, and refusals 1, 3 and 4 (document 01, `svq1_plane.rs`, "Refused for what came in").
+-- Planes and canvases: sizes, and refusals 1 to 4 (document 01, `svq1_plane.rs`, "Refused for what came in").
 use Prim.Native.Nat.{ℕ, _+_, _*_, _/_}
 use mathlib.Core.Bool.{Bool, _&&_}
 use mathlib.Core.List.{List, [], _∷_}

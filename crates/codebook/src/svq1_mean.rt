@@ -1,3 +1,4 @@
+// A sum clamped to a sample.
 ghost use mathlib.Core.Path.{_≡_};
 ghost use Rattle.codebook.specs.Mean.{saturate};
 

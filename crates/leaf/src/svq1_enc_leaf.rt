@@ -9,7 +9,7 @@ pub enum LeafCode {
     Coded { mean: i16, count: u8 },
 }
 
-// Under what a leaf is searched: which half's tables and vectors, at most how many stages, whether it may be skipped.
+// The terms of a leaf's search: which half's tables and vectors, at most how many stages, whether it may be skipped.
 pub struct LeafTerms {
     pub half: Svq1Half,
     pub cap: usize,

@@ -24,7 +24,7 @@ use Rattle.macroblock.specs.Macroblock.{Given, Motion, still, single, fo
 use Rattle.macroblock.specs.declared.svq1_enc_inter.Settings.{Settings}
 use Rattle.macroblock.specs.Limit.{Limit, unlimited, within, canSkipRest}
 
--- what the writer is given besides
+-- what the writer is given besides: the source, the settings (`lambda`, `radius` and whether `four` vectors are tried), and the limit on its bits
 pub record Task : Type 0 where
   pub source : List ℕ
   pub settings : Settings
@@ -35,7 +35,7 @@ abbrev pub withoutLimit : Task → Task
 withoutLimit t = record { source = t .source; settings = t .settings; limit = unlimited }
 
 -- a source of this width and height, its last column and row repeated to whole macroblocks (`block`). Its stride and its rows are the width and the height
--- rounded up to 16: with any others refusal 3 meets the canvas, so in a plane that is accepted source and reference have the same places
+-- rounded up to 16. A canvas of any other stride or rows is refused by 3, so in a plane that is accepted source and reference have the same places
 unfoldable pub paddedSource : ℕ → ℕ → List ℕ → List ℕ
 paddedSource width height source =
     valuesFrom (λ p. getD source (min (p / padded16 width) (height - 1) * width + min (p % padded16 width) (width - 1)) 0) (padded16 width * padded16 height) 0

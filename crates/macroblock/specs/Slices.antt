@@ -12,7 +12,7 @@ pub record Slices : Type 0 where
   pub vx : List ℕ
   pub vy : List ℕ
 
--- the same, each slice by its samples or bytes
+-- the slices made of three lists: the reconstruction, x, y
 abbrev pub slicesBy : List ℕ → List ℕ → List ℕ → Slices
 slicesBy recon vx vy = record { recon = recon; vx = vx; vy = vy }
 

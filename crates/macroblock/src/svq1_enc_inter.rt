@@ -1,3 +1,4 @@
+// How a macroblock can be coded, and how a plane is to be written.
 pub mod inner;
 
 ghost use mathlib.Core.Path.{_≡_};

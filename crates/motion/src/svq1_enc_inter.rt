@@ -1,3 +1,4 @@
+// The motion search as a call.
 pub mod inner;
 
 ghost use mathlib.Core.Path.{_≡_};

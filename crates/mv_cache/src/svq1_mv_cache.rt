@@ -1,3 +1,4 @@
+// A macroblock's neighbours, and the predictions made of them.
 pub mod inner;
 
 ghost use mathlib.Core.Path.{_≡_};

@@ -1,4 +1,4 @@
--- What the functions behind a plane call ask: a size and a canvas that pass, a call that no refusal meets, and slices whose lengths stay (document 01, refusals 1 to 7, 20 and 21).
+-- What the functions behind a plane call ask: a size and a canvas that pass, a call that no refusal meets, and slices whose lengths stay (document 01, refusals 1, 3 to 7, 20 and 21).
 use Prim.Native.Nat.{ℕ, _≤_}
 use mathlib.Core.List.{List}
 use mathlib.Core.Path.{_≡_}
@@ -11,7 +11,7 @@ use Rattle.macroblock.specs.Macroblock.{Given}
 use Rattle.macroblock.specs.Slices.{Slices, BlockSlice, blocksIn}
 use Rattle.macroblock.specs.MacroblockNeeds.{Accepted, Held}
 
--- a size that passes, and the canvas rounded up from it
+-- a size up to the largest, and the canvas rounded up from it
 pub record Padded (c : Svq1PlaneCanvas) : Type 0 where
   pub width-most : c .width ≤ largestSide
   pub height-most : c .height ≤ largestSide

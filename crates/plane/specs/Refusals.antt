@@ -14,7 +14,7 @@ use Rattle.macroblock.specs.Slices.{Slices}
 use Rattle.plane.specs.declared.svq1_plane.inner.SliceLengths.{SliceLengths}
 use Rattle.plane.specs.Plane.{count}
 
--- 20: a block slice shorter than four a macroblock, or a reconstruction whose length is not stride × rows
+-- 20, by the lengths of the result slices (`recon`, `vx`, `vy`): a block slice shorter than four a macroblock, or a reconstruction whose length is not stride × rows
 unfoldable pub lengthsRefusal : Given → SliceLengths → ℕ
 lengthsRefusal g l =
     unless ((leb (4 * count g) (l .vx) && leb (4 * count g) (l .vy)) && eqb (l .recon) (g .reference .stride * g .reference .rows)) 20

@@ -61,7 +61,7 @@ pruned leaf cut zero i = leaf i
 pruned leaf cut (suc d) i = pick (cut i) (joined (pruned leaf cut d (left i)) (pruned leaf cut d (right i))) (flagged (leaf i))
 
 -- ---- the plan of a block
--- what a plan is made from: the tables and the vectors by level of its terms' half, the terms of its leaves, and the block with its predictor
+-- what a plan is made from: a half's tables and its vectors by level, the terms of its leaves, which name the same half, and the block with its predictor
 pub record Planning : Type 0 where
   pub tables : Tables
   pub vectors : ℕ → Vectors

@@ -1,3 +1,4 @@
+// Motion vectors: their median, their prediction, and the vector that a difference makes.
 pub mod inner;
 
 ghost use mathlib.Core.Path.{_≡_};

@@ -1,4 +1,4 @@
-// Functions that only the crates of this repository call. Most have a `requires`: the caller, proved too, meets it.
+// A function that only the crates of this repository call.
 ghost use mathlib.Core.Path.{_≡_};
 ghost use Prim.Native.Nat.{_≤_};
 ghost use Rattle.canvas.specs.Canvas.{largestSide, blocksAlong};

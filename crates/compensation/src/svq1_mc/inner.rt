@@ -1,3 +1,4 @@
+// Samples and blocks moved by a vector in half samples.
 ghost use mathlib.Core.Path.{_≡_};
 ghost use Prim.Native.Nat.{_<_, _≤_, _*_, _+_};
 ghost use lib.ListN.{length, getD};
