@@ -93,8 +93,9 @@
 
 /*
  * The version. MAJOR is the interface's number: it is raised with every change of an entry's arguments or of a struct that it
- * answers, and each entry's symbol in the library carries it. So a program that was compiled with another interface's header does not link,
- * and never runs with its arguments shifted. MINOR is raised when something is added, or answered otherwise under the same arguments and structs, PATCH with the rest.
+ * answers, and each entry's symbol in the library carries it. So a program that was compiled with another interface's header does
+ * not link, and never runs with its arguments shifted. MINOR is raised when something is added, or answered otherwise under the
+ * same arguments and structs, PATCH with the rest.
  */
 #define CABUNLIS_VERSION_MAJOR 1
 #define CABUNLIS_VERSION_MINOR 0
@@ -147,7 +148,7 @@ extern "C" {
 /* The longest bit string, in bytes. */
 #define CABUNLIS_MOST_BYTES ((size_t)1 << 28)
 
-/* Stack that a call may take, in bytes. Measured: writer 44,704, reader 44,096, a book file 8,104, a room under a book 4,296, the
+/* Stack that a call may take, in bytes. Measured: writer 44,752, reader 44,096, a book file 8,104, a room under a book 4,296, the
  * others next to nothing. */
 #define CABUNLIS_STACK_BYTES 49152
 
@@ -205,8 +206,12 @@ struct cabunlis_answer {
  * start. Costs are counted to 2^64 - 1 and no further: up to a lambda of 2^48 none comes to that, above it several may, and are
  * then equal. radius is the search's, any number from 0 to 255: the zero vector is tried, then those that lie up to so many whole
  * samples to each side of the vector predicted from the neighbours, then the half samples around the best; so a vector may be
- * longer than the radius, and a radius above 31 finds nothing more. Four vectors a macroblock are tried unless `four` is 0. Time
- * grows with the number of macroblocks, and a little with the radius.
+ * longer than the radius, and a radius above 31 finds nothing more. Four vectors a macroblock are tried unless `four` is 0.
+ *
+ * Time grows with the number of macroblocks, up to a radius of 32 with the radius (by half from 8 to 32), and with how little of
+ * the picture is known from the one before: where it is all noise, which is the worst, a macroblock takes two to three times as
+ * long as in a drawn scene. On one core of a server, in pictures of three planes a second at radius 8 and 32: luma of 176 x 144
+ * drawn 134 and 97, noise 50 and 40; of 352 x 288 drawn 36 and 24, noise 13 and 10.
  *
  * Leaves: in `out` the bits of the macroblocks done, zeros behind them to the end of their last byte, everything else as it was,
  * the bits before `start` too (where none is done, every byte); in `recon` their samples as a reader shows them; in `vx` and `vy`
