@@ -7,7 +7,7 @@ use Rattle.bits.specs.Calls.{Answer, done, refused}
 use Rattle.leaf.specs.Leaf.{Leaf}
 use Rattle.leaf.specs.LeafCall.{LeafChosen}
 use Rattle.leaf.specs.LentNeeds.{sixOf}
-use Rattle.call_entries.specs.Node.{kindOf, meanOf, countOf}
+use Rattle.call_entries.specs.Node.{kindOf, leafMean, countOf}
 use Rattle.call_entries.specs.declared.leaf_part.LeafPart.{LeafPart}
 
 -- a block's samples, and zeros up to the 256 of a macroblock
@@ -19,7 +19,7 @@ abbrev pub partOf : Leaf → ℕ → ℕ → List ℕ → LeafPart
 partOf l bits error samples = record {
   bits = bits;
   error = error;
-  mean = meanOf l;
+  mean = leafMean l;
   refused = 0;
   kind = kindOf l;
   count = countOf l;

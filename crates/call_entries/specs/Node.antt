@@ -13,9 +13,9 @@ kindOf skip = 2
 kindOf (coded m js) = 3
 
 -- the mean, 0 for skip
-abbrev pub meanOf : Leaf → ℤ
-meanOf skip = pos 0
-meanOf (coded m js) = m
+abbrev pub leafMean : Leaf → ℤ
+leafMean skip = pos 0
+leafMean (coded m js) = m
 
 -- how many stages
 abbrev pub countOf : Leaf → ℕ
@@ -24,7 +24,7 @@ countOf (coded m js) = length js
 
 -- a leaf
 abbrev pub leafNode : Leaf → NodePart
-leafNode l = record { mean = meanOf l; kind = kindOf l; count = countOf l; stages = sixOf l }
+leafNode l = record { mean = leafMean l; kind = kindOf l; count = countOf l; stages = sixOf l }
 
 -- a block that is no leaf: its kind, everything else 0
 abbrev pub bareNode : ℕ → NodePart

@@ -47,8 +47,8 @@ module _ (g : Given) (t : Task) (out : List ℕ) (start : ℕ) (a : Slices) wher
   final = stateAt (count g)
 
   -- what any mode costs for macroblock k, with the vectors that those before it left
-  abbrev pub costOf : ℕ → Choice → ℕ
-  costOf k c = total (t .settings .lambda) (weightOf g t k (near g (stateAt k .slices) k) c)
+  abbrev pub modeCost : ℕ → Choice → ℕ
+  modeCost k c = total (t .settings .lambda) (weightOf g t k (near g (stateAt k .slices) k) c)
 
   -- the seven sentences of demand 3, numbered as there
   pub record Claim : Type 0 where
@@ -72,7 +72,7 @@ module _ (g : Given) (t : Task) (out : List ℕ) (start : ℕ) (a : Slices) wher
     -- 5. in each plan every other pruning over the same leaf choices costs at least as much
     pub no-pruning-cheaper : (k : ℕ) → k < count g → All (λ m. (cut : ℕ → Bool) → planCost (planningFor g t k m) ≤ prunedCost (planningFor g t k m) cut) (motionsTried g t k (near g (stateAt k .slices) k))
     -- 6. no mode tried, and under an allowance no fitting mode, costs less than the one written
-    pub no-mode-cheaper : (k : ℕ) → k < count g → All (λ c. costOf k (wrote g t k (stateAt k)) ≤ costOf k c) (fitting g t k (near g (stateAt k .slices) k) (stateAt k .bits))
+    pub no-mode-cheaper : (k : ℕ) → k < count g → All (λ c. modeCost k (wrote g t k (stateAt k)) ≤ modeCost k c) (fitting g t k (near g (stateAt k .slices) k) (stateAt k .bits))
     -- 7. squared error plus lambda times bits is never above that of skipping every macroblock
     pub never-above-skipping : final .error + t .settings .lambda * final .bits ≤ sse (paddedSource (g .width) (g .height) (t .source)) (g .reference .samples) + t .settings .lambda * (length (modeBits g Skip) * count g)
     -- under an allowance: before each macroblock, and at the end, it still holds a SKIP code for each to come, in this plane and behind it

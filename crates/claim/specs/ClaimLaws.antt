@@ -36,7 +36,7 @@ use Rattle.plane.specs.LimitLaws.{skip-rest-at}
 use Rattle.plane.specs.SlicesLaws.{Sized, holds-recon, laid-sized, ranged-laid, Alike, alike-laid, alike-near, laid-past}
 use Rattle.claim.specs.SumLaws.{sse-blocks}
 use Rattle.claim.specs.OutputLaws.{reached, appended, held, before, stands-in}
-use Rattle.claim.specs.Claim.{ReadBack, stateAt, final, costOf, Claimed}
+use Rattle.claim.specs.Claim.{ReadBack, stateAt, final, modeCost, Claimed}
 use Rattle.claim.specs.AcceptedLaws.{Accepted, accepted, slices-sized, padded-size}
 
 module _ (g : Given) (t : Task) (ok : Accepted g t) (out : List ℕ) (start : ℕ) (a : Slices) (sized : Sized g a)
@@ -196,7 +196,7 @@ module _ (g : Given) (t : Task) (ok : Accepted g t) (out : List ℕ) (start : �
   skipLength = length (modeBits g Skip)
 
   module _ (low : t .settings .lambda ≤ largestLambda) where
-    pub cheapest : (k : ℕ) → All (λ c. costOf g t out start a k (W k) ≤ costOf g t out start a k c) (fitting g t k (near g (S k .slices) k) (S k .bits))
+    pub cheapest : (k : ℕ) → All (λ c. modeCost g t out start a k (W k) ≤ modeCost g t out start a k c) (fitting g t k (near g (S k .slices) k) (S k .bits))
     cheapest k = chosen-least g t (ok .fine) low k (near g (S k .slices) k) (S k .bits)
 
     module _ (enough : canSkipRest (t .limit) g 0 0 ≡ true) where

@@ -60,26 +60,26 @@ pub record FieldFound (most : ℕ) (t : List ℕ) (r : FieldRead) : Type 0 where
   pub within : behindField r ≤ length t
 
 -- ---- all of them
-abbrev pub onto : Option ℕ → Option (List ℕ) → Option (List ℕ)
-onto o none = none
-onto none (some ns) = none
-onto (some n) (some ns) = some (n ∷ ns)
+abbrev pub ontoNumbers : Option ℕ → Option (List ℕ) → Option (List ℕ)
+ontoNumbers o none = none
+ontoNumbers none (some ns) = none
+ontoNumbers (some n) (some ns) = some (n ∷ ns)
 
 -- as many fields as bounds, each a number within its bound
 unfoldable pub eachUpTo : List ℕ → List (List ℕ) → Option (List ℕ)
 eachUpTo [] [] = some []
 eachUpTo [] (f ∷ fs) = none
 eachUpTo (m ∷ ms) [] = none
-eachUpTo (m ∷ ms) (f ∷ fs) = onto (numberUpTo m f) (eachUpTo ms fs)
+eachUpTo (m ∷ ms) (f ∷ fs) = ontoNumbers (numberUpTo m f) (eachUpTo ms fs)
 
 abbrev pub ontoRest : Option Taken → (List ℕ → Option (List ℕ)) → Option (List ℕ)
 ontoRest none f = none
-ontoRest (some t) f = onto (some (t .number)) (f (t .rest))
+ontoRest (some t) f = ontoNumbers (some (t .number)) (f (t .rest))
 
 -- the same from a text, its fields one after the other
 unfoldable pub fieldsIn : List ℕ → List ℕ → Option (List ℕ)
 fieldsIn [] t = none
-fieldsIn (m ∷ []) t = onto (numberUpTo m t) (some [])
+fieldsIn (m ∷ []) t = ontoNumbers (numberUpTo m t) (some [])
 fieldsIn (m ∷ (k ∷ ms)) t = ontoRest (fieldIn m t) (fieldsIn (k ∷ ms))
 
 -- width, height, lambda, radius, four

@@ -17,11 +17,11 @@ use Rattle.text.specs.WritingFormsLaws.{digits-without}
 use Rattle.listing_job.specs.Job.{Job, mostWidth, mostHeight, jobOf, jobRead, oneLine, jobIn, jobAnswer}
 use Rattle.listing_job.specs.declared.JobRead.{JobRead}
 use Rattle.listing_job.specs.declared.FieldRead.the-variants.{Field, NoField}
-use Rattle.listing_job.specs.JobForms.{jobGiven, jobTold, Taken, takenOf, fieldIn, FieldFound, onto, eachUpTo, ontoRest, fieldsIn, bounds, jobMade}
+use Rattle.listing_job.specs.JobForms.{jobGiven, jobTold, Taken, takenOf, fieldIn, FieldFound, ontoNumbers, eachUpTo, ontoRest, fieldsIn, bounds, jobMade}
 
 -- ---- all fields
 -- a job is read where each field is a number within its bound
-made : (w h l r f : Option ℕ) → jobOf w h l r f ≡ jobMade (onto w (onto h (onto l (onto r (onto f (some []))))))
+made : (w h l r f : Option ℕ) → jobOf w h l r f ≡ jobMade (ontoNumbers w (ontoNumbers h (ontoNumbers l (ontoNumbers r (ontoNumbers f (some []))))))
 made none h l r none = refl
 made none h l none (some f) = refl
 made none h none (some r) (some f) = refl
@@ -66,11 +66,11 @@ number-comma most t h = go (isNumber t) refl
     go true q = absurd (omega (arith, count-all comma t (digits-without comma t refl (digits-number t q))))
     go false q = refl
 
-onto-none : (o : Option (List ℕ)) → onto none o ≡ none
+onto-none : (o : Option (List ℕ)) → ontoNumbers none o ≡ none
 onto-none none = refl
 onto-none (some ns) = refl
 
-onto-taken : (o : Option ℕ) (rest : List ℕ) (f : List ℕ → Option (List ℕ)) → onto o (f rest) ≡ ontoRest (takenOf o rest) f
+onto-taken : (o : Option ℕ) (rest : List ℕ) (f : List ℕ → Option (List ℕ)) → ontoNumbers o (f rest) ≡ ontoRest (takenOf o rest) f
 onto-taken none rest f = onto-none (f rest)
 onto-taken (some n) rest f = refl
 
@@ -111,7 +111,7 @@ last-in m t = go (ltb n (length t)) refl
     n : ℕ
     n = countBefore comma t
 
-    go : (b : Bool) → ltb n (length t) ≡ b → eachUpTo (m ∷ []) (fieldsOf t) ≡ onto (numberUpTo m t) (some [])
+    go : (b : Bool) → ltb n (length t) ≡ b → eachUpTo (m ∷ []) (fieldsOf t) ≡ ontoNumbers (numberUpTo m t) (some [])
     go true q =
         let h = ltb-true n (length t) q in
         rw (first-field t h, number-comma m t h) (last-behind m (take n t) (fieldsOf (drop (n + 1) t)) (some-field (drop (n + 1) t)))

@@ -77,13 +77,13 @@ totalLine bits error = lineOf (ascii "total" ∷ decimal bits ∷ decimal error 
 
 -- a plane listed as it is written from bit 0 into an output, given as its bits
 module _ (g : Given) (t : Task) (out : List ℕ) where
-  abbrev pub stateAt : ℕ → Writing
-  stateAt k = writingAt g t out 0 (noSlices g) k
+  abbrev pub listedState : ℕ → Writing
+  listedState k = writingAt g t out 0 (noSlices g) k
 
   -- row, column, mode, bits, error of macroblock k; rows and columns count macroblocks
   unfoldable pub macroblockLine : ℕ → List ℕ
   macroblockLine k =
-      let m = stepStated g t k (stateAt k) in
+      let m = stepStated g t k (listedState k) in
       lineOf (
       decimal (k / cols g) ∷ decimal (k % cols g) ∷ modeName (m .mode) ∷ decimal (m .bits)
       ∷ decimal (m .error) ∷ [])

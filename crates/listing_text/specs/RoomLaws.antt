@@ -20,7 +20,7 @@ use Rattle.plane.specs.Run.{End}
 use Rattle.plane.specs.Plane.{count, Writing, stepStated, writePlane}
 use Rattle.listing_job.specs.Job.{Job, mostWidth, mostHeight, jobIn}
 use Rattle.listing_job.specs.JobLaws.{job-small}
-use Rattle.listing_text.specs.Listing.{Files, givenOf, taskOf, filesRefusal, noSlices, modeName, stateAt, macroblockLine, linesTo, totalLine, refusedText, textInto, planeText, jobText, listing}
+use Rattle.listing_text.specs.Listing.{Files, givenOf, taskOf, filesRefusal, noSlices, modeName, listedState, macroblockLine, linesTo, totalLine, refusedText, textInto, planeText, jobText, listing}
 use Rattle.listing_text.specs.LineForms.{ListedPut}
 use Rattle.listing_text.specs.LineFormsLaws.{decimal-most}
 use Rattle.listing_text.specs.Listed.{listingRoom, mostBlocks, Listed}
@@ -49,7 +49,7 @@ module _ (g : Given) (t : Task) (out : List ℕ) where
   line-most : (k : ℕ) → length (macroblockLine g t out k) ≤ 94
   unfolding macroblockLine
   line-most k =
-      let m = stepStated g t k (stateAt g t out k) in
+      let m = stepStated g t k (listedState g t out k) in
       five-most _ _ _ _ _ (decimal-most _) (decimal-most _) (name-most (m .mode)) (decimal-most (m .bits)) (decimal-most (m .error))
 
   lines-most : (n : ℕ) → length (linesTo g t out n) ≤ 94 * n

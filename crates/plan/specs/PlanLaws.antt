@@ -10,7 +10,7 @@ use borrow.Author.Tests.{ltb-true, ltb-false}
 use Rattle.bits.specs.Basics.{pick}
 use Rattle.tree.specs.Blocks.{blockCount, left, right, level}
 use Rattle.tree.specs.BlocksLaws.{At, at-parts, suc-level}
-use Rattle.tree.specs.Plan.{Weight, total, cost, joined, flagged, planned, pruned, splits}
+use Rattle.tree.specs.Plan.{Weight, total, cost, jointWeight, flagged, planned, pruned, splits}
 
 -- leaves that weigh the same give the same plan
 module _ (f h : ℕ → Weight) (lambda : ℕ) (same : (i : ℕ) → i < blockCount → f i ≡ h i) where
@@ -71,14 +71,14 @@ abbrev better : ℕ → Weight → Weight → Weight
 better lambda s l = pick (ltb (cost lambda s) (cost lambda l)) s l
 
 -- one step: of a block whose parts weigh pl and pr in the plan, ql and qr in the pruning
-step : (lambda b e : ℕ) (pl pr ql qr o : Weight) → Under b e (joined pl pr) → Under b e (flagged o) → e + lambda * b < 2 ^ 64
+step : (lambda b e : ℕ) (pl pr ql qr o : Weight) → Under b e (jointWeight pl pr) → Under b e (flagged o) → e + lambda * b < 2 ^ 64
     → total lambda pl ≤ total lambda ql → total lambda pr ≤ total lambda qr
-    → (t : Bool) → total lambda (better lambda (joined pl pr) (flagged o)) ≤ total lambda (pick t (joined ql qr) (flagged o))
+    → (t : Bool) → total lambda (better lambda (jointWeight pl pr) (flagged o)) ≤ total lambda (pick t (jointWeight ql qr) (flagged o))
 step lambda b e pl pr ql qr o us uo h hl hr = elim [ true ↦ le-trans (two .0) (simp mul-add (omega arith)) | false ↦ two .1 ]
   where
-    two : (total lambda (better lambda (joined pl pr) (flagged o)) ≤ total lambda (joined pl pr))
-        × (total lambda (better lambda (joined pl pr) (flagged o)) ≤ total lambda (flagged o))
-    two = least lambda (joined pl pr) (flagged o) _ refl (exact lambda b e (joined pl pr) us h) (exact lambda b e (flagged o) uo h)
+    two : (total lambda (better lambda (jointWeight pl pr) (flagged o)) ≤ total lambda (jointWeight pl pr))
+        × (total lambda (better lambda (jointWeight pl pr) (flagged o)) ≤ total lambda (flagged o))
+    two = least lambda (jointWeight pl pr) (flagged o) _ refl (exact lambda b e (jointWeight pl pr) us h) (exact lambda b e (flagged o) uo h)
 
 under-more : (b e d : ℕ) (w : Weight) → Under b e w → Under (most-bits b d) (most-err e d) w
 under-more b e zero w h = h
@@ -95,7 +95,7 @@ module _ (leaf : ℕ → Weight) (lambda b e : ℕ) (Ok : ℕ → ℕ → Type 0
       let hl = planned-under d (left i) (p .0) in
       let hr = planned-under d (right i) (p .1) in
       let ho = under-more b e d (leaf i) (small (suc d) i a) in
-      let s = joined (planned leaf lambda d (left i)) (planned leaf lambda d (right i)) in
+      let s = jointWeight (planned leaf lambda d (left i)) (planned leaf lambda d (right i)) in
       pick-under (ltb (cost lambda s) (cost lambda (flagged (leaf i)))) (most-bits b (suc d)) (most-err e (suc d)) s (flagged (leaf i)) (omega arith) (omega arith)
 
   -- No pruning over the same leaf choices costs less than the plan.

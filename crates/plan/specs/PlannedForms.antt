@@ -5,7 +5,7 @@ use Prim.Native.Nat.{ℕ, _^_, _≤_, _<_}
 use borrow.Author.Tests.{lt-ltb, le-ltb}
 use Rattle.bits.specs.Basics.{pick}
 use Rattle.leaf.specs.LentNeeds.{Clean}
-use Rattle.tree.specs.Plan.{Weight, cost, joined, flagged, cheaper}
+use Rattle.tree.specs.Plan.{Weight, cost, jointWeight, flagged, cheaper}
 use Rattle.plan.specs.declared.svq1_enc_tree.PlannedBlock.{PlannedBlock}
 
 -- bits and an error as a weight, and what a record weighs
@@ -31,12 +31,12 @@ decidedAs split l w = record { split = split; bits = w .bits; error = w .err; co
 -- a leaf, or a split where that is strictly cheaper
 unfoldable pub decided : ℕ → PlannedBlock → PlannedBlock → PlannedBlock → PlannedBlock
 decided lambda l x y =
-    pick (cheaper lambda (joined (weigh x) (weigh y)) (flagged (weigh l)))
-    (decidedAs true l (joined (weigh x) (weigh y))) (decidedAs false l (flagged (weigh l)))
+    pick (cheaper lambda (jointWeight (weigh x) (weigh y)) (flagged (weigh l)))
+    (decidedAs true l (jointWeight (weigh x) (weigh y))) (decidedAs false l (flagged (weigh l)))
 
 -- the two ways to decide, by the costs p and q as they were computed
-module _ (lambda : ℕ) (l x y : PlannedBlock) (p q : ℕ) (hp : p ≡ cost lambda (joined (weigh x) (weigh y))) (hq : q ≡ cost lambda (flagged (weigh l))) where
-  pub decided-split : p < q → decidedAs true l (joined (weigh x) (weigh y)) ≡ decided lambda l x y
+module _ (lambda : ℕ) (l x y : PlannedBlock) (p q : ℕ) (hp : p ≡ cost lambda (jointWeight (weigh x) (weigh y))) (hq : q ≡ cost lambda (flagged (weigh l))) where
+  pub decided-split : p < q → decidedAs true l (jointWeight (weigh x) (weigh y)) ≡ decided lambda l x y
   unfolding decided
   decided-split h = sym (rw (← hp, ← hq, lt-ltb p q h))
 

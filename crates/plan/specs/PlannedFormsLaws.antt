@@ -13,7 +13,7 @@ use Rattle.leaf.specs.LeafForms.{leafOf}
 use Rattle.leaf.specs.declared.svq1_enc_leaf.LeafCode.the-variants.{Skip}
 use Rattle.tree.specs.Blocks.{left, right, level}
 use Rattle.tree.specs.BlocksLaws.{level-0, level-part, suc-level, level-le}
-use Rattle.tree.specs.Plan.{Weight, Planning, joined, flagged, cheaper, planned, splits, leafAt, weightAt, planSplits}
+use Rattle.tree.specs.Plan.{Weight, Planning, jointWeight, flagged, cheaper, planned, splits, leafAt, weightAt, planSplits}
 use Rattle.plan.specs.PlanLaws.{most-bits, most-err}
 use Rattle.plan.specs.PlanClaimLaws as claim
 use Rattle.tree_samples.specs.SubtreeForms.{inTree}
@@ -65,10 +65,10 @@ module _ (g : Planning) where
 
   -- what is decided depends on what the leaf and the two parts weigh
   abbrev decide-by : Weight → Weight → Weight → Bool
-  decide-by l x y = cheaper (g .lambda) (joined x y) (flagged l)
+  decide-by l x y = cheaper (g .lambda) (jointWeight x y) (flagged l)
 
   abbrev weigh-by : Weight → Weight → Weight → Weight
-  weigh-by l x y = pick (decide-by l x y) (joined x y) (flagged l)
+  weigh-by l x y = pick (decide-by l x y) (jointWeight x y) (flagged l)
 
   by-same : {A : Type 0} (f : Weight → Weight → Weight → A) (l l' x x' y y' : Weight) → l ≡ l' → x ≡ x' → y ≡ y' → f l x y ≡ f l' x' y'
   by-same f l l' x x' y y' p q r = ap₂ (λ (a b : Weight). f l a b) q r ∙ ap (λ (a : Weight). f a x' y') p

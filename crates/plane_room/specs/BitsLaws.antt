@@ -22,7 +22,7 @@ use Rattle.vectors.specs.declared.svq1_motion_predictor.Svq1Mv.{Svq1Mv}
 use Rattle.vectors.specs.Vectors.{placeOf}
 use Rattle.mv_cache.specs.Neighbours.{Near, forOne, forFirst, forSecond, forThird, forFourth}
 use Rattle.tree.specs.Blocks.{left, right, level}
-use Rattle.tree.specs.Plan.{Weight, Planning, joined, flagged, cheaper, planned, root, leafAt, weightAt, planWeight}
+use Rattle.tree.specs.Plan.{Weight, Planning, jointWeight, flagged, cheaper, planned, root, leafAt, weightAt, planWeight}
 use Rattle.plan.specs.PlanLaws.{most-bits}
 use Rattle.plan.specs.PlanClaimLaws.{Planned, allowed, plan-bits}
 use Rattle.tree.specs.TreeBits.{planTree, treeBits}
@@ -58,7 +58,7 @@ planned-few : (leaf : ℕ → Weight) (lambda b : ℕ) → ((i : ℕ) → leaf i
 unfolding planned
 planned-few leaf lambda b h zero i = h i
 planned-few leaf lambda b h (suc d) i =
-    let parts = joined (planned leaf lambda d (left i)) (planned leaf lambda d (right i)) in
+    let parts = jointWeight (planned leaf lambda d (left i)) (planned leaf lambda d (right i)) in
     pick-few (cheaper lambda parts (flagged (leaf i))) (most-bits b (suc d)) parts (flagged (leaf i))
     (omega (arith, planned-few leaf lambda b h d (left i), planned-few leaf lambda b h d (right i))) (omega (arith, h i, leaf-below b d))
 

@@ -14,7 +14,7 @@ use Rattle.book.specs.Level.{square, width, height, area}
 use Rattle.leaf.specs.Leaf.{sse}
 use Rattle.tree.specs.Blocks.{blockCount, left, right, level, first, gather, paint, step, placeUnder, place, blockOf, paintAt, rebuilt}
 use Rattle.tree.specs.BlocksLaws.{suc-level, suc-row, level-part, level-le}
-use Rattle.tree.specs.Plan.{Weight, pruned, joined, flagged}
+use Rattle.tree.specs.Plan.{Weight, pruned, jointWeight, flagged}
 use Rattle.tree.specs.RowsLaws.{weave, Inside, sse-append, sse-weave, gather-add, gather-weave, length-gather, length-weave, gather-whole, paint-add, paint-weave, bytes-gather, bytes-both, bytes-weave, sse-most}
 
 -- the samples of a block from those of its two parts of level d
@@ -159,7 +159,7 @@ module _ (s n : ℕ) (cut : ℕ → Bool) (show : ℕ → List ℕ) (len : (i : 
   error-step : (d : ℕ) (t o l r tl tr : List ℕ) (pl pr pw : Weight) (c : Bool)
       → length l ≡ area d → length r ≡ area d → length tl ≡ area d → length tr ≡ area d → t ≡ join d tl tr
       → pl .err ≡ sse tl l → pr .err ≡ sse tr r → pw .err ≡ sse t o
-      → pick c (joined pl pr) (flagged pw) .err ≡ sse t (pick c (join d l r) o)
+      → pick c (jointWeight pl pr) (flagged pw) .err ≡ sse t (pick c (join d l r) o)
   error-step d t o l r tl tr pl pr pw true a b c e h x y z =
       rw h (omega (arith, sse-parts (square (suc d)) (height d) (width d) tl tr l r c e a b))
   error-step d t o l r tl tr pl pr pw false a b c e h x y z = z

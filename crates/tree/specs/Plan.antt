@@ -31,8 +31,8 @@ abbrev pub cost : ℕ → Weight → ℕ
 cost lambda w = saturated (total lambda w)
 
 -- a split: one flag bit and the two parts
-abbrev pub joined : Weight → Weight → Weight
-joined a b = record { bits = a .bits + b .bits + 1; err = a .err + b .err }
+abbrev pub jointWeight : Weight → Weight → Weight
+jointWeight a b = record { bits = a .bits + b .bits + 1; err = a .err + b .err }
 
 -- a leaf above L0: one flag bit and the leaf
 abbrev pub flagged : Weight → Weight
@@ -46,19 +46,19 @@ cheaper lambda a b = ltb (cost lambda a) (cost lambda b)
 unfoldable pub planned : (ℕ → Weight) → ℕ → ℕ → ℕ → Weight
 planned leaf lambda zero i = leaf i
 planned leaf lambda (suc d) i =
-    let parts = joined (planned leaf lambda d (left i)) (planned leaf lambda d (right i)) in
+    let parts = jointWeight (planned leaf lambda d (left i)) (planned leaf lambda d (right i)) in
     pick (cheaper lambda parts (flagged (leaf i))) parts (flagged (leaf i))
 
 -- whether the plan splits block i of level d
 unfoldable pub splits : (ℕ → Weight) → ℕ → ℕ → ℕ → Bool
 splits leaf lambda zero i = false
 splits leaf lambda (suc d) i =
-    cheaper lambda (joined (planned leaf lambda d (left i)) (planned leaf lambda d (right i))) (flagged (leaf i))
+    cheaper lambda (jointWeight (planned leaf lambda d (left i)) (planned leaf lambda d (right i))) (flagged (leaf i))
 
 -- what any pruning weighs: it starts at block i, and `cut` says of each block that it reaches whether it is split; L0 never is
 unfoldable pub pruned : (ℕ → Weight) → (ℕ → Bool) → ℕ → ℕ → Weight
 pruned leaf cut zero i = leaf i
-pruned leaf cut (suc d) i = pick (cut i) (joined (pruned leaf cut d (left i)) (pruned leaf cut d (right i))) (flagged (leaf i))
+pruned leaf cut (suc d) i = pick (cut i) (jointWeight (pruned leaf cut d (left i)) (pruned leaf cut d (right i))) (flagged (leaf i))
 
 -- ---- the plan of a block
 -- what a plan is made from: a half's tables and its vectors by level, the terms of its leaves, which name the same half, and the block with its predictor

@@ -2,6 +2,7 @@
 ghost use mathlib.Core.Path.{_≡_};
 ghost use Prim.Native.Nat.{_+_, _-_, _*_, _<_, _≤_, min};
 ghost use lib.ListN.{length, take};
+ghost use lib.IntN.{subℕ};
 ghost use Rattle.bits.specs.Basics.{natural};
 ghost use Rattle.bits.specs.BitNeeds.{Fits, Wrote};
 ghost use Rattle.book.specs.Book.{bookRefusal};
@@ -15,6 +16,14 @@ use book::inner::mean_table;
 use book::inner::stage_table;
 use book::svq1_blocktree::Svq1Level;
 use book::svq1_vlc::Svq1Half;
+
+// The signed mean of one kept plus 256.
+pub fn signed_mean(m: u16) -> i16
+    requires { ⌜ m ≤ 511 ⌝ }
+    ensures { λ r. ⌜ r ≡ subℕ m 256 ⌝ }
+{
+    (m as i16) - 256
+}
 
 // A number that is not below 0, or 0.
 fn not_negative(z: i32) -> usize

@@ -3,7 +3,6 @@ ghost use mathlib.Core.Path.{_≡_};
 ghost use mathlib.Core.Bool.{_&&_};
 ghost use Prim.Native.Nat.{_+_, _-_, _*_, _<_, _≤_};
 ghost use lib.ListN.{length, take, drop};
-ghost use lib.IntN.{subℕ};
 ghost use lib.Dec.{ltb};
 ghost use Rattle.bits.specs.BitNeeds.{Fits};
 ghost use Rattle.bits.specs.Bits.{valOf, bitsOf};
@@ -11,16 +10,9 @@ ghost use Rattle.codebook.specs.Mean.{meanAt};
 ghost use Rattle.leaf.specs.LeafBits.{readSkip, readLeaf};
 ghost use Rattle.leaf.specs.LentNeeds.{LentTables, lentTables, MeanTable, padded, refusedLeaf, LeafRead, nibbles, readIndices, readMean, lentRest};
 use super::super::svq1_enc_leaf::LeafCode;
+use super::super::svq1_enc_leaf::inner::signed_mean;
 use book::svq1_vlc::Svq1Half;
 use code_tables::svq1_vlc::CodeRead;
-
-// The signed mean of one kept plus 256.
-pub fn signed_mean(m: u16) -> i16
-    requires { ⌜ m ≤ 511 ⌝ }
-    ensures { λ r. ⌜ r ≡ subℕ m 256 ⌝ }
-{
-    (m as i16) - 256
-}
 
 // What reading a leaf answers: 0, the bit behind the leaf and the leaf; or a refusal's number, and a skip that stands for nothing.
 pub struct ReadLeaf {

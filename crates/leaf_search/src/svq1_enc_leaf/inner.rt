@@ -16,7 +16,7 @@ use book::svq1_vlc::Svq1Half;
 use codebook::svq1_codebook::inner::page_start;
 use leaf::svq1_enc_leaf::LeafCode;
 use leaf::svq1_enc_leaf::LeafTerms;
-use leaf::svq1_plane::inner::signed_mean;
+use leaf::svq1_enc_leaf::inner::signed_mean;
 use leaf_samples::svq1_enc_leaf::inner::add_stage;
 use leaf_samples::svq1_enc_leaf::inner::bias_of;
 use leaf_samples::svq1_enc_leaf::inner::copy;

@@ -4,8 +4,8 @@ use native.Mathlib.Omega.{arith}
 use mir.Facts.{toZ-ofZ}
 use Rattle.leaf.specs.SignedLaws.{to-pos, sub-sfits}
 use borrow.Author.Needs.{needs}
-use Rattle.leaf.proofs.svq1_plane.inner.signed_mean.Statement.{statement}
-use Rattle.leaf.proofs.svq1_plane.inner.signed_mean.Tie as tie
+use Rattle.leaf.proofs.svq1_enc_leaf.inner.signed_mean.Statement.{statement}
+use Rattle.leaf.proofs.svq1_enc_leaf.inner.signed_mean.Tie as tie
 
 cast-result : tie.Need-cast-result
 cast-result c = search needs
