@@ -5,7 +5,7 @@ use mathlib.Core.Path.{_≡_}
 use Rattle.bits.specs.Basics.{pick}
 use Rattle.macroblock.specs.Macroblock.{Given}
 use Rattle.macroblock.specs.Choice.{Task}
-use Rattle.macroblock.specs.Slices.{Slices}
+use Rattle.macroblock.specs.Slices.{Slices, Lent}
 use Rattle.plane.specs.Refusals.{midPlane}
 use Rattle.plane.specs.Calls.{PlaneAnswer, writeAnswer, PlaneWritten, readPlaneAnswer, PlaneRead}
 use Rattle.plane_enc.specs.Stated.{PlaneStated}
@@ -19,14 +19,14 @@ hostAnswer a =
     record { refusal = a .refusal; macroblock = pick (midPlane (a .refusal)) (a .done) 0; done = a .done; next = a .next; bits = a .bits; error = a .error }
 
 -- the writer: r is the answer of the definition, and the slices are left as it says
-pub record HostWritten (g : Given) (t : Task) (out : List ℕ) (start : ℕ) (s : Slices) (r : HostAnswer) (out' : List ℕ) (s' : Slices) : Type 0 where
-  pub answer : r ≡ hostAnswer (writeAnswer g t out start s)
-  pub left : PlaneWritten g t out start s (writeAnswer g t out start s) out' s'
+pub record HostWritten (g : Given) (t : Task) (start : ℕ) (l : Lent) (r : HostAnswer) (l' : Lent) : Type 0 where
+  pub answer : r ≡ hostAnswer (writeAnswer g t (l .out) start (l .slices))
+  pub left : PlaneWritten g t start l (writeAnswer g t (l .out) start (l .slices)) l'
 
 -- the same with `stated`, which holds held before and what the macroblocks state after
-pub record HostStated (g : Given) (t : Task) (out : List ℕ) (start : ℕ) (s : Slices) (held : List ℕ) (r : HostAnswer) (out' : List ℕ) (s' : Slices) (stated' : List ℕ) : Type 0 where
-  pub answer : r ≡ hostAnswer (writeAnswer g t out start s)
-  pub left : PlaneStated g t out start s held (writeAnswer g t out start s) out' s' stated'
+pub record HostStated (g : Given) (t : Task) (start : ℕ) (l : Lent) (held : List ℕ) (r : HostAnswer) (l' : Lent) (stated' : List ℕ) : Type 0 where
+  pub answer : r ≡ hostAnswer (writeAnswer g t (l .out) start (l .slices))
+  pub left : PlaneStated g t start l held (writeAnswer g t (l .out) start (l .slices)) l' stated'
 
 -- the reader
 pub record HostRead (g : Given) (bytes : List ℕ) (start : ℕ) (s : Slices) (r : HostAnswer) (s' : Slices) : Type 0 where

@@ -7,7 +7,7 @@ ghost use Rattle.macroblock.specs.MacroblockNeeds.{givenBy};
 ghost use Rattle.macroblock_choice.specs.ChosenNeeds.{taskBy};
 ghost use Rattle.plane.specs.Refusals.{midPlane};
 ghost use Rattle.cabunlis.specs.Host.{hostAnswer, HostWritten, HostStated, HostRead};
-ghost use Rattle.macroblock.specs.Slices.{slicesBy};
+ghost use Rattle.macroblock.specs.Slices.{slicesBy, lentBy};
 use canvas::svq1_plane::Svq1PlaneCanvas;
 use macroblock::svq1_enc_inter::Settings;
 use plane_dec::svq1_plane::decode_inter_plane;
@@ -92,7 +92,7 @@ pub extern "C" fn cabunlis1_encode_inter_plane(
     vx: &mut [u8],
     vy: &mut [u8],
 ) -> HostAnswer
-    ensures { λ r. ⌜ HostWritten (givenBy (record { width = width; height = height; stride = stride; rows = rows }) (now (reference .entry)) (now (book .entry)) (now (codebook .entry))) (taskBy (now (source .entry)) (record { lambda = lambda; radius = radius; four = not (eqb four 0) })) (now (out .entry)) start (slicesBy (now (recon .entry)) (now (vx .entry)) (now (vy .entry))) r (now (out .exit)) (slicesBy (now (recon .exit)) (now (vx .exit)) (now (vy .exit))) ⌝ }
+    ensures { λ r. ⌜ HostWritten (givenBy (record { width = width; height = height; stride = stride; rows = rows }) (now (reference .entry)) (now (book .entry)) (now (codebook .entry))) (taskBy (now (source .entry)) (record { lambda = lambda; radius = radius; four = not (eqb four 0) })) start (lentBy (now (out .entry)) (slicesBy (now (recon .entry)) (now (vx .entry)) (now (vy .entry)))) r (lentBy (now (out .exit)) (slicesBy (now (recon .exit)) (now (vx .exit)) (now (vy .exit)))) ⌝ }
 {
     let canvas = Svq1PlaneCanvas {
         width,
@@ -142,7 +142,7 @@ pub extern "C" fn cabunlis1_encode_inter_plane_stated(
     vy: &mut [u8],
     stated: &mut [u32],
 ) -> HostAnswer
-    ensures { λ r. ⌜ HostStated (givenBy (record { width = width; height = height; stride = stride; rows = rows }) (now (reference .entry)) (now (book .entry)) (now (codebook .entry))) (taskBy (now (source .entry)) (record { lambda = lambda; radius = radius; four = not (eqb four 0) })) (now (out .entry)) start (slicesBy (now (recon .entry)) (now (vx .entry)) (now (vy .entry))) (now (stated .entry)) r (now (out .exit)) (slicesBy (now (recon .exit)) (now (vx .exit)) (now (vy .exit))) (now (stated .exit)) ⌝ }
+    ensures { λ r. ⌜ HostStated (givenBy (record { width = width; height = height; stride = stride; rows = rows }) (now (reference .entry)) (now (book .entry)) (now (codebook .entry))) (taskBy (now (source .entry)) (record { lambda = lambda; radius = radius; four = not (eqb four 0) })) start (lentBy (now (out .entry)) (slicesBy (now (recon .entry)) (now (vx .entry)) (now (vy .entry)))) (now (stated .entry)) r (lentBy (now (out .exit)) (slicesBy (now (recon .exit)) (now (vx .exit)) (now (vy .exit)))) (now (stated .exit)) ⌝ }
 {
     let canvas = Svq1PlaneCanvas {
         width,

@@ -7,23 +7,23 @@ use Rattle.bits.specs.Bits.{bitsOf}
 use Rattle.plan.specs.PlanClaim.{largestLambda}
 use Rattle.macroblock.specs.Macroblock.{Given}
 use Rattle.macroblock.specs.Choice.{Task}
-use Rattle.macroblock.specs.Slices.{Slices, BlockSlice, blocksIn}
+use Rattle.macroblock.specs.Slices.{Slices, Lent, BlockSlice, blocksIn}
 use Rattle.plane.specs.Plane.{count, stepStated}
 use Rattle.plane.specs.Refusals.{writeRefusal, slicesRefusal}
 use Rattle.plane.specs.Calls.{PlaneAnswer, PlaneRead}
 use Rattle.plane_enc.specs.Stated.{threeOf, PlaneStated}
 use Rattle.claim.specs.Claim.{stateAt, final, Claim}
 
--- the writer's answer w and what it left, out', a' and, of held, stated', are the end that the claim speaks of
-pub record Ended (g : Given) (t : Task) (out : List ℕ) (start : ℕ) (a : Slices) (held : List ℕ) (w : PlaneAnswer) (out' : List ℕ) (a' : Slices) (stated' : List ℕ) : Type 0 where
+-- the writer's answer w and what it left, l' of l and stated' of held, are the end that the claim speaks of
+pub record Ended (g : Given) (t : Task) (start : ℕ) (l : Lent) (held : List ℕ) (w : PlaneAnswer) (l' : Lent) (stated' : List ℕ) : Type 0 where
   pub done : w .done ≡ count g
-  pub next : w .next ≡ final g t out start a .next
-  pub bits : w .bits ≡ final g t out start a .bits
-  pub error : w .error ≡ final g t out start a .error
-  pub output : bitsOf out' ≡ final g t out start a .out
-  pub slices : a' ≡ final g t out start a .slices
+  pub next : w .next ≡ final g t (l .out) start (l .slices) .next
+  pub bits : w .bits ≡ final g t (l .out) start (l .slices) .bits
+  pub error : w .error ≡ final g t (l .out) start (l .slices) .error
+  pub output : bitsOf (l' .out) ≡ final g t (l .out) start (l .slices) .out
+  pub slices : l' .slices ≡ final g t (l .out) start (l .slices) .slices
   -- three numbers for each macroblock, as far as there is room: its mode's position, and the bits and the error that the claim speaks of
-  pub stated : (k : ℕ) → k < count g → k < length held / 3 → take 3 (drop (3 * k) stated') ≡ threeOf (stepStated g t k (stateAt g t out start a k))
+  pub stated : (k : ℕ) → k < count g → k < length held / 3 → take 3 (drop (3 * k) stated') ≡ threeOf (stepStated g t k (stateAt g t (l .out) start (l .slices) k))
 
 -- the reader's answer r and what it left, d', are the writer's; behind the block vectors d' is d
 pub record Returned (g : Given) (w r : PlaneAnswer) (a' d d' : Slices) : Type 0 where
@@ -34,10 +34,22 @@ pub record Returned (g : Given) (w r : PlaneAnswer) (a' d d' : Slices) : Type 0 
   pub blocks : (b : BlockSlice) → take (4 * count g) (blocksIn b d') ≡ take (4 * count g) (blocksIn b a')
   pub rest : (b : BlockSlice) → drop (4 * count g) (blocksIn b d') ≡ drop (4 * count g) (blocksIn b d)
 
--- a plane written with the slices a and read back from what was left with the slices d: both calls answer as they do alone,
--- and of every plane that no refusal meets, with lambda at most 2^48, written to its last macroblock, the claim holds, and it holds of memory
-pub record RoundTrip (g : Given) (t : Task) (out : List ℕ) (start : ℕ) (a : Slices) (held : List ℕ) (d : Slices) (w r : PlaneAnswer) (out' : List ℕ) (a' : Slices) (stated' : List ℕ) (d' : Slices) : Type 0 where
-  pub wrote : PlaneStated g t out start a held w out' a' stated'
-  pub read : PlaneRead g out' start d r d'
-  pub claim : writeRefusal g t out start a ≡ 0 → t .settings .lambda ≤ largestLambda → w .refusal ≡ 0 → Claim g t out start a × Ended g t out start a held w out' a' stated'
-  pub returned : writeRefusal g t out start a ≡ 0 → t .settings .lambda ≤ largestLambda → w .refusal ≡ 0 → slicesRefusal g d ≡ 0 → Returned g w r a' d d'
+-- what writer and reader are lent, or have left: the writer's output and slices, its slice of stated numbers, and the reader's slices
+pub record TripLent : Type 0 where
+  pub written : Lent
+  pub stated : List ℕ
+  pub back : Slices
+
+abbrev pub tripBy : Lent → List ℕ → Slices → TripLent
+tripBy l stated d = record { written = l; stated = stated; back = d }
+
+-- a plane that no refusal meets, with lambda at most 2^48, written to its last macroblock
+abbrev pub Whole : Given → Task → ℕ → Lent → PlaneAnswer → Type 0
+Whole g t start l w = (writeRefusal g t (l .out) start (l .slices) ≡ 0) × (t .settings .lambda ≤ largestLambda) × (w .refusal ≡ 0)
+
+-- a plane written, and read back from what was left: both calls answer as they do alone, w and r, and of every whole plane the claim holds, and it holds of memory
+pub record RoundTrip (g : Given) (t : Task) (start : ℕ) (m : TripLent) (w r : PlaneAnswer) (m' : TripLent) : Type 0 where
+  pub wrote : PlaneStated g t start (m .written) (m .stated) w (m' .written) (m' .stated)
+  pub read : PlaneRead g (m' .written .out) start (m .back) r (m' .back)
+  pub claim : Whole g t start (m .written) w → Claim g t (m .written .out) start (m .written .slices) × Ended g t start (m .written) (m .stated) w (m' .written) (m' .stated)
+  pub returned : Whole g t start (m .written) w → slicesRefusal g (m .back) ≡ 0 → Returned g w r (m' .written .slices) (m .back) (m' .back)

@@ -24,12 +24,24 @@ use Rattle.plane_enc.specs.StatedLaws.{stated-at}
 use Rattle.claim.specs.Claim.{stateAt, final, Claim, InMemory, ReadBack}
 use Rattle.claim.specs.OutputLaws.{same-length}
 use Rattle.claim.specs.ClaimLaws.{claimed}
-use Rattle.claim.specs.RoundTrip.{Ended, Returned, RoundTrip}
+use Rattle.claim.specs.RoundTrip.{Ended, Returned, TripLent, RoundTrip}
 
-module _ (g : Given) (t : Task) (out : List ℕ) (start : ℕ) (a : Slices) (held : List ℕ) (d : Slices) (w r : PlaneAnswer) (out' : List ℕ) (a' : Slices) (stated' : List ℕ) (d' : Slices) (enough : canSkipRest (t .limit) g 0 0 ≡ true) (mem : InMemory g t out start a)
-    (told : PlaneStated g t out start a held w out' a' stated') (read : PlaneRead g out' start d r d') where
-  abbrev wrote : PlaneWritten g t out start a w out' a'
+module _ (g : Given) (t : Task) (start : ℕ) (m : TripLent) (w r : PlaneAnswer) (m' : TripLent) (enough : canSkipRest (t .limit) g 0 0 ≡ true) (mem : InMemory g t (m .written .out) start (m .written .slices))
+    (told : PlaneStated g t start (m .written) (m .stated) w (m' .written) (m' .stated)) (read : PlaneRead g (m' .written .out) start (m .back) r (m' .back)) where
+  abbrev wrote : PlaneWritten g t start (m .written) w (m' .written)
   wrote = told .written
+
+  abbrev out : List ℕ
+  out = m .written .out
+
+  abbrev a : Slices
+  a = m .written .slices
+
+  abbrev d : Slices
+  d = m .back
+
+  abbrev out' : List ℕ
+  out' = m' .written .out
 
   module _ (passes : writeRefusal g t out start a ≡ 0) (most : t .settings .lambda ≤ largestLambda) (whole : w .refusal ≡ 0) where
     abbrev e : End Writing
@@ -54,7 +66,7 @@ module _ (g : Given) (t : Task) (out : List ℕ) (start : ℕ) (a : Slices) (hel
     holds : Claim g t out start a
     holds = claimed g t out start a enough mem passes most ends
 
-    trip-ended : Ended g t out start a held w out' a' stated'
+    trip-ended : Ended g t start (m .written) (m .stated) w (m' .written) (m' .stated)
     trip-ended =
         let s = holds .reaches in
         record {
@@ -64,13 +76,13 @@ module _ (g : Given) (t : Task) (out : List ℕ) (start : ℕ) (a : Slices) (hel
           error = ap (λ (x : PlaneAnswer). x .error) answered ∙ ap (λ (x : End Writing). x .state .error) s;
           output = put ∙ ap (λ (x : End Writing). x .state .out) s;
           slices = same ∙ laid ∙ ap (λ (x : End Writing). x .state .slices) s;
-          stated = λ k h r. rw (told .stated) (stated-at g t (bitsOf out) start a held (w .done) k (rw all h) r);
+          stated = λ k h r. rw (told .stated) (stated-at g t (bitsOf out) start a (m .stated) (w .done) k (rw all h) r);
         }
       where
         all : w .done ≡ count g
         all = ap (λ (x : PlaneAnswer). x .done) answered ∙ ap (λ (x : End Writing). x .done) (holds .reaches)
 
-        same : a' ≡ writeSlices g t out start a
+        same : m' .written .slices ≡ writeSlices g t out start a
         same = wrote .left-slices
 
     module _ (fits : slicesRefusal g d ≡ 0) where
@@ -99,10 +111,10 @@ module _ (g : Given) (t : Task) (out : List ℕ) (start : ℕ) (a : Slices) (hel
       unfolding readPlane
       ends-last = back .reads (count g) (le-refl (count g))
 
-      trip-returned : Returned g w r a' d d'
+      trip-returned : Returned g w r (m' .written .slices) d (m' .back)
       trip-returned =
           let u = trip-ended in
-          let gave-slices : d' ≡ f .state .slices = read .left-slices ∙ left in
+          let gave-slices : m' .back ≡ f .state .slices = read .left-slices ∙ left in
           record {
             refusal = ap (λ (x : PlaneAnswer). x .refusal) gave ∙ ends-none;
             done = ap (λ (x : PlaneAnswer). x .done) gave ∙ ends-last ∙ sym (u .done);
@@ -114,11 +126,11 @@ module _ (g : Given) (t : Task) (out : List ℕ) (start : ℕ) (a : Slices) (hel
             rest = λ b. ap (λ (x : Slices). drop (4 * count g) (blocksIn b x)) gave-slices ∙ back .rest b;
           }
 
-  pub tripped : RoundTrip g t out start a held d w r out' a' stated' d'
+  pub tripped : RoundTrip g t start m w r m'
   tripped =
       record {
         wrote = told;
         read = read;
-        claim = λ p m z. (holds p m z, trip-ended p m z);
-        returned = λ p m z s. trip-returned p m z s;
+        claim = λ p. (holds (p .0) (p .1) (p .2), trip-ended (p .0) (p .1) (p .2));
+        returned = λ p s. trip-returned (p .0) (p .1) (p .2) s;
       }

@@ -3,8 +3,8 @@ ghost use Rattle.macroblock_choice.specs.ChosenNeeds.{taskBy};
 ghost use Rattle.macroblock.specs.MacroblockNeeds.{givenBy};
 ghost use Rattle.plane_dec.specs.ReaderNeeds as reader;
 ghost use Rattle.plane_enc.specs.WriterNeeds as writer;
-ghost use Rattle.claim.specs.RoundTrip.{RoundTrip};
-ghost use Rattle.macroblock.specs.Slices.{slicesBy};
+ghost use Rattle.claim.specs.RoundTrip.{tripBy, RoundTrip};
+ghost use Rattle.macroblock.specs.Slices.{slicesBy, lentBy};
 use canvas::svq1_plane::Svq1PlaneCanvas;
 use macroblock::svq1_enc_inter::Settings;
 use plane_dec::svq1_plane::ReadEnd;
@@ -37,7 +37,7 @@ pub fn round_trip_inter_plane(
     backx: &mut [u8],
     backy: &mut [u8],
 ) -> TripEnd
-    ensures { λ r. ⌜ RoundTrip (givenBy canvas (now (reference .entry)) (now (book .entry)) (now (codebook .entry))) (taskBy (now (source .entry)) settings) (now (out .entry)) start (slicesBy (now (recon .entry)) (now (vx .entry)) (now (vy .entry))) (now (stated .entry)) (slicesBy (now (back .entry)) (now (backx .entry)) (now (backy .entry))) (writer.writeEndOf (r .written)) (reader.readEndOf (r .read)) (now (out .exit)) (slicesBy (now (recon .exit)) (now (vx .exit)) (now (vy .exit))) (now (stated .exit)) (slicesBy (now (back .exit)) (now (backx .exit)) (now (backy .exit))) ⌝ }
+    ensures { λ r. ⌜ RoundTrip (givenBy canvas (now (reference .entry)) (now (book .entry)) (now (codebook .entry))) (taskBy (now (source .entry)) settings) start (tripBy (lentBy (now (out .entry)) (slicesBy (now (recon .entry)) (now (vx .entry)) (now (vy .entry)))) (now (stated .entry)) (slicesBy (now (back .entry)) (now (backx .entry)) (now (backy .entry)))) (writer.writeEndOf (r .written)) (reader.readEndOf (r .read)) (tripBy (lentBy (now (out .exit)) (slicesBy (now (recon .exit)) (now (vx .exit)) (now (vy .exit)))) (now (stated .exit)) (slicesBy (now (back .exit)) (now (backx .exit)) (now (backy .exit)))) ⌝ }
 {
     let written = encode_inter_plane_stated(
         canvas,

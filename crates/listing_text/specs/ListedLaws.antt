@@ -20,7 +20,7 @@ use Rattle.macroblock.specs.declared.svq1_enc_inter.Svq1MbMode.the-variants.{In
 use Rattle.macroblock.specs.Mode.{modePosition}
 use Rattle.macroblock.specs.Macroblock.{Given, cols, rows}
 use Rattle.macroblock.specs.Choice.{Task}
-use Rattle.macroblock.specs.Slices.{Slices, slicesBy}
+use Rattle.macroblock.specs.Slices.{Slices, slicesBy, Lent, lentBy}
 use Rattle.plane_enc.specs.declared.svq1_enc_inter.WriteEnd.{WriteEnd}
 use Rattle.plane.specs.Run.{End, after}
 use Rattle.plane.specs.RunLaws.{Stands, run-stands}
@@ -102,7 +102,7 @@ module _ (g : Given) (t : Task) (out : List ℕ) (passes : writeRefusal g t out 
   unfolding writePlane after
   stands = run-stands 22 (fits g t) (written g t) (toWrite (bitsOf out) 0 (noSlices g)) (count g) 0
 
-  module _ (r : WriteEnd) (out' : List ℕ) (s' : Slices) (p : PlaneWritten g t out 0 (noSlices g) (writeEndOf r) out' s') where
+  module _ (r : WriteEnd) (left : Lent) (p : PlaneWritten g t 0 (lentBy out (noSlices g)) (writeEndOf r) left) where
     answered : writeEndOf r ≡ writtenAnswer end
     unfolding writeAnswer
     answered = p .answer ∙ rw (eq-eqb (writeRefusal g t out 0 (noSlices g)) 0 passes)
@@ -203,8 +203,8 @@ module _ (g : Given) (t : Task) (ok : Listable g t) where
         let y : take (4 * count g) vy ≡ replicate (4 * count g) 0 = ap (take (4 * count g)) (f .vectors-y) ∙ zeros-taken _ _ few in
         rw (sizes .blocks-are, samples, x, y)
 
-    module _ (r : WriteEnd) (out' : List ℕ) (s' : Slices) (stated : List ℕ) (p : PlaneStated g t out 0 lent held (writeEndOf r) out' s' stated) where
-      own : PlaneStated g t (replicate outputBytes 0) 0 (noSlices g) held (writeEndOf r) out' s' stated
+    module _ (r : WriteEnd) (left : Lent) (stated : List ℕ) (p : PlaneStated g t 0 (lentBy out lent) held (writeEndOf r) left stated) where
+      own : PlaneStated g t 0 (lentBy (replicate outputBytes 0) (noSlices g)) held (writeEndOf r) left stated
       own = rw (← f .output, ← lent-are) p
 
       room : 3 * count g ≤ length held
@@ -213,10 +213,10 @@ module _ (g : Given) (t : Task) (ok : Listable g t) where
       pub plane-ended : length stated ≡ length held → ListedEnd (g .reference .stride / 16) stated r
       plane-ended e = record {
         wide = omega (arith, sizes .cols-are, sizes .some-cols);
-        few = omega (arith, done-most g t (replicate outputBytes 0) (ok .passes) r out' s' (own .written), sizes .few-blocks);
+        few = omega (arith, done-most g t (replicate outputBytes 0) (ok .passes) r left (own .written), sizes .few-blocks);
         numbers = e ∙ f .numbers;
       }
 
       pub plane-text : endText (g .reference .stride / 16) stated r ≡ planeText g t
       unfolding planeText
-      plane-text = rw (sizes .cols-are, own .stated) (end-text g t (replicate outputBytes 0) (ok .passes) r out' s' (own .written) held room)
+      plane-text = rw (sizes .cols-are, own .stated) (end-text g t (replicate outputBytes 0) (ok .passes) r left (own .written) held room)

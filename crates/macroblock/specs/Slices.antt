@@ -16,6 +16,14 @@ pub record Slices : Type 0 where
 abbrev pub slicesBy : List ℕ → List ℕ → List ℕ → Slices
 slicesBy recon vx vy = record { recon = recon; vx = vx; vy = vy }
 
+-- what a writer is lent to write into, or has left there: the output's bytes and the result slices
+pub record Lent : Type 0 where
+  pub out : List ℕ
+  pub slices : Slices
+
+abbrev pub lentBy : List ℕ → Slices → Lent
+lentBy out s = record { out = out; slices = s }
+
 -- those of them that hold one byte for each 8×8 block, four a macroblock
 pub data BlockSlice : Type 0 where
   xSlice : BlockSlice

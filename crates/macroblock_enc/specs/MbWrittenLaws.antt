@@ -25,7 +25,7 @@ use Rattle.macroblock.specs.MacroblockLaws.{Fine, Good, tried-good, Codables, p
 use Rattle.macroblock.specs.LimitLaws.{skip-fits}
 use Rattle.macroblock.specs.Choice.{Task, planningFor, motionsTried, tried, weightOf}
 use Rattle.macroblock.specs.MotionForms.{motionOf}
-use Rattle.macroblock.specs.Slices.{Slices, xSlice, ySlice, near}
+use Rattle.macroblock.specs.Slices.{Slices, lentBy, xSlice, ySlice, near}
 use Rattle.macroblock.specs.MacroblockNeeds.{givenBy}
 use Rattle.macroblock.specs.MacroblockNeedsLaws.{fits, book-passes, stands, vectors-held, recon-held}
 use Rattle.macroblock_choice.specs.CandidateNeeds.{skips, choiceOf, codedFor}
@@ -126,7 +126,7 @@ module _ (v : Svq1PlaneCanvas) (reference book codebook raised source : List ℕ
 
     pub mb-written : (r : WrittenMb) (left : List ℕ) (u : Slices) → Bytes codebook → CandidateWritten book n c out at r left
         → CandidateLaid v reference raised k c (length out) at s u
-        → MbWritten g t k spent out at s r left u
+        → MbWritten g t k spent at (lentBy out s) r (lentBy left u)
     unfolding weightOf
     mb-written r left u bytes w l =
         let ec = chosen-it in

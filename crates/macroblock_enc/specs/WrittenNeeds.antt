@@ -23,7 +23,7 @@ use Rattle.canvas.specs.declared.svq1_plane.Svq1PlaneCanvas.{Svq1PlaneCanvas}
 use Rattle.macroblock.specs.Macroblock.{Given, cols, rows, Motion, Choice, skipped, coded, modeOf, halfOf, vectorsOf, motionBits, choiceBits}
 use Rattle.macroblock.specs.MacroblockLaws.{Codables}
 use Rattle.macroblock.specs.Choice.{Task, weightOf, chosen}
-use Rattle.macroblock.specs.Slices.{Slices, BlockSlice, blocksIn, near, laid}
+use Rattle.macroblock.specs.Slices.{Slices, Lent, BlockSlice, blocksIn, near, laid}
 use Rattle.macroblock.specs.MacroblockNeeds.{givenBy, Accepted, Held, byBook}
 use Rattle.macroblock.specs.LayingNeeds.{ShowingIf, Laying}
 use Rattle.macroblock.specs.MotionForms.{motionOf, Differs}
@@ -111,11 +111,11 @@ abbrev pub mbWeight : Given → Task → ℕ → ℕ → Slices → Weight
 mbWeight g t k spent s = weightOf g t k (near g s k) (mbChoice g t k spent s)
 
 -- its mode, bits and error are stated, whether it fits or not; where it fits, its bits are put and its samples and vectors laid, and else it is 22 with everything as it was
-pub record MbWritten (g : Given) (t : Task) (k spent : ℕ) (out : List ℕ) (at : ℕ) (s : Slices) (r : WrittenMb) (left : List ℕ) (u : Slices) : Type 0 where
-  pub mode : r .mode ≡ modeOf (mbChoice g t k spent s)
-  pub bits : r .bits ≡ mbWeight g t k spent s .bits
-  pub error : r .error ≡ mbWeight g t k spent s .err
-  pub refused : r .refused ≡ unless (fitsIn (length out) at (mbWeight g t k spent s .bits)) 22
-  pub next : r .next ≡ pick (fitsIn (length out) at (mbWeight g t k spent s .bits)) (at + mbWeight g t k spent s .bits) at
-  pub output : bitsOf left ≡ pick (fitsIn (length out) at (mbWeight g t k spent s .bits)) (putBits (bitsOf out) at (choiceBits g (near g s k) (mbChoice g t k spent s))) (bitsOf out)
-  pub slices : u ≡ pick (fitsIn (length out) at (mbWeight g t k spent s .bits)) (laid g k (mbChoice g t k spent s) s) s
+pub record MbWritten (g : Given) (t : Task) (k spent at : ℕ) (l : Lent) (r : WrittenMb) (l' : Lent) : Type 0 where
+  pub mode : r .mode ≡ modeOf (mbChoice g t k spent (l .slices))
+  pub bits : r .bits ≡ mbWeight g t k spent (l .slices) .bits
+  pub error : r .error ≡ mbWeight g t k spent (l .slices) .err
+  pub refused : r .refused ≡ unless (fitsIn (length (l .out)) at (mbWeight g t k spent (l .slices) .bits)) 22
+  pub next : r .next ≡ pick (fitsIn (length (l .out)) at (mbWeight g t k spent (l .slices) .bits)) (at + mbWeight g t k spent (l .slices) .bits) at
+  pub output : bitsOf (l' .out) ≡ pick (fitsIn (length (l .out)) at (mbWeight g t k spent (l .slices) .bits)) (putBits (bitsOf (l .out)) at (choiceBits g (near g (l .slices) k) (mbChoice g t k spent (l .slices)))) (bitsOf (l .out))
+  pub slices : l' .slices ≡ pick (fitsIn (length (l .out)) at (mbWeight g t k spent (l .slices) .bits)) (laid g k (mbChoice g t k spent (l .slices)) (l .slices)) (l .slices)

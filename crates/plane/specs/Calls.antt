@@ -8,7 +8,7 @@ use Rattle.bits.specs.Bits.{bitsOf}
 use Rattle.macroblock.specs.Macroblock.{Given}
 use Rattle.macroblock.specs.Choice.{Task}
 use Rattle.plane.specs.Run.{End}
-use Rattle.macroblock.specs.Slices.{Slices}
+use Rattle.macroblock.specs.Slices.{Slices, Lent}
 use Rattle.plane.specs.Plane.{Writing, writePlane, ReadingState, readPlane}
 use Rattle.plane.specs.Refusals.{writeRefusal, readRefusal}
 
@@ -43,11 +43,11 @@ writeOut g t out start s =
 unfoldable pub writeSlices : Given → Task → List ℕ → ℕ → Slices → Slices
 writeSlices g t out start s = pick (eqb (writeRefusal g t out start s) 0) (writePlane g t (bitsOf out) start s .state .slices) s
 
--- what a call of the writer meets: r is its answer, out' and s' what it leaves
-pub record PlaneWritten (g : Given) (t : Task) (out : List ℕ) (start : ℕ) (s : Slices) (r : PlaneAnswer) (out' : List ℕ) (s' : Slices) : Type 0 where
-  pub answer : r ≡ writeAnswer g t out start s
-  pub left-out : bitsOf out' ≡ writeOut g t out start s
-  pub left-slices : s' ≡ writeSlices g t out start s
+-- what a call of the writer meets: r is its answer, l' what it leaves of l
+pub record PlaneWritten (g : Given) (t : Task) (start : ℕ) (l : Lent) (r : PlaneAnswer) (l' : Lent) : Type 0 where
+  pub answer : r ≡ writeAnswer g t (l .out) start (l .slices)
+  pub left-out : bitsOf (l' .out) ≡ writeOut g t (l .out) start (l .slices)
+  pub left-slices : l' .slices ≡ writeSlices g t (l .out) start (l .slices)
 
 -- ---- the reader as a call
 unfoldable pub readPlaneAnswer : Given → List ℕ → ℕ → Slices → PlaneAnswer

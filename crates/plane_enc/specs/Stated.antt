@@ -10,7 +10,7 @@ use Rattle.bits.specs.Bits.{bitsOf}
 use Rattle.macroblock.specs.Mode.{modePosition}
 use Rattle.macroblock.specs.Macroblock.{Given}
 use Rattle.macroblock.specs.Choice.{Task}
-use Rattle.macroblock.specs.Slices.{Slices}
+use Rattle.macroblock.specs.Slices.{Slices, Lent}
 use Rattle.plane_enc.specs.declared.svq1_enc_inter.WriteEnd.{WriteEnd}
 use Rattle.plane.specs.Plane.{StepStated, stepStated, writingAt}
 use Rattle.plane.specs.Calls.{PlaneAnswer, PlaneWritten}
@@ -34,17 +34,17 @@ unfoldable pub told : List ℕ → ℕ → List ℕ → List ℕ
 told l k three = pick (ltb k (length l / 3)) (sets l (3 * k) three) l
 
 -- before macroblock k: the slices and the bits spent are those of the state before it, and the macroblocks before it are told
-pub record Telling (g : Given) (t : Task) (out : List ℕ) (start : ℕ) (s : Slices) (held : List ℕ) (u : Slices) (l : List ℕ) (k spent : ℕ) : Type 0 where
-  pub slices : u ≡ writingAt g t out start s k .slices
-  pub spends : spent ≡ writingAt g t out start s k .bits
-  pub stated : l ≡ statedIn g t out start s held k
+pub record Telling (g : Given) (t : Task) (start : ℕ) (l : Lent) (held : List ℕ) (u : Slices) (numbers : List ℕ) (k spent : ℕ) : Type 0 where
+  pub slices : u ≡ writingAt g t (bitsOf (l .out)) start (l .slices) k .slices
+  pub spends : spent ≡ writingAt g t (bitsOf (l .out)) start (l .slices) k .bits
+  pub stated : numbers ≡ statedIn g t (bitsOf (l .out)) start (l .slices) held k
 
--- a plane that is not refused is written as far as it goes, and what is done is told: l is what is left of held
-pub record ToldThrough (g : Given) (t : Task) (out : List ℕ) (start : ℕ) (s : Slices) (held : List ℕ) (r : WriteEnd) (left : List ℕ) (v : Slices) (l : List ℕ) : Type 0 where
-  pub written : WrittenThrough g t out start s r left v
-  pub stated : l ≡ statedIn g t (bitsOf out) start s held (r .done)
+-- a plane that is not refused is written as far as it goes, and what is done is told: stated' is what is left of held
+pub record ToldThrough (g : Given) (t : Task) (start : ℕ) (l : Lent) (held : List ℕ) (r : WriteEnd) (l' : Lent) (stated' : List ℕ) : Type 0 where
+  pub written : WrittenThrough g t start l r l'
+  pub stated : stated' ≡ statedIn g t (bitsOf (l .out)) start (l .slices) held (r .done)
 
 -- what a call of the writer that tells meets: what the writer alone does, and stated', what it leaves of held
-pub record PlaneStated (g : Given) (t : Task) (out : List ℕ) (start : ℕ) (s : Slices) (held : List ℕ) (r : PlaneAnswer) (out' : List ℕ) (s' : Slices) (stated' : List ℕ) : Type 0 where
-  pub written : PlaneWritten g t out start s r out' s'
-  pub stated : stated' ≡ statedIn g t (bitsOf out) start s held (r .done)
+pub record PlaneStated (g : Given) (t : Task) (start : ℕ) (l : Lent) (held : List ℕ) (r : PlaneAnswer) (l' : Lent) (stated' : List ℕ) : Type 0 where
+  pub written : PlaneWritten g t start l r l'
+  pub stated : stated' ≡ statedIn g t (bitsOf (l .out)) start (l .slices) held (r .done)

@@ -9,10 +9,11 @@ use native.Mathlib.Decide.{decLt}
 use lib.ListN.{length, take, drop, set, length-append, length-drop}
 use lib.Seq.{sets, sets-eq, take-at, drop-at, drop-append-add, drop-drop}
 use borrow.Author.Tests.{lt-ltb, le-ltb}
+use Rattle.bits.specs.Bits.{bitsOf}
 use Rattle.macroblock.specs.Mode.{modePosition}
 use Rattle.macroblock.specs.Macroblock.{Given}
 use Rattle.macroblock.specs.Choice.{Task}
-use Rattle.macroblock.specs.Slices.{Slices, laid}
+use Rattle.macroblock.specs.Slices.{Slices, Lent, laid}
 use Rattle.macroblock_enc.specs.declared.svq1_enc_inter.inner.writing.WrittenMb.{WrittenMb}
 use Rattle.macroblock_enc.specs.WrittenNeeds.{MbWritten, mbChoice}
 use Rattle.plane.specs.Run.{after}
@@ -112,21 +113,28 @@ module _ (g : Given) (t : Task) (out : List ℕ) (start : ℕ) (s : Slices) wher
           go (yes h) = told-room h
           go (no h) = told-full (omega arith)
 
-    -- ---- the loop
-    pub telling-begun : Telling g t out start s held s held 0 0
-    unfolding after
-    telling-begun = record { slices = refl; spends = refl; stated = sym in-none }
+-- ---- the loop
+module _ (g : Given) (t : Task) (start : ℕ) (l₀ : Lent) (held : List ℕ) where
+  abbrev out : List ℕ
+  out = bitsOf (l₀ .out)
 
-    module _ (k spent : ℕ) (into : List ℕ) (at : ℕ) (u : Slices) (r : WrittenMb) (left : List ℕ) (v : Slices) (m : MbWritten g t k spent into at u r left v) where
-      pub telling-turn : (l l' : List ℕ) → r .refused ≡ 0 → Telling g t out start s held u l k spent → l' ≡ told l k (modePosition (r .mode) ∷ r .bits ∷ r .error ∷ [])
-          → Telling g t out start s held v l' (k + 1) (spent + r .bits)
-      unfolding after written
-      telling-turn l l' z i e =
-          let f = fits-if g t k into at u spent 0 r left v m z in
-          let w : v ≡ laid g k (mbChoice g t k spent u) u = rw f at (m .slices) in
-          let three : modePosition (r .mode) ∷ r .bits ∷ r .error ∷ [] ≡ next k = rw (m .mode, m .bits, m .error, i .slices, i .spends) in
-          record {
-            slices = rw (add-one k, w, i .slices, i .spends);
-            spends = rw (add-one k, m .bits, i .slices, i .spends);
-            stated = rw (add-one k, e, i .stated, three) (one-more k);
-          }
+  abbrev s : Slices
+  s = l₀ .slices
+
+  pub telling-begun : Telling g t start l₀ held s held 0 0
+  unfolding after
+  telling-begun = record { slices = refl; spends = refl; stated = sym (in-none g t out start s held) }
+
+  module _ (k spent at : ℕ) (l : Lent) (r : WrittenMb) (l' : Lent) (m : MbWritten g t k spent at l r l') where
+    pub telling-turn : (now now' : List ℕ) → r .refused ≡ 0 → Telling g t start l₀ held (l .slices) now k spent → now' ≡ told now k (modePosition (r .mode) ∷ r .bits ∷ r .error ∷ [])
+        → Telling g t start l₀ held (l' .slices) now' (k + 1) (spent + r .bits)
+    unfolding after written
+    telling-turn now now' z i e =
+        let f = fits-if g t k at spent 0 l r l' m z in
+        let w : l' .slices ≡ laid g k (mbChoice g t k spent (l .slices)) (l .slices) = rw f at (m .slices) in
+        let three : modePosition (r .mode) ∷ r .bits ∷ r .error ∷ [] ≡ next g t out start s held k = rw (m .mode, m .bits, m .error, i .slices, i .spends) in
+        record {
+          slices = rw (add-one k, w, i .slices, i .spends);
+          spends = rw (add-one k, m .bits, i .slices, i .spends);
+          stated = rw (add-one k, e, i .stated, three) (one-more g t out start s held k);
+        }

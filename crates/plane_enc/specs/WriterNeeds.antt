@@ -10,7 +10,7 @@ use Rattle.mv_cache.specs.NeighboursLaws.{Ranged}
 use Rattle.macroblock.specs.Macroblock.{Given, cols}
 use Rattle.macroblock.specs.Limit.{canSkipRest}
 use Rattle.macroblock.specs.Choice.{Task}
-use Rattle.macroblock.specs.Slices.{Slices, BlockSlice, blocksIn}
+use Rattle.macroblock.specs.Slices.{Lent, BlockSlice, blocksIn}
 use Rattle.plane_enc.specs.declared.svq1_enc_inter.WriteEnd.{WriteEnd}
 use Rattle.plane.specs.RunLaws.{Midway}
 use Rattle.plane.specs.Plane.{count, toWrite, writeStep, writePlane}
@@ -22,26 +22,26 @@ abbrev pub writeEndOf : WriteEnd → PlaneAnswer
 writeEndOf r = record { refusal = r .refused; done = r .done; next = r .next; bits = r .bits; error = r .error }
 
 -- a plane that is not refused is written as far as it goes
-abbrev pub WrittenThrough : Given → Task → List ℕ → ℕ → Slices → WriteEnd → List ℕ → Slices → Type 0
-WrittenThrough g t out start u r left laid =
-    writePlane g t (bitsOf out) start u
-    ≡ record { refusal = r .refused; done = r .done; state = record { out = bitsOf left; next = r .next; slices = laid; bits = r .bits; error = r .error } }
+abbrev pub WrittenThrough : Given → Task → ℕ → Lent → WriteEnd → Lent → Type 0
+WrittenThrough g t start l r l' =
+    writePlane g t (bitsOf (l .out)) start (l .slices)
+    ≡ record { refusal = r .refused; done = r .done; state = record { out = bitsOf (l' .out); next = r .next; slices = l' .slices; bits = r .bits; error = r .error } }
 
 -- what a plane that no refusal meets is written from: what passes, with the codebook's raised copy, and a source and a reference of bytes
-pub record Writes (g : Given) (raised : List ℕ) (t : Task) (out : List ℕ) (start : ℕ) (u : Slices) : Type 0 where
-  pub ready : PlaneReady g raised u (length out) start
+pub record Writes (g : Given) (raised : List ℕ) (t : Task) (start : ℕ) (l : Lent) : Type 0 where
+  pub ready : PlaneReady g raised (l .slices) (length (l .out)) start
   pub samples : length (t .source) ≡ g .width * g .height
   pub source-bytes : Bytes (t .source)
   pub reference-bytes : Bytes (g .reference .samples)
 
--- before macroblock k: the run is on its way, the lengths are what they were, the vectors stored are in -32..31, the totals are far from overflowing, and a SKIP
+-- before macroblock k, with l left of l₀: the run is on its way, the lengths are what they were, the vectors stored are in -32..31, the totals are far from overflowing, and a SKIP
 -- code is left for each macroblock to come
-pub record Underway (g : Given) (t : Task) (out₀ : List ℕ) (start : ℕ) (u₀ : Slices) (out : List ℕ) (u : Slices) (k at bits error : ℕ) : Type 0 where
-  pub out-same : length out ≡ length out₀
-  pub same : SameLengths u₀ u
-  pub within : at ≤ 8 * length out
-  pub ranged : (b : BlockSlice) → Ranged (cols g) k (blocksIn b u)
+pub record Underway (g : Given) (t : Task) (start : ℕ) (l₀ l : Lent) (k at bits error : ℕ) : Type 0 where
+  pub out-same : length (l .out) ≡ length (l₀ .out)
+  pub same : SameLengths (l₀ .slices) (l .slices)
+  pub within : at ≤ 8 * length (l .out)
+  pub ranged : (b : BlockSlice) → Ranged (cols g) k (blocksIn b (l .slices))
   pub few-bits : bits ≤ k * 65536
   pub low-error : error ≤ k * 16777216
   pub skips-rest : canSkipRest (t .limit) g k bits ≡ true
-  pub loop : Midway (writeStep g t) (count g) (toWrite (bitsOf out₀) start u₀) k (record { out = bitsOf out; next = at; slices = u; bits = bits; error = error })
+  pub loop : Midway (writeStep g t) (count g) (toWrite (bitsOf (l₀ .out)) start (l₀ .slices)) k (record { out = bitsOf (l .out); next = at; slices = l .slices; bits = bits; error = error })

@@ -20,7 +20,7 @@ use Rattle.macroblock.specs.MacroblockLaws.{Fine, Good, chosen-good, target-blo
 use Rattle.macroblock.specs.LimitLaws.{skip-fits}
 use Rattle.macroblock.specs.Limit.{canSkipRest}
 use Rattle.macroblock.specs.Choice.{Task, target, weightOf}
-use Rattle.macroblock.specs.Slices.{Slices, near, laid}
+use Rattle.macroblock.specs.Slices.{Slices, Lent, near, laid}
 use Rattle.macroblock.specs.MacroblockNeeds.{Held}
 use Rattle.macroblock.specs.MacroblockNeedsLaws.{book-passes, wide}
 use Rattle.macroblock_enc.specs.declared.svq1_enc_inter.inner.writing.WrittenMb.{WrittenMb}
@@ -36,18 +36,18 @@ use Rattle.plane.specs.SlicesLaws.{same-at-first, laid-same, same-held, ranged-
 use Rattle.plane_enc.specs.WriterNeeds.{writeEndOf, WrittenThrough, Writes, Underway}
 
 -- ---- one macroblock is one step
-module _ (g : Given) (t : Task) (k : ℕ) (out : List ℕ) (at : ℕ) (u : Slices) (bits error : ℕ) (r : WrittenMb) (left : List ℕ) (v : Slices) (m : MbWritten g t k bits out at u r left v) where
+module _ (g : Given) (t : Task) (k at bits error : ℕ) (l : Lent) (r : WrittenMb) (l' : Lent) (m : MbWritten g t k bits at l r l') where
   abbrev here : Writing
-  here = record { out = bitsOf out; next = at; slices = u; bits = bits; error = error }
+  here = record { out = bitsOf (l .out); next = at; slices = l .slices; bits = bits; error = error }
 
   abbrev there : Writing
-  there = record { out = bitsOf left; next = r .next; slices = v; bits = bits + r .bits; error = error + r .error }
+  there = record { out = bitsOf (l' .out); next = r .next; slices = l' .slices; bits = bits + r .bits; error = error + r .error }
 
   abbrev fitting : Bool
-  fitting = fitsIn (length out) at (mbWeight g t k bits u .bits)
+  fitting = fitsIn (length (l .out)) at (mbWeight g t k bits (l .slices) .bits)
 
   same-fit : fits g t k here ≡ fitting
-  same-fit = rw (length-bitsOf out)
+  same-fit = rw (length-bitsOf (l .out))
 
   pub fits-if : r .refused ≡ 0 → fitting ≡ true
   fits-if z = unless-none fitting 22 (omega arith) (sym (m .refused) ∙ z)
@@ -63,9 +63,9 @@ module _ (g : Given) (t : Task) (k : ℕ) (out : List ℕ) (at : ℕ) (u : Slice
   unfolding written
   step-on z =
       let f = fits-if z in
-      let o : bitsOf left ≡ putBits (bitsOf out) at (choiceBits g (near g u k) (mbChoice g t k bits u)) = rw f at (m .output) in
-      let n : r .next ≡ at + mbWeight g t k bits u .bits = rw f at (m .next) in
-      let s : v ≡ laid g k (mbChoice g t k bits u) u = rw f at (m .slices) in
+      let o : bitsOf (l' .out) ≡ putBits (bitsOf (l .out)) at (choiceBits g (near g (l .slices) k) (mbChoice g t k bits (l .slices))) = rw f at (m .output) in
+      let n : r .next ≡ at + mbWeight g t k bits (l .slices) .bits = rw f at (m .next) in
+      let s : l' .slices ≡ laid g k (mbChoice g t k bits (l .slices)) (l .slices) = rw f at (m .slices) in
       rw (same-fit, f, o, n, s, m .bits, m .error)
 
   pub step-stop : (r .refused ≡ 0 → ⊥) → writeStep g t k here ≡ stop (r .refused)
@@ -74,33 +74,36 @@ module _ (g : Given) (t : Task) (k : ℕ) (out : List ℕ) (at : ℕ) (u : Slice
       let c : r .refused ≡ 22 = rw f at (m .refused) in
       rw (same-fit, f, c)
 
-  pub as-it-was : (r .refused ≡ 0 → ⊥) → (bitsOf left ≡ bitsOf out) × (v ≡ u)
+  pub as-it-was : (r .refused ≡ 0 → ⊥) → (bitsOf (l' .out) ≡ bitsOf (l .out)) × (l' .slices ≡ l .slices)
   as-it-was e =
       let f = unfit-if e in
       (rw f at (m .output), rw f at (m .slices))
 
 -- ---- the loop
-module _ {g : Given} {raised : List ℕ} {t : Task} {out₀ : List ℕ} {start : ℕ} {u₀ : Slices} (w : Writes g raised t out₀ start u₀) where
+module _ {g : Given} {raised : List ℕ} {t : Task} {start : ℕ} {l₀ : Lent} (w : Writes g raised t start l₀) where
   ok : Fine g t
   ok = record { book = book-passes g raised (w .ready .ok); source-bytes = w .source-bytes; reference-bytes = w .reference-bytes }
 
-  pub begun : canSkipRest (t .limit) g 0 0 ≡ true → Underway g t out₀ start u₀ out₀ u₀ 0 start 0 0
+  pub begun : canSkipRest (t .limit) g 0 0 ≡ true → Underway g t start l₀ l₀ 0 start 0 0
   begun enough = record {
     out-same = refl;
-    same = same-at-first u₀;
+    same = same-at-first (l₀ .slices);
     within = omega (arith, w .ready .from .bits-fit);
     ranged = λ b j l. absurd (omega arith);
     few-bits = omega arith;
     low-error = omega arith;
     skips-rest = enough;
-    loop = set-out (writeStep g t) (count g) (toWrite (bitsOf out₀) start u₀);
+    loop = set-out (writeStep g t) (count g) (toWrite (bitsOf (l₀ .out)) start (l₀ .slices));
   }
 
-  module _ {out : List ℕ} {u : Slices} {k at bits error : ℕ} (i : Underway g t out₀ start u₀ out u k at bits error) where
-    held : Held g u
-    held = same-held g u₀ u (i .same) (w .ready .held)
+  module _ {l : Lent} {k at bits error : ℕ} (i : Underway g t start l₀ l k at bits error) where
+    abbrev u : Slices
+    u = l .slices
 
-    pub ready : k < count g → MbReady g raised (t .source) k (length out) at u
+    held : Held g u
+    held = same-held g (l₀ .slices) u (i .same) (w .ready .held)
+
+    pub ready : k < count g → MbReady g raised (t .source) k (length (l .out)) at u
     ready h = record {
       ok = w .ready .ok;
       held = held;
@@ -110,7 +113,7 @@ module _ {g : Given} {raised : List ℕ} {t : Task} {out₀ : List ℕ} {start :
       ranged = i .ranged;
     }
 
-    module _ {r : WrittenMb} {left : List ℕ} {v : Slices} (h : k < count g) (m : MbWritten g t k bits out at u r left v) where
+    module _ {r : WrittenMb} {l' : Lent} (h : k < count g) (m : MbWritten g t k bits at l r l') where
       good : Good g t ok k (near g u k) (mbChoice g t k bits u)
       good = chosen-good g t ok k (near g u k) bits
 
@@ -122,30 +125,30 @@ module _ {g : Given} {raised : List ℕ} {t : Task} {out₀ : List ℕ} {start :
       unfolding weightOf
       low = omega (arith, m .error, near-24 (target g t k) (shown g k (mbChoice g t k bits u)) (target-block g t ok k) (good .block))
 
-      pub turn : length left ≡ length out → r .refused ≡ 0 → Underway g t out₀ start u₀ left v (k + 1) (r .next) (bits + r .bits) (error + r .error)
-      turn l z =
-          let f = fits-if g t k out at u bits error r left v m z in
+      pub turn : length (l' .out) ≡ length (l .out) → r .refused ≡ 0 → Underway g t start l₀ l' (k + 1) (r .next) (bits + r .bits) (error + r .error)
+      turn e z =
+          let f = fits-if g t k at bits error l r l' m z in
           let n : r .next ≡ at + mbWeight g t k bits u .bits = rw f at (m .next) in
-          let room : at + mbWeight g t k bits u .bits ≤ 8 * length out = leb-true (at + mbWeight g t k bits u .bits) (8 * length out) f in
-          let s : v ≡ laid g k (mbChoice g t k bits u) u = rw f at (m .slices) in
+          let room : at + mbWeight g t k bits u .bits ≤ 8 * length (l .out) = leb-true (at + mbWeight g t k bits u .bits) (8 * length (l .out)) f in
+          let s : l' .slices ≡ laid g k (mbChoice g t k bits u) u = rw f at (m .slices) in
           record {
-            out-same = l ∙ i .out-same;
-            same = rw s (laid-same g k (mbChoice g t k bits u) u₀ u (i .same));
-            within = omega (arith, n, room, l);
+            out-same = e ∙ i .out-same;
+            same = rw s (laid-same g k (mbChoice g t k bits u) (l₀ .slices) u (i .same));
+            within = omega (arith, n, room, e);
             ranged = λ b. rw (s, add-one k) (ranged-laid g (wide g raised (w .ready .ok)) b k (mbChoice g t k bits u) u h (good .inside) (held .blocks-long b) (i .ranged b));
             few-bits = omega (arith, few, i .few-bits);
             low-error = omega (arith, low, i .low-error);
             skips-rest = rw (add-one k, m .bits) (chosen-fits g t k (near g u k) bits (skip-fits g t k (near g u k) bits h (i .skips-rest)));
-            loop = gone-on (writeStep g t) (count g) _ k _ (i .loop) (there g t k out at u bits error r left v m) h (step-on g t k out at u bits error r left v m z);
+            loop = gone-on (writeStep g t) (count g) _ k _ (i .loop) (there g t k at bits error l r l' m) h (step-on g t k at bits error l r l' m z);
           }
 
-      pub stop-early : (r .refused ≡ 0 → ⊥) → WrittenThrough g t out₀ start u₀ (record { refused = r .refused; done = k; next = at; bits = bits; error = error }) left v
+      pub stop-early : (r .refused ≡ 0 → ⊥) → WrittenThrough g t start l₀ (record { refused = r .refused; done = k; next = at; bits = bits; error = error }) l'
       unfolding writePlane
       stop-early e =
-          let a = as-it-was g t k out at u bits error r left v m e in
-          ends-early (writeStep g t) (count g) _ k _ (i .loop) (r .refused) h (step-stop g t k out at u bits error r left v m e) ∙ rw (a .0, a .1)
+          let a = as-it-was g t k at bits error l r l' m e in
+          ends-early (writeStep g t) (count g) _ k _ (i .loop) (r .refused) h (step-stop g t k at bits error l r l' m e) ∙ rw (a .0, a .1)
 
-    pub stop-last : count g ≤ k → WrittenThrough g t out₀ start u₀ (record { refused = 0; done = k; next = at; bits = bits; error = error }) out u
+    pub stop-last : count g ≤ k → WrittenThrough g t start l₀ (record { refused = 0; done = k; next = at; bits = bits; error = error }) l
     unfolding writePlane
     stop-last h = ends-last (writeStep g t) (count g) _ k _ (i .loop) h
 
@@ -163,17 +166,18 @@ module _ (g : Given) (n bytes start : ℕ) (l : SliceLengths) where
   by-lent r z q = chain-passed r before (lentLinks g bytes start l) z q
 
 -- ---- the call
-module _ (g : Given) (t : Task) (out : List ℕ) (start : ℕ) (u : Slices) where
-  pub call-refused : (n : ℕ) → n ≡ writeRefusal g t out start u → (n ≡ 0 → ⊥)
-      → PlaneWritten g t out start u (writeEndOf (record { refused = n; done = 0; next = 0; bits = 0; error = 0 })) out u
+module _ (g : Given) (t : Task) (start : ℕ) (l : Lent) where
+  abbrev refusal : ℕ
+  refusal = writeRefusal g t (l .out) start (l .slices)
+
+  pub call-refused : (n : ℕ) → n ≡ refusal → (n ≡ 0 → ⊥) → PlaneWritten g t start l (writeEndOf (record { refused = n; done = 0; next = 0; bits = 0; error = 0 })) l
   unfolding writeAnswer writeOut writeSlices
   call-refused n e h =
-      let no : eqb (writeRefusal g t out start u) 0 ≡ false = ne-eqb (writeRefusal g t out start u) 0 (λ z. h (e ∙ z)) in
+      let no : eqb refusal 0 ≡ false = ne-eqb refusal 0 (λ z. h (e ∙ z)) in
       record { answer = rw (no, ← e); left-out = rw no; left-slices = rw no }
 
-  pub call-written : (r : WriteEnd) (left : List ℕ) (v : Slices) → writeRefusal g t out start u ≡ 0 → WrittenThrough g t out start u r left v
-      → PlaneWritten g t out start u (writeEndOf r) left v
+  pub call-written : (r : WriteEnd) (l' : Lent) → refusal ≡ 0 → WrittenThrough g t start l r l' → PlaneWritten g t start l (writeEndOf r) l'
   unfolding writeAnswer writeOut writeSlices
-  call-written r left v z e =
-      let yes : eqb (writeRefusal g t out start u) 0 ≡ true = eq-eqb (writeRefusal g t out start u) 0 z in
+  call-written r l' z e =
+      let yes : eqb refusal 0 ≡ true = eq-eqb refusal 0 z in
       record { answer = rw (yes, e); left-out = rw (yes, e); left-slices = rw (yes, e) }

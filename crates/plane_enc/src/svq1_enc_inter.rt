@@ -6,7 +6,7 @@ ghost use Rattle.macroblock.specs.MacroblockNeeds.{givenBy};
 ghost use Rattle.plane.specs.Calls.{PlaneWritten};
 ghost use Rattle.plane_enc.specs.Stated.{PlaneStated};
 ghost use Rattle.plane_enc.specs.WriterNeeds.{writeEndOf};
-ghost use Rattle.macroblock.specs.Slices.{slicesBy};
+ghost use Rattle.macroblock.specs.Slices.{slicesBy, lentBy};
 use super::svq1_enc_inter::inner::write_accepted;
 use super::svq1_enc_inter::inner::write_refusal;
 use canvas::svq1_plane::Svq1PlaneCanvas;
@@ -40,7 +40,7 @@ pub fn encode_inter_plane(
     vx: &mut [u8],
     vy: &mut [u8],
 ) -> WriteEnd
-    ensures { λ r. ⌜ PlaneWritten (givenBy canvas (now (reference .entry)) (now (book .entry)) (now (codebook .entry))) (taskBy (now (source .entry)) settings) (now (out .entry)) start (slicesBy (now (recon .entry)) (now (vx .entry)) (now (vy .entry))) (writeEndOf r) (now (out .exit)) (slicesBy (now (recon .exit)) (now (vx .exit)) (now (vy .exit))) ⌝ }
+    ensures { λ r. ⌜ PlaneWritten (givenBy canvas (now (reference .entry)) (now (book .entry)) (now (codebook .entry))) (taskBy (now (source .entry)) settings) start (lentBy (now (out .entry)) (slicesBy (now (recon .entry)) (now (vx .entry)) (now (vy .entry)))) (writeEndOf r) (lentBy (now (out .exit)) (slicesBy (now (recon .exit)) (now (vx .exit)) (now (vy .exit)))) ⌝ }
 {
     let mut none = [0u32; 1];
     encode_inter_plane_stated(
@@ -75,7 +75,7 @@ pub fn encode_inter_plane_stated(
     vy: &mut [u8],
     stated: &mut [u32],
 ) -> WriteEnd
-    ensures { λ r. ⌜ PlaneStated (givenBy canvas (now (reference .entry)) (now (book .entry)) (now (codebook .entry))) (taskBy (now (source .entry)) settings) (now (out .entry)) start (slicesBy (now (recon .entry)) (now (vx .entry)) (now (vy .entry))) (now (stated .entry)) (writeEndOf r) (now (out .exit)) (slicesBy (now (recon .exit)) (now (vx .exit)) (now (vy .exit))) (now (stated .exit)) ⌝ }
+    ensures { λ r. ⌜ PlaneStated (givenBy canvas (now (reference .entry)) (now (book .entry)) (now (codebook .entry))) (taskBy (now (source .entry)) settings) start (lentBy (now (out .entry)) (slicesBy (now (recon .entry)) (now (vx .entry)) (now (vy .entry)))) (now (stated .entry)) (writeEndOf r) (lentBy (now (out .exit)) (slicesBy (now (recon .exit)) (now (vx .exit)) (now (vy .exit)))) (now (stated .exit)) ⌝ }
 {
     let slices = SliceLengths {
         recon: recon.len(),

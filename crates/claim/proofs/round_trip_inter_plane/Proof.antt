@@ -6,11 +6,12 @@ use Rattle.macroblock.specs.Macroblock.{Given}
 use Rattle.macroblock_choice.specs.ChosenNeeds.{taskBy}
 use Rattle.macroblock.specs.Choice.{Task}
 use Rattle.macroblock.specs.MacroblockNeeds.{givenBy}
+use Rattle.claim.specs.RoundTrip.{tripBy}
 use Rattle.claim.specs.RoundTripLaws.{tripped}
 use borrow.Author.Needs.{needs}
 use Rattle.claim.proofs.round_trip_inter_plane.Statement.{statement}
 use Rattle.claim.proofs.round_trip_inter_plane.Tie as tie
-use Rattle.macroblock.specs.Slices.{slicesBy}
+use Rattle.macroblock.specs.Slices.{slicesBy, lentBy}
 
 encode-inter-plane-stated-requires : tie.Need-encode-inter-plane-stated-requires
 encode-inter-plane-stated-requires c κs = search needs
@@ -53,9 +54,9 @@ returns c =
     let reference : Bytes (a .reference .now) = λ k. omega (arith, wrote .before .before .before .before .before .before .before .before .before .before .before .before .before .before .before .before .shared-slice-known2 .given k) in
     let w = wrote .encode-inter-plane-stated in
     let r = read .decode-inter-plane in
-    tripped g t (a .out .now) (a .start) (slicesBy (a .recon .now) (a .vx .now) (a .vy .now)) (a .stated .now) (slicesBy (a .back .now) (a .backx .now) (a .backy .now)) _ _ _
-    (slicesBy (w .last .1 .1 .1 .1 .1 .1 .1 .1 .0) (w .last .1 .1 .1 .1 .1 .1 .1 .1 .1 .0) (w .last .1 .1 .1 .1 .1 .1 .1 .1 .1 .1 .0)) _
-    (slicesBy (r .last .1 .1 .1 .1 .1 .1 .0) (r .last .1 .1 .1 .1 .1 .1 .1 .0) (r .last .1 .1 .1 .1 .1 .1 .1 .1 .0))
+    tripped g t (a .start) (tripBy (lentBy (a .out .now) (slicesBy (a .recon .now) (a .vx .now) (a .vy .now))) (a .stated .now) (slicesBy (a .back .now) (a .backx .now) (a .backy .now))) _ _
+    (tripBy (lentBy _ (slicesBy (w .last .1 .1 .1 .1 .1 .1 .1 .1 .0) (w .last .1 .1 .1 .1 .1 .1 .1 .1 .1 .0) (w .last .1 .1 .1 .1 .1 .1 .1 .1 .1 .1 .0))) _
+    (slicesBy (r .last .1 .1 .1 .1 .1 .1 .0) (r .last .1 .1 .1 .1 .1 .1 .1 .0) (r .last .1 .1 .1 .1 .1 .1 .1 .1 .0)))
     refl (record { source = source; reference = reference }) (w .ensures) (r .ensures)
 
 pub round-trip-inter-plane-spec : {M : Type 1} → statement M

@@ -11,7 +11,7 @@ ghost use Rattle.plane.specs.Refusals.{writeRefusalBy};
 ghost use Rattle.plane.specs.PlaneNeeds.{PlaneReady, PlaneAccepted};
 ghost use Rattle.macroblock_enc.specs.LimitForms.{limitOf, Spends};
 ghost use Rattle.plane_enc.specs.Stated.{told, ToldThrough};
-ghost use Rattle.macroblock.specs.Slices.{slicesBy};
+ghost use Rattle.macroblock.specs.Slices.{slicesBy, lentBy};
 use super::super::svq1_enc_inter::WriteEnd;
 use book::inner::CODEBOOK_BYTES;
 use canvas::svq1_plane::Svq1PlaneCanvas;
@@ -77,7 +77,7 @@ fn write_blocks(
     stated: &mut [u32],
 ) -> WriteEnd
     requires { ⌜ PlaneReady (givenBy canvas (now reference) (now book) (now codebook)) (now raised) (slicesBy (now recon) (now vx) (now vy)) (length (now out)) start × (length (now source) ≡ canvas .width * canvas .height) × Spends (givenBy canvas (now reference) (now book) (now codebook)) limit 0 0 ⌝ }
-    ensures { λ r. ⌜ ToldThrough (givenBy canvas (now (reference .entry)) (now (book .entry)) (now (codebook .entry))) (taskIn (now (source .entry)) settings (limitOf limit)) (now (out .entry)) start (slicesBy (now (recon .entry)) (now (vx .entry)) (now (vy .entry))) (now (stated .entry)) r (now (out .exit)) (slicesBy (now (recon .exit)) (now (vx .exit)) (now (vy .exit))) (now (stated .exit)) ⌝ }
+    ensures { λ r. ⌜ ToldThrough (givenBy canvas (now (reference .entry)) (now (book .entry)) (now (codebook .entry))) (taskIn (now (source .entry)) settings (limitOf limit)) start (lentBy (now (out .entry)) (slicesBy (now (recon .entry)) (now (vx .entry)) (now (vy .entry)))) (now (stated .entry)) r (lentBy (now (out .exit)) (slicesBy (now (recon .exit)) (now (vx .exit)) (now (vy .exit)))) (now (stated .exit)) ⌝ }
 {
     let count = canvas.rows / 16 * (canvas.stride / 16);
     let mut k = 0;
@@ -145,7 +145,7 @@ fn write_raised(
     raised: &mut [u8],
 ) -> WriteEnd
     requires { ⌜ PlaneAccepted (givenBy canvas (now reference) (now book) (now codebook)) (slicesBy (now recon) (now vx) (now vy)) (length (now out)) start × (length (now source) ≡ canvas .width * canvas .height) × (length (now raised) ≡ codebookBytes) × Spends (givenBy canvas (now reference) (now book) (now codebook)) limit 0 0 ⌝ }
-    ensures { λ r. ⌜ ToldThrough (givenBy canvas (now (reference .entry)) (now (book .entry)) (now (codebook .entry))) (taskIn (now (source .entry)) settings (limitOf limit)) (now (out .entry)) start (slicesBy (now (recon .entry)) (now (vx .entry)) (now (vy .entry))) (now (stated .entry)) r (now (out .exit)) (slicesBy (now (recon .exit)) (now (vx .exit)) (now (vy .exit))) (now (stated .exit)) ⌝ }
+    ensures { λ r. ⌜ ToldThrough (givenBy canvas (now (reference .entry)) (now (book .entry)) (now (codebook .entry))) (taskIn (now (source .entry)) settings (limitOf limit)) start (lentBy (now (out .entry)) (slicesBy (now (recon .entry)) (now (vx .entry)) (now (vy .entry)))) (now (stated .entry)) r (lentBy (now (out .exit)) (slicesBy (now (recon .exit)) (now (vx .exit)) (now (vy .exit)))) (now (stated .exit)) ⌝ }
 {
     raise_codebook(codebook, raised);
     write_blocks(
@@ -183,7 +183,7 @@ pub fn write_accepted(
     stated: &mut [u32],
 ) -> WriteEnd
     requires { ⌜ PlaneAccepted (givenBy canvas (now reference) (now book) (now codebook)) (slicesBy (now recon) (now vx) (now vy)) (length (now out)) start × (length (now source) ≡ canvas .width * canvas .height) × Spends (givenBy canvas (now reference) (now book) (now codebook)) limit 0 0 ⌝ }
-    ensures { λ r. ⌜ ToldThrough (givenBy canvas (now (reference .entry)) (now (book .entry)) (now (codebook .entry))) (taskIn (now (source .entry)) settings (limitOf limit)) (now (out .entry)) start (slicesBy (now (recon .entry)) (now (vx .entry)) (now (vy .entry))) (now (stated .entry)) r (now (out .exit)) (slicesBy (now (recon .exit)) (now (vx .exit)) (now (vy .exit))) (now (stated .exit)) ⌝ }
+    ensures { λ r. ⌜ ToldThrough (givenBy canvas (now (reference .entry)) (now (book .entry)) (now (codebook .entry))) (taskIn (now (source .entry)) settings (limitOf limit)) start (lentBy (now (out .entry)) (slicesBy (now (recon .entry)) (now (vx .entry)) (now (vy .entry)))) (now (stated .entry)) r (lentBy (now (out .exit)) (slicesBy (now (recon .exit)) (now (vx .exit)) (now (vy .exit)))) (now (stated .exit)) ⌝ }
 {
     let mut raised = [0u8; CODEBOOK_BYTES];
     write_raised(

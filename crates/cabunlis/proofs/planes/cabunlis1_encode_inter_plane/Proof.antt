@@ -28,7 +28,7 @@ same-length-4 c = search needs
 returns : tie.Need-returns
 returns c =
     let e = c .before .before .before .before .before .before .before .before .before in
-    host-written _ _ _ _ _ _ _ _ _ (rw (e .before .before .before .before .before .tries-four .ensures) at (e .encode-inter-plane .ensures)) (c .answer .ensures)
+    host-written _ _ _ _ _ _ _ (rw (e .before .before .before .before .before .tries-four .ensures) at (e .encode-inter-plane .ensures)) (c .answer .ensures)
 
 pub cabunlis1-encode-inter-plane-spec : {M : Type 1} → statement M
 cabunlis1-encode-inter-plane-spec =

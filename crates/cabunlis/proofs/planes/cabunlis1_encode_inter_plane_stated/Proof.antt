@@ -31,7 +31,7 @@ same-length-5 c = search needs
 returns : tie.Need-returns
 returns c =
     let e = c .before .before .before .before .before .before .before .before .before .before .before in
-    host-stated _ _ _ _ _ _ _ _ _ _ _ (rw (e .before .before .before .before .before .before .tries-four .ensures) at (e .encode-inter-plane-stated .ensures)) (c .answer .ensures)
+    host-stated _ _ _ _ _ _ _ _ _ (rw (e .before .before .before .before .before .before .tries-four .ensures) at (e .encode-inter-plane-stated .ensures)) (c .answer .ensures)
 
 pub cabunlis1-encode-inter-plane-stated-spec : {M : Type 1} → statement M
 cabunlis1-encode-inter-plane-stated-spec =

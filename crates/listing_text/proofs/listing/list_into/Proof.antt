@@ -99,7 +99,7 @@ put-plane-requires c κs =
     let g : Given = givenBy (a .canvas) (a .reference .now) (a .book .now) (a .codebook .now) in
     let t : Task = taskBy (a .source .now) (a .settings) in
     let w = c .before .before .before .before .before .before .before .before .before .before .before .before .encode-inter-plane-stated in
-    (plane-ended g t (s .pre .0) (a .out .now) (a .recon .now) (a .vx .now) (a .vy .now) (a .stated .now) (s .pre .1) (w .result) _ _ _ (w .ensures) (w .kept .1 .1 .1 .1 .1 .1 .1 .1 .1 .1 .1 .0), s .pre .2)
+    (plane-ended g t (s .pre .0) (a .out .now) (a .recon .now) (a .vx .now) (a .vy .now) (a .stated .now) (s .pre .1) (w .result) _ _ (w .ensures) (w .kept .1 .1 .1 .1 .1 .1 .1 .1 .1 .1 .1 .0), s .pre .2)
 
 same-length : tie.Need-same-length
 same-length c = search needs
@@ -126,7 +126,7 @@ returns c =
     let g : Given = givenBy (a .canvas) (a .reference .now) (a .book .now) (a .codebook .now) in
     let t : Task = taskBy (a .source .now) (a .settings) in
     let w = c .before .before .before .before .before .before .before .before .before .before .before .before .before .before .before .encode-inter-plane-stated in
-    rw (← plane-text g t (s .pre .0) (a .out .now) (a .recon .now) (a .vx .now) (a .vy .now) (a .stated .now) (s .pre .1) (w .result) _ _ _ (w .ensures)) (c .before .before .put-plane .ensures)
+    rw (← plane-text g t (s .pre .0) (a .out .now) (a .recon .now) (a .vx .now) (a .vy .now) (a .stated .now) (s .pre .1) (w .result) _ _ (w .ensures)) (c .before .before .put-plane .ensures)
 
 pub list-into-spec : {M : Type 1} → statement M
 list-into-spec =

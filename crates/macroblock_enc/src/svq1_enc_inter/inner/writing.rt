@@ -14,7 +14,7 @@ ghost use Rattle.macroblock_choice.specs.CandidateNeeds.{skips, choiceOf};
 ghost use Rattle.macroblock_enc.specs.WrittenNeeds.{CodedRoom, PutReady, LayReady, LaysCandidate, WriteReady, CandidateWritten, CandidateLaid, MbReady, MbWritten};
 ghost use Rattle.macroblock_enc.specs.LimitForms.{limitOf, Spends};
 ghost use Rattle.macroblock_choice.specs.ChosenNeeds.{taskIn};
-ghost use Rattle.macroblock.specs.Slices.{slicesBy};
+ghost use Rattle.macroblock.specs.Slices.{slicesBy, lentBy};
 use super::super::super::svq1_enc_inter::inner::limit::BitLimit;
 use super::super::super::svq1_enc_inter::inner::limit::room_at;
 use canvas::svq1_plane::Svq1PlaneCanvas;
@@ -185,7 +185,7 @@ pub fn write_macroblock(
     vy: &mut [u8],
 ) -> WrittenMb
     requires { ⌜ MbReady (givenBy canvas (now reference) (now book) (now codebook)) (now raised) (now source) k (length (now out)) at (slicesBy (now recon) (now vx) (now vy)) × Spends (givenBy canvas (now reference) (now book) (now codebook)) limit k spent ⌝ }
-    ensures { λ r. ⌜ MbWritten (givenBy canvas (now (reference .entry)) (now (book .entry)) (now (codebook .entry))) (taskIn (now (source .entry)) settings (limitOf limit)) k spent (now (out .entry)) at (slicesBy (now (recon .entry)) (now (vx .entry)) (now (vy .entry))) r (now (out .exit)) (slicesBy (now (recon .exit)) (now (vx .exit)) (now (vy .exit))) ⌝ }
+    ensures { λ r. ⌜ MbWritten (givenBy canvas (now (reference .entry)) (now (book .entry)) (now (codebook .entry))) (taskIn (now (source .entry)) settings (limitOf limit)) k spent at (lentBy (now (out .entry)) (slicesBy (now (recon .entry)) (now (vx .entry)) (now (vy .entry)))) r (lentBy (now (out .exit)) (slicesBy (now (recon .exit)) (now (vx .exit)) (now (vy .exit)))) ⌝ }
 {
     let cols = blocks_along(canvas.width);
     let rows = blocks_along(canvas.height);

@@ -5,7 +5,7 @@ use Rattle.bits.specs.Bits.{bitsOf}
 use Rattle.macroblock.specs.Macroblock.{Given}
 use Rattle.macroblock.specs.Choice.{Task}
 use Rattle.macroblock_choice.specs.ChosenNeeds.{taskBy}
-use Rattle.macroblock.specs.Slices.{Slices, slicesBy}
+use Rattle.macroblock.specs.Slices.{Slices, slicesBy, Lent, lentBy}
 use Rattle.macroblock.specs.MacroblockNeeds.{givenBy}
 use Rattle.plane.specs.RefusalsLaws.{write-accepted}
 use Rattle.plane_enc.specs.StatedLaws.{in-none}
@@ -22,10 +22,10 @@ returns c =
     let a = c .before .before .before .before .before .before .before .before .before .before .before .args in
     let g : Given = givenBy (a .canvas) (a .reference .now) (a .book .now) (a .codebook .now) in
     let t : Task = taskBy (a .source .now) (a .settings) in
-    let u : Slices = slicesBy (a .recon .now) (a .vx .now) (a .vy .now) in
+    let l : Lent = lentBy (a .out .now) (slicesBy (a .recon .now) (a .vx .now) (a .vy .now)) in
     record {
-      written = call-refused g t (a .out .now) (a .start) u _ (c .before .write-refusal .ensures) (c .if1 .taken);
-      stated = sym (in-none g t (bitsOf (a .out .now)) (a .start) u (a .stated .now));
+      written = call-refused g t (a .start) l _ (c .before .write-refusal .ensures) (c .if1 .taken);
+      stated = sym (in-none g t (bitsOf (l .out)) (a .start) (l .slices) (a .stated .now));
     }
 
 write-accepted-requires : tie.Need-write-accepted-requires
@@ -56,10 +56,10 @@ returns-2 c =
     let a = c .before .before .before .before .before .before .before .before .before .before .before .before .before .before .before .before .before .before .before .before .before .before .before .before .before .before .before .args in
     let g : Given = givenBy (a .canvas) (a .reference .now) (a .book .now) (a .codebook .now) in
     let t : Task = taskBy (a .source .now) (a .settings) in
-    let u : Slices = slicesBy (a .recon .now) (a .vx .now) (a .vy .now) in
+    let l : Lent = lentBy (a .out .now) (slicesBy (a .recon .now) (a .vx .now) (a .vy .now)) in
     let w = c .before .before .before .before .before .before .before .before .before .before .write-accepted in
     record {
-      written = call-written g t (a .out .now) (a .start) u _ _ _ (sym (c .before .before .before .before .before .before .before .before .before .before .before .before .before .before .before .before .before .write-refusal .ensures) ∙ c .before .before .before .before .before .before .before .before .before .before .before .before .before .before .before .before .if1 .left) (w .ensures .written);
+      written = call-written g t (a .start) l _ _ (sym (c .before .before .before .before .before .before .before .before .before .before .before .before .before .before .before .before .before .write-refusal .ensures) ∙ c .before .before .before .before .before .before .before .before .before .before .before .before .before .before .before .before .if1 .left) (w .ensures .written);
       stated = w .ensures .stated;
     }
 

@@ -3,11 +3,10 @@ use mathlib.Core.Path.{ap, _∙_}
 use mathlib.Core.List.{List}
 use Prim.Native.Nat.{ℕ, _-_, _<_}
 use lib.ListN.{length}
-use Rattle.bits.specs.Bits.{bitsOf}
 use Rattle.macroblock.specs.Macroblock.{Given}
 use Rattle.macroblock.specs.Choice.{Task}
 use Rattle.macroblock_choice.specs.ChosenNeeds.{taskIn}
-use Rattle.macroblock.specs.Slices.{Slices, slicesBy, xSlice, ySlice}
+use Rattle.macroblock.specs.Slices.{slicesBy, Lent, lentBy, xSlice, ySlice}
 use Rattle.macroblock.specs.MacroblockNeeds.{givenBy}
 use Rattle.plane.specs.Plane.{count}
 use Rattle.plane.specs.RefusalsLaws.{count-by, count-most}
@@ -23,13 +22,13 @@ use Rattle.plane_enc.proofs.svq1_enc_inter.inner.write_blocks.Tie as ti
 
 abbrev Inv-loop : tie.InvT-loop
 Inv-loop canvas source reference book codebook raised settings limit out₀ start recon₀ vx₀ vy₀ stated₀ count k₀ at₀ bits₀ error₀ out recon vx vy stated k at bits error =
-    Underway (givenBy canvas reference book codebook) (taskIn source settings (limitOf limit)) out₀ start (slicesBy recon₀ vx₀ vy₀) out (slicesBy recon vx vy) k at bits error
-    × Telling (givenBy canvas reference book codebook) (taskIn source settings (limitOf limit)) (bitsOf out₀) start (slicesBy recon₀ vx₀ vy₀) stated₀ (slicesBy recon vx vy) stated k bits
+    Underway (givenBy canvas reference book codebook) (taskIn source settings (limitOf limit)) start (lentBy out₀ (slicesBy recon₀ vx₀ vy₀)) (lentBy out (slicesBy recon vx vy)) k at bits error
+    × Telling (givenBy canvas reference book codebook) (taskIn source settings (limitOf limit)) start (lentBy out₀ (slicesBy recon₀ vx₀ vy₀)) stated₀ (slicesBy recon vx vy) stated k bits
 
 abbrev μ-loop : tie.MeasureT-loop
 μ-loop canvas source reference book codebook raised settings limit out₀ start recon₀ vx₀ vy₀ stated₀ count k₀ at₀ bits₀ error₀ out recon vx vy stated k at bits error = count - k
 
--- ---- before the loop: the plane, what is asked, the result slices, and that nothing refuses them
+-- ---- before the loop: the plane, what is asked, what is lent, and that nothing refuses it
 abbrev start : tie.After-struct-known2 Inv-loop μ-loop → tie.Start Inv-loop μ-loop
 start e = e .before .before .before .before .before .before .before .before .before .before .before .before
 
@@ -39,10 +38,10 @@ plane e = let a = start e .args in givenBy (a .canvas) (a .reference .now) (a .b
 abbrev task : tie.After-struct-known2 Inv-loop μ-loop → Task
 task e = let a = start e .args in taskIn (a .source .now) (a .settings) (limitOf (a .limit))
 
-abbrev slices : tie.After-struct-known2 Inv-loop μ-loop → Slices
-slices e = let a = start e .args in slicesBy (a .recon .now) (a .vx .now) (a .vy .now)
+abbrev lent : tie.After-struct-known2 Inv-loop μ-loop → Lent
+lent e = let a = start e .args in lentBy (a .out .now) (slicesBy (a .recon .now) (a .vx .now) (a .vy .now))
 
-writes : (e : tie.After-struct-known2 Inv-loop μ-loop) → Writes (plane e) (start e .args .raised .now) (task e) (start e .args .out .now) (start e .args .start) (slices e)
+writes : (e : tie.After-struct-known2 Inv-loop μ-loop) → Writes (plane e) (start e .args .raised .now) (task e) (start e .args .start) (lent e)
 writes e = record {
   ready = start e .pre .0;
   samples = start e .pre .1;
@@ -61,7 +60,7 @@ mul-count c = omega (arith, count-by (plane c) _ (start c .pre .0 .ok), count-mo
 loop-holds : tie.Need-loop-holds Inv-loop μ-loop
 loop-holds c =
     let a = start c .args in
-    (begun (writes c) (start c .pre .2 .skips-rest), telling-begun (plane c) (task c) (bitsOf (a .out .now)) (a .start) (slices c) (a .stated .now))
+    (begun (writes c) (start c .pre .2 .skips-rest), telling-begun (plane c) (task c) (a .start) (lent c) (a .stated .now))
 
 write-macroblock-requires : tie.Need-write-macroblock-requires Inv-loop μ-loop
 write-macroblock-requires c κs =
@@ -131,7 +130,7 @@ loop-again c =
     let a = start e .args in
     let w = c .before .before .before .before .before .before .before .before .before .before .before .before .before .before .before .before .write-macroblock in (
       turn (writes e) (l .inv .0) (below d) (w .ensures) (w .kept .1 .1 .1 .1 .1 .1 .1 .1 .1 .0) (c .before .before .before .before .before .before .if1 .left),
-      telling-turn (plane e) (task e) (bitsOf (a .out .now)) (a .start) (slices e) (a .stated .now) (l .k) (l .bits) _ (l .at) _ _ _ _ (w .ensures) _ _ (c .before .before .before .before .before .before .if1 .left) (l .inv .1) (c .before .before .before .before .tell .ensures),
+      telling-turn (plane e) (task e) (a .start) (lent e) (a .stated .now) (l .k) (l .bits) (l .at) _ _ _ (w .ensures) _ _ (c .before .before .before .before .before .before .if1 .left) (l .inv .1) (c .before .before .before .before .tell .ensures),
     )
 
 same-length-6 : tie.Need-same-length-6 Inv-loop μ-loop
