@@ -5,7 +5,8 @@ use mathlib.Core.Path.{_≡_, refl, ap, _∙_}
 use mathlib.Core.Bool.{Bool, true, false}
 use mathlib.Core.List.{List}
 use native.Mathlib.Omega.{arith}
-use native.Mathlib.Nat.{mul-le-mul-right, add-mul, one-mul, mul-comm}
+use native.Mathlib.Decide.{decLt}
+use native.Mathlib.Nat.{mul-le-mul-right, add-mul, zero-mul, one-mul, mul-comm}
 use lib.Dec.{eqb}
 use lib.IntN.{pos}
 use lib.ListN.{length, getD, take, drop, length-take, length-drop}
@@ -103,38 +104,42 @@ part-len xs a n h = simp (length-take, length-drop) (omega arith)
 pub part-at : (xs : List ℕ) (a n j : ℕ) → j < n → getD (partOf xs a n) j 0 ≡ getD (drop a xs) j 0
 part-at xs a n j h = let e : a + n - a ≡ n = omega arith in rw e (rw getD-take)
 
--- sums over parts
-module _ (t s : List ℕ) (ti a b n : ℕ) where
-  pub parts-two : againstTwo (partOf t ti n) (partOf s a n) (partOf s b n) n ≡ againstTwo (drop ti t) (drop a s) (drop b s) n
-  parts-two = sum-same _ _ n (λ k h. simp (part-at t ti n k h, part-at s a n k h, part-at s b n k h))
-
-  pub parts-four : againstFour (partOf t ti n) (partOf s a n) (partOf s (a + 1) n) (partOf s b n) (partOf s (b + 1) n) n
-      ≡ againstFour (drop ti t) (drop a s) (drop (a + 1) s) (drop b s) (drop (b + 1) s) n
-  parts-four = sum-same _ _ n (λ k h. simp (part-at t ti n k h, part-at s a n k h, part-at s (a + 1) n k h, part-at s b n k h, part-at s (b + 1) n k h))
-
 -- ---- a row at a full sample, between columns, between rows, and between both
 module _ (t : List ℕ) (c : Canvas) (n ox oy ti p : ℕ) where
   pub row-full : ox ≡ 0 → oy ≡ 0 → against (partOf t ti n) (partOf (c .samples) p n) n ≡ cells t c n ox oy ti p
   unfolding cell
   row-full e f = sum-same _ _ n (λ k h. simp (eq-eqb ox 0 e, eq-eqb oy 0 f, part-at t ti n k h, part-at (c .samples) p n k h, getD-drop))
 
-  pub row-across : (ox ≡ 0 → ⊥) → oy ≡ 0 → againstTwo (drop ti t) (drop p (c .samples)) (drop (p + 1) (c .samples)) n ≡ cells t c n ox oy ti p
+  pub row-two : ox < 2 → oy < 2 → ox + oy ≡ 1
+      → againstTwo (partOf t ti n) (partOf (c .samples) p n) (partOf (c .samples) (p + oy * c .stride + ox) n) n ≡ cells t c n ox oy ti p
   unfolding cell
-  row-across e f = sum-same _ _ n (λ k h. let q : p + 1 + k ≡ p + k + 1 = omega arith in simp (ne-eqb ox 0 e, eq-eqb oy 0 f, getD-drop, q))
+  row-two bx by one = go (decLt ox 1)
+    where
+      go : Dec (ox < 1) → againstTwo (partOf t ti n) (partOf (c .samples) p n) (partOf (c .samples) (p + oy * c .stride + ox) n) n ≡ cells t c n ox oy ti p
+      go (yes l) =
+          let x : ox ≡ 0 = omega arith in
+          let z : oy * c .stride ≡ c .stride = one-of oy (c .stride) (λ e. omega arith) by in
+          sum-same _ _ n (λ k h.
+          let q : p + oy * c .stride + ox + k ≡ p + k + c .stride = omega arith in
+          simp (eq-eqb ox 0 x, ne-eqb oy 0 (λ e. omega arith), part-at t ti n k h, part-at (c .samples) p n k h, part-at (c .samples) (p + oy * c .stride + ox) n k h, getD-drop, q))
+      go (no l) =
+          let y : oy ≡ 0 = omega arith in
+          let z : oy * c .stride ≡ 0 = rw y (zero-mul (c .stride)) in
+          sum-same _ _ n (λ k h.
+          let q : p + oy * c .stride + ox + k ≡ p + k + 1 = omega arith in
+          simp (ne-eqb ox 0 (λ e. omega arith), eq-eqb oy 0 y, part-at t ti n k h, part-at (c .samples) p n k h, part-at (c .samples) (p + oy * c .stride + ox) n k h, getD-drop, q))
 
-  pub row-down : ox ≡ 0 → (oy ≡ 0 → ⊥) → againstTwo (drop ti t) (drop p (c .samples)) (drop (p + c .stride) (c .samples)) n ≡ cells t c n ox oy ti p
+  pub row-four : ox ≡ 1 → oy ≡ 1
+      → againstFour (partOf t ti n) (partOf (c .samples) p n) (partOf (c .samples) (p + ox) n) (partOf (c .samples) (p + oy * c .stride) n) (partOf (c .samples) (p + oy * c .stride + ox) n) n
+      ≡ cells t c n ox oy ti p
   unfolding cell
-  row-down e f = sum-same _ _ n (λ k h. let q : p + c .stride + k ≡ p + k + c .stride = omega arith in simp (eq-eqb ox 0 e, ne-eqb oy 0 f, getD-drop, q))
-
-  pub row-both : (ox ≡ 0 → ⊥) → (oy ≡ 0 → ⊥)
-      → againstFour (drop ti t) (drop p (c .samples)) (drop (p + 1) (c .samples)) (drop (p + c .stride) (c .samples)) (drop (p + c .stride + 1) (c .samples)) n ≡ cells t c n ox oy ti p
-  unfolding cell
-  row-both e f =
+  row-four x y =
       sum-same _ _ n (λ k h.
-      let q : p + c .stride + k ≡ p + k + c .stride = omega arith in
-      let r : p + 1 + k ≡ p + k + 1 = omega arith in
-      let s : p + c .stride + 1 + k ≡ p + k + c .stride + 1 = omega arith in
-      simp (ne-eqb ox 0 e, ne-eqb oy 0 f, getD-drop, q, r, s))
+      let z : oy * c .stride ≡ c .stride = rw y (one-mul (c .stride)) in
+      let r : p + ox + k ≡ p + k + 1 = omega arith in
+      let q : p + oy * c .stride + k ≡ p + k + c .stride = omega arith in
+      let s : p + oy * c .stride + ox + k ≡ p + k + c .stride + 1 = omega arith in
+      simp (ne-eqb ox 0 (λ e. omega arith), ne-eqb oy 0 (λ e. omega arith), part-at t ti n k h, part-at (c .samples) p n k h, part-at (c .samples) (p + ox) n k h, part-at (c .samples) (p + oy * c .stride) n k h, part-at (c .samples) (p + oy * c .stride + ox) n k h, getD-drop, q, r, s))
 
 -- ---- row i of a block that is read inside the canvas
 pub record RowIn (t : List ℕ) (c : Canvas) (n ox oy x0 y0 i : ℕ) : Type 0 where

@@ -1,10 +1,10 @@
 // The absolute error of a block against a moved one, row by row.
 ghost use mathlib.Core.Path.{_≡_};
 ghost use Prim.Native.Nat.{_+_, _*_, _<_, _≤_};
-ghost use lib.ListN.{length, drop};
+ghost use lib.ListN.{length};
 ghost use Rattle.bits.specs.Basics.{gap as gapOf};
 ghost use Rattle.compensation.specs.Compensation.{mean2 as meanOf2, mean4 as meanOf4};
-ghost use Rattle.compensation.specs.RowForms.{Sides, against, againstTwo, againstFour, cells, ReadIn, Summed};
+ghost use Rattle.compensation.specs.RowForms.{against, againstTwo, againstFour, cells, ReadIn, Summed};
 
 // What summing a vector's absolute error answers: its sum, and the rows taken.
 pub struct Taken {
@@ -75,57 +75,6 @@ fn sum_four(t: &[u8], a: &[u8], b: &[u8], c: &[u8], d: &[u8], n: usize) -> u16
     sum
 }
 
-// The same with the side as a constant in each call, so that each loop has a known length.
-fn gaps_two(t: &[u8], a: &[u8], b: &[u8], n: usize) -> u16
-    requires { ⌜ Sides n × (length (now t) ≡ n) × (length (now a) ≡ n) × (length (now b) ≡ n) ⌝ }
-    ensures { λ r. ⌜ (r ≡ againstTwo (now (t .entry)) (now (a .entry)) (now (b .entry)) n) × (r ≤ 255 * n) ⌝ }
-{
-    if n == 16 {
-        return sum_two(t, a, b, 16);
-    }
-    sum_two(t, a, b, 8)
-}
-
-fn gaps_four(t: &[u8], a: &[u8], b: &[u8], c: &[u8], d: &[u8], n: usize) -> u16
-    requires { ⌜ Sides n × (length (now t) ≡ n) × (length (now a) ≡ n) × (length (now b) ≡ n) × (length (now c) ≡ n) × (length (now d) ≡ n) ⌝ }
-    ensures { λ r. ⌜ (r ≡ againstFour (now (t .entry)) (now (a .entry)) (now (b .entry)) (now (c .entry)) (now (d .entry)) n) × (r ≤ 255 * n) ⌝ }
-{
-    if n == 16 {
-        return sum_four(t, a, b, c, d, 16);
-    }
-    sum_four(t, a, b, c, d, 8)
-}
-
-// The row of n samples of t from ti on against the means of those of the reference from a and from b on, and of those from a, b and
-// from one place further on each.
-fn two_at(t: &[u8], reference: &[u8], ti: usize, a: usize, b: usize, n: usize) -> u16
-    requires { ⌜ Sides n × (ti + n ≤ length (now t)) × (a + n ≤ length (now reference)) × (b + n ≤ length (now reference)) ⌝ }
-    ensures { λ r. ⌜ (r ≡ againstTwo (drop ti (now (t .entry))) (drop a (now (reference .entry))) (drop b (now (reference .entry))) n) × (r ≤ 255 * n) ⌝ }
-{
-    gaps_two(
-        &t[ti..ti + n],
-        &reference[a..a + n],
-        &reference[b..b + n],
-        n,
-    )
-}
-
-fn four_at(t: &[u8], reference: &[u8], ti: usize, a: usize, b: usize, n: usize) -> u16
-    requires { ⌜ Sides n × (ti + n ≤ length (now t)) × (a + 1 + n ≤ length (now reference)) × (b + 1 + n ≤ length (now reference)) ⌝ }
-    ensures { λ r. ⌜ (r ≡ againstFour (drop ti (now (t .entry))) (drop a (now (reference .entry))) (drop (a + 1) (now (reference .entry))) (drop b (now (reference .entry))) (drop (b + 1) (now (reference .entry))) n) × (r ≤ 255 * n) ⌝ }
-{
-    let c = a + 1;
-    let d = b + 1;
-    gaps_four(
-        &t[ti..ti + n],
-        &reference[a..a + n],
-        &reference[c..c + n],
-        &reference[b..b + n],
-        &reference[d..d + n],
-        n,
-    )
-}
-
 // The row of n samples of t from ti on against those read at p between two columns (ox is 1), two rows (oy is 1) or both.
 fn row_between(
     t: &[u8],
@@ -138,16 +87,28 @@ fn row_between(
     ox: usize,
     oy: usize,
 ) -> u16
-    requires { ⌜ Sides n × (ox < 2) × (oy < 2) × (1 ≤ ox + oy) × (ti + n ≤ length (now t)) × (p + oy * stride + ox + n ≤ length (now reference)) ⌝ }
+    requires { ⌜ (n ≤ 16) × (ox < 2) × (oy < 2) × (1 ≤ ox + oy) × (ti + n ≤ length (now t)) × (p + oy * stride + ox + n ≤ length (now reference)) ⌝ }
     ensures { λ r. ⌜ (r ≡ cells (now (t .entry)) (record { samples = now (reference .entry); stride = stride; rows = rows }) n ox oy ti p) × (r ≤ 255 * n) ⌝ }
 {
-    if oy == 0 {
-        return two_at(t, reference, ti, p, p + 1, n);
+    let right = p + ox;
+    let below = p + oy * stride;
+    let across = below + ox;
+    if ox + oy < 2 {
+        return sum_two(
+            &t[ti..ti + n],
+            &reference[p..p + n],
+            &reference[across..across + n],
+            n,
+        );
     }
-    if ox == 0 {
-        return two_at(t, reference, ti, p, p + stride, n);
-    }
-    four_at(t, reference, ti, p, p + stride, n)
+    sum_four(
+        &t[ti..ti + n],
+        &reference[p..p + n],
+        &reference[right..right + n],
+        &reference[below..below + n],
+        &reference[across..across + n],
+        n,
+    )
 }
 
 // The rows of a block that lies between samples, one by one, until the limit is reached.
@@ -228,7 +189,7 @@ fn rows_full(
     }
 }
 
-// The same with the side as a constant in each call, so that each loop has a known length.
+// Both with the side as a constant in each call, so that each loop has a known length.
 pub fn full_error(
     t: &[u8],
     reference: &[u8],
@@ -246,6 +207,27 @@ pub fn full_error(
         return rows_full(t, reference, x0, y0, stride, rows, 16, limit);
     }
     rows_full(t, reference, x0, y0, stride, rows, 8, limit)
+}
+
+fn between_error(
+    t: &[u8],
+    reference: &[u8],
+    x0: usize,
+    y0: usize,
+    stride: usize,
+    rows: usize,
+    n: usize,
+    ox: usize,
+    oy: usize,
+    limit: u64,
+) -> Taken
+    requires { ⌜ ReadIn (now t) (record { samples = now reference; stride = stride; rows = rows }) n ox oy x0 y0 × (1 ≤ ox + oy) ⌝ }
+    ensures { λ r. ⌜ Summed (now (t .entry)) (record { samples = now (reference .entry); stride = stride; rows = rows }) n ox oy x0 y0 limit r ⌝ }
+{
+    if n == 16 {
+        return rows_between(t, reference, x0, y0, stride, rows, 16, ox, oy, limit);
+    }
+    rows_between(t, reference, x0, y0, stride, rows, 8, ox, oy, limit)
 }
 
 // The absolute error of the block of n by n samples read from x0, y0, all inside the canvas. It ends after the first row in which it
@@ -266,7 +248,7 @@ pub fn block_error(
     ensures { λ r. ⌜ Summed (now (t .entry)) (record { samples = now (reference .entry); stride = stride; rows = rows }) n ox oy x0 y0 limit r ⌝ }
 {
     if 0 < ox + oy {
-        return rows_between(t, reference, x0, y0, stride, rows, n, ox, oy, limit);
+        return between_error(t, reference, x0, y0, stride, rows, n, ox, oy, limit);
     }
     full_error(t, reference, x0, y0, stride, rows, n, limit)
 }

@@ -10,8 +10,8 @@ use Rattle.compensation.proofs.svq1_enc_inter.inner.block_error.Tie as 
 add-if1 : tie.Need-add-if1
 add-if1 c = search needs
 
-rows-between-requires : tie.Need-rows-between-requires
-rows-between-requires c κs = search needs
+between-error-requires : tie.Need-between-error-requires
+between-error-requires c κs = search needs
 
 returns : tie.Need-returns
 returns c = search needs
@@ -31,4 +31,4 @@ returns-2 c =
     summed-full (a .t .now) v (a .n) (a .n) (a .ox) (a .oy) (a .x0) (a .y0) refl (omega (arith, c .before .if1 .left)) (a .limit) _ (c .full-error .ensures)
 
 pub block-error-spec : {M : Type 1} → statement M
-block-error-spec = tie.close (tie.spec add-if1 rows-between-requires returns full-error-requires returns-2)
+block-error-spec = tie.close (tie.spec add-if1 between-error-requires returns full-error-requires returns-2)

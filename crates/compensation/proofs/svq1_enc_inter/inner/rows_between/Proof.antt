@@ -41,7 +41,7 @@ add-row-between-2 : tie.Need-add-row-between-2 Inv-loop μ-loop
 add-row-between-2 c = omega (arith, row c)
 
 row-between-requires : tie.Need-row-between-requires Inv-loop μ-loop
-row-between-requires c κs = let f = row c in (f .1 .side, f .1 .ox-bit, f .1 .oy-bit, c .before .before .before .before .pre .1, f .0 .target, f .0 .canvas)
+row-between-requires c κs = let f = row c in (f .1 .side .most, f .1 .ox-bit, f .1 .oy-bit, c .before .before .before .before .pre .1, f .0 .target, f .0 .canvas)
 
 cast-sum : tie.Need-cast-sum Inv-loop μ-loop
 cast-sum c = omega (arith, c .before .before .before .before .before .pre .0 .side)
