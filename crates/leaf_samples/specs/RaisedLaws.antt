@@ -1,4 +1,4 @@
--- Laws of raised numbers: differences, a vector's sample added, the first of the least, the mean, vectors added in place, and the stages.
+-- Laws of raised numbers: differences, a vector's sample added, a vector of zeros, the first of the least, the mean, vectors added in place, and the stages.
 -- Assumes nothing.
 use mathlib.Core.Path.{_≡_, refl, sym, _∙_, ap}
 use mathlib.Core.List.{List, [], _∷_, _++_, map, append-assoc, append-nil}
@@ -9,10 +9,10 @@ use native.Mathlib.Decide.{decLe}
 use native.Mathlib.Numerals.{add-one}
 use borrow.Author.Tests.{lt-ltb, le-ltb}
 use lib.IntN.{ℤ, pos, subℕ, _+ℤ_, negℤ}
-use lib.ListN.{length, take, drop, getD, set, length-map}
+use lib.ListN.{length, take, drop, getD, set, replicate, length-map}
 use lib.Seq.{take-length, drop-cons, drop-length, take-suc-set, drop-set-lt, drop-drop, getD-drop}
 use Rattle.bits.specs.Basics.{Bytes}
-use Rattle.bits.specs.DifferenceLaws.{sub-add, pos-is}
+use Rattle.bits.specs.DifferenceLaws.{sub-add, sub-eq, pos-is}
 use Rattle.book.specs.declared.svq1_vlc.Svq1Half.{Svq1Half}
 use Rattle.book.specs.declared.svq1_vlc.Svq1Half.the-variants.{Intra, Inter}
 use Rattle.codebook.specs.Mean.{residual, rounded, clampMean, meanOf, saturate}
@@ -47,6 +47,32 @@ vector-at (x ∷ a) (y ∷ w) b zero h e l =
 vector-at (x ∷ a) (y ∷ w) b (suc i) h e l =
     let r = vector-at a w b i (omega arith) (omega arith) l in
     (omega (arith, r .0), r .1)
+
+-- ---- 128, which a vector's zero is kept as, over and over
+pub alike-below : (n m v i : ℕ) → getD (take n (replicate m v)) i 0 ≤ v
+alike-below zero m v i = omega arith
+alike-below (suc n) zero v i = omega arith
+alike-below (suc n) (suc m) v zero = omega arith
+alike-below (suc n) (suc m) v (suc i) = alike-below n m v i
+
+-- bytes as a vector on sums of 128 show themselves
+pub level-bytes : (m : ℕ) (p : List ℕ) → length p ≤ m → Bytes p → samples (plus (less 0 (take (length p) (replicate m 128))) (less 128 p)) ≡ p
+unfolding samples plus less
+level-bytes m [] h b = refl
+level-bytes zero (x ∷ p) h b = absurd (omega arith)
+level-bytes (suc m) (x ∷ p) h b =
+    let k : x < 256 = b 0 in
+    let e : saturate (subℕ 128 0 +ℤ subℕ x 128) ≡ x = ap saturate (sub-add 128 0 x 128) ∙ saturate-less (128 + x) 128 ∙ omega arith in
+    rw e (ap (λ (l : List ℕ). x ∷ l) (level-bytes m p (omega arith) (λ i. b (suc i))))
+
+-- a vector of zeros changes no sum
+pub middle-adds : (m b : ℕ) (a : List ℕ) → length a ≤ m → plus (less b a) (less 128 (take (length a) (replicate m 128))) ≡ less b a
+unfolding plus less
+middle-adds m b [] h = refl
+middle-adds zero b (x ∷ a) h = absurd (omega arith)
+middle-adds (suc m) b (x ∷ a) h =
+    let e : subℕ x b +ℤ subℕ 128 128 ≡ subℕ x b = sub-add x b 128 128 ∙ sub-eq (x + 128) (b + 128) x b (omega arith) in
+    rw e (ap (λ (l : List ℤ). subℕ x b ∷ l) (middle-adds m b a (omega arith)))
 
 -- ---- the first place of the least
 
@@ -237,15 +263,6 @@ unfolding raised
 raised-le [] m h i = omega arith
 raised-le (x ∷ p) m h zero = omega (arith, h zero)
 raised-le (x ∷ p) m h (suc i) = raised-le p m (λ k. h (suc k)) i
-
--- a predictor of bytes shows itself
-pub samples-bytes : (p : List ℕ) → Bytes p → samples (less 256 (raised 256 p)) ≡ p
-unfolding samples less raised
-samples-bytes [] b = refl
-samples-bytes (x ∷ p) b =
-    let h : x < 256 = b 0 in
-    let e : saturate (subℕ (x + 256) 256) ≡ x = saturate-less (x + 256) 256 ∙ omega arith in
-    rw e (ap (λ (l : List ℕ). x ∷ l) (samples-bytes p (λ k. b (suc k))))
 
 -- ---- blocks of samples
 pub length-shown-sums : (b : ℕ) (a : List ℕ) → length (samples (less b a)) ≡ length a
