@@ -1,4 +1,4 @@
--- Laws of raised numbers: differences, a vector's sample added, a vector of zeros, the first of the least, the mean, vectors added in place, and the stages.
+-- Laws of raised numbers: differences, a vector's sample added, a vector of zeros, the first of the least, the mean, and vectors added in place.
 -- Assumes nothing.
 use mathlib.Core.Path.{_≡_, refl, sym, _∙_, ap}
 use mathlib.Core.List.{List, [], _∷_, _++_, map, append-assoc, append-nil}
@@ -16,8 +16,8 @@ use Rattle.bits.specs.DifferenceLaws.{sub-add, sub-eq, pos-is}
 use Rattle.book.specs.declared.svq1_vlc.Svq1Half.{Svq1Half}
 use Rattle.book.specs.declared.svq1_vlc.Svq1Half.the-variants.{Intra, Inter}
 use Rattle.codebook.specs.Mean.{residual, rounded, clampMean, meanOf, saturate}
-use Rattle.leaf.specs.Leaf.{sse, plus, samples, seeded, argmin, stageError, bestVector, stages}
-use Rattle.leaf.specs.LeafForms.{less, vector, vectorsIn, vectorError, sampleSum, plusN}
+use Rattle.leaf.specs.Leaf.{plus, samples, seeded, argmin}
+use Rattle.leaf.specs.LeafForms.{less, vector, sampleSum, plusN}
 
 pub square-le : {d : ℕ} → d ≤ 255 → d * d ≤ 65025
 square-le h = mul-le-mul h h
@@ -177,47 +177,6 @@ less-plus b c (x ∷ xs) (y ∷ ys) = simp (less-plus b c xs ys, sub-add)
 pub plusN-done : (a w r : List ℕ) (i : ℕ) → i ≡ length a → take i a ++ plusN (drop i a) (drop i w) ≡ r → a ≡ r
 unfolding plusN
 plusN-done a w r i e f = sym (append-nil a) ∙ (rw (e, take-length, drop-length) at f)
-
--- ---- the stages
-
--- stage k's vectors begin k times sixteen vectors behind the page's
-at-stage : (t book : List ℕ) (base k at j : ℕ) (z : List ℤ) → at ≡ base + length t * 16 * k
-    → stageError (vectorsIn book base (length t)) t k z j ≡ vectorError t z book at j
-unfolding stageError vectorsIn vectorError
-at-stage t book base k at j z e = rw e
-
-best-stage : (t book : List ℕ) (base k at : ℕ) (z : List ℤ) → at ≡ base + length t * 16 * k
-    → bestVector (vectorsIn book base (length t)) t k z ≡ argmin (vectorError t z book at) 15
-unfolding bestVector stageError vectorsIn vectorError
-best-stage t book base k at z e = rw e
-
--- the best vector is taken
-pub greedy-go : (t book : List ℕ) (base cap k at j : ℕ) (z : List ℤ) → k < cap → at ≡ base + length t * 16 * k →
-    j ≡ argmin (vectorError t z book at) 15 → vectorError t z book at j < sse t (samples z) →
-    stages (vectorsIn book base (length t)) t (cap - k) k z
-    ≡ j ∷ stages (vectorsIn book base (length t)) t (cap - (k + 1)) (k + 1) (plus z (vector book at (length t) j))
-unfolding stages vectorsIn
-greedy-go t book base cap k at j z h p e l =
-    let m : cap - k ≡ suc (cap - (k + 1)) = omega arith in
-    let b = best-stage t book base k at z p ∙ sym e in
-    rw (m, stages, b, at-stage t book base k at j z p, lt-ltb _ _ l, ← p, add-one)
-
--- the search stops: no vector leaves less
-pub greedy-stop : (t book : List ℕ) (base cap k at j : ℕ) (z : List ℤ) → k < cap → at ≡ base + length t * 16 * k →
-    j ≡ argmin (vectorError t z book at) 15 → sse t (samples z) ≤ vectorError t z book at j →
-    stages (vectorsIn book base (length t)) t (cap - k) k z ≡ []
-unfolding stages
-greedy-stop t book base cap k at j z h p e l =
-    let m : cap - k ≡ suc (cap - (k + 1)) = omega arith in
-    let b = best-stage t book base k at z p ∙ sym e in
-    rw (m, stages, b, at-stage t book base k at j z p, le-ltb _ _ l)
-
--- the search stops: no stage is left
-pub greedy-end : (t book : List ℕ) (base cap k : ℕ) (z : List ℤ) → cap ≤ k → stages (vectorsIn book base (length t)) t (cap - k) k z ≡ []
-unfolding stages
-greedy-end t book base cap k z h =
-    let m : cap - k ≡ 0 = omega arith in
-    rw m
 
 -- the vector's values, in place of the sums
 pub stage-sums : (book a : List ℕ) (base n b j : ℕ) → less (b + 128) (plusN a (take n (drop (base + n * j) book))) ≡ plus (less b a) (vector book base n j)

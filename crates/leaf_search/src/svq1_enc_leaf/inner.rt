@@ -7,9 +7,10 @@ ghost use lib.IntN.{subℕ};
 ghost use Rattle.book.specs.Level.{levelNumber};
 ghost use Rattle.codebook.specs.Mean.{residual, meanOf};
 ghost use Rattle.leaf.specs.Leaf.{sse, samples, argmin, capAt, termsAt};
-ghost use Rattle.leaf.specs.LeafForms.{less, vectorError, Below, Stage, sampleSum, Searched};
+ghost use Rattle.leaf.specs.LeafForms.{less, vectorError, Below, Stage, sampleSum};
 ghost use Rattle.leaf.specs.LeafNeeds.{SearchReady, Coding, Chosen};
 ghost use Rattle.leaf_search.specs.LevelLeafNeeds.{LevelReady, LevelChosen};
+ghost use Rattle.leaf_search.specs.StagesNeeds.{Searched};
 use super::super::svq1_enc_leaf::LeafChoice;
 use book::svq1_blocktree::Svq1Level;
 use book::svq1_vlc::Svq1Half;
@@ -128,7 +129,7 @@ fn search_stages(
 ) -> Stages
     requires { ⌜ (length (now t) ≤ 256) × (length (now a) ≡ length (now t)) × Below 1000 (now a) × (bias ≤ 1000) ⌝ }
     requires { ⌜ (cap ≤ 6) × (base + length (now t) * 16 * cap ≤ length (now book)) × (error ≡ sse (now t) (samples (less bias (now a)))) ⌝ }
-    ensures { λ r. ⌜ Searched (now (t .entry)) (now (book .entry)) base cap bias (now (a .entry)) (now (a .exit)) (r .count) (r .error) (r .index) ⌝ }
+    ensures { λ r. ⌜ Searched (record { target = now (t .entry); sums = now (a .entry); codebook = now (book .entry); base = base; bias = bias; cap = cap }) (now (a .exit)) r ⌝ }
 {
     let n = t.len();
     let mut index = [0u8; 6];

@@ -57,8 +57,7 @@ returns c =
     let small : mean < 32768 = omega (arith, m .ensures .1) in
     let stored : toZ w16 (ofZ w16 (c .signed-mean .result)) ≡ subℕ mean 256 =
     rw (c .signed-mean .ensures) (toZ-ofZ w16 (subℕ mean 256) (sub-sfits mean 256 small (omega arith))) in
-    coded-done (a .terms) (a .t .now) (a .p .now) (a .book .now) _ _ (s .result .index) _ (a .base) mean (s .result .count) (s .result .error)
-    (c .before .before .before .before .before .bias-of .result) (toZ w16 (ofZ w16 (c .signed-mean .result)))
+    coded-done (a .terms) (a .t .now) (a .p .now) (a .book .now) _ _ _ (a .base) mean (c .before .before .before .before .before .bias-of .result) (toZ w16 (ofZ w16 (c .signed-mean .result))) (s .result)
     (m .ensures .0) (d .seed .ensures .0) (s .ensures) stored (c .before .before .before .before .before .bias-of .ensures) (c .before .before .before .show .ensures)
     (omega (arith, s .ensures .counted, q .pre .stages))
 
