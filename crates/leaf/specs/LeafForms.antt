@@ -1,11 +1,11 @@
 -- The unsigned numbers that the leaf search computes with, and the signed ones that they stand for: each is kept plus a bias (over the definitions of Leaf).
 use mathlib.Core.Path.{_≡_}
 use mathlib.Core.List.{List, [], _∷_, map}
-use Prim.Native.Nat.{ℕ, _+_, _-_, _*_, _≤_}
+use Prim.Native.Nat.{ℕ, _+_, _*_, _≤_}
 use lib.IntN.{ℤ, subℕ}
-use lib.ListN.{length, getD, take, drop, replicate}
+use lib.ListN.{length, getD, take, drop}
 use Rattle.bits.specs.Basics.{gap}
-use Rattle.leaf.specs.Leaf.{Leaf, skip, coded, Vectors, sse, plus, samples, stages, staged}
+use Rattle.leaf.specs.Leaf.{Leaf, skip, coded, Vectors, sse, plus, samples}
 use Rattle.leaf.specs.declared.svq1_enc_leaf.LeafCode.{LeafCode}
 use Rattle.leaf.specs.declared.svq1_enc_leaf.LeafCode.the-variants.{Skip, Coded}
 
@@ -25,7 +25,7 @@ vectorsIn book base n s j = vector book (base + n * 16 * s) n j
 unfoldable pub vectorError : List ℕ → List ℤ → List ℕ → ℕ → ℕ → ℕ
 vectorError t z book base j = sse t (samples (plus z (vector book base (length t) j)))
 
--- ---- what the functions keep and hand back
+-- ---- what the functions ask and keep
 -- the sum of a list
 unfoldable pub sampleSum : List ℕ → ℕ
 sampleSum [] = 0
@@ -52,16 +52,6 @@ pub record Stage (t a book : List ℕ) (base bias : ℕ) : Type 0 where
   pub low : Below 4095 a
   pub small : bias ≤ 4095
   pub room : base + length t * 16 ≤ length book
-
--- what a stage search hands back: its count, six indices with zeros behind the count, its error and its sums, of which each is kept plus bias + 128 for each stage
-pub record Searched (t book : List ℕ) (base cap bias : ℕ) (a b : List ℕ) (count error : ℕ) (index : List ℕ) : Type 0 where
-  pub indices : take count index ≡ stages (vectorsIn book base (length t)) t cap 0 (less bias a)
-  pub sums : less (bias + 128 * count) b
-      ≡ staged (vectorsIn book base (length t)) 0 (less bias a) (stages (vectorsIn book base (length t)) t cap 0 (less bias a))
-  pub least : error ≡ sse t (samples (less (bias + 128 * count) b))
-  pub counted : count ≤ cap
-  pub six : length index ≡ 6
-  pub behind : drop count index ≡ replicate (6 - count) 0
 
 -- the leaf that a code and six stage indices mean
 abbrev pub leafOf : LeafCode → List ℕ → Leaf

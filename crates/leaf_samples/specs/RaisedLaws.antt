@@ -1,4 +1,4 @@
--- Laws of raised numbers: differences, a vector's sample added, the first of the least, the mean, vectors added in place, and the stages.
+-- Laws of raised numbers: differences, a vector's sample added, a vector of zeros, the first of the least, the mean, and vectors added in place.
 -- Assumes nothing.
 use mathlib.Core.Path.{_≡_, refl, sym, _∙_, ap}
 use mathlib.Core.List.{List, [], _∷_, _++_, map, append-assoc, append-nil}
@@ -9,15 +9,15 @@ use native.Mathlib.Decide.{decLe}
 use native.Mathlib.Numerals.{add-one}
 use borrow.Author.Tests.{lt-ltb, le-ltb}
 use lib.IntN.{ℤ, pos, subℕ, _+ℤ_, negℤ}
-use lib.ListN.{length, take, drop, getD, set, length-map}
+use lib.ListN.{length, take, drop, getD, set, replicate, length-map}
 use lib.Seq.{take-length, drop-cons, drop-length, take-suc-set, drop-set-lt, drop-drop, getD-drop}
 use Rattle.bits.specs.Basics.{Bytes}
-use Rattle.bits.specs.DifferenceLaws.{sub-add, pos-is}
+use Rattle.bits.specs.DifferenceLaws.{sub-add, sub-eq, pos-is}
 use Rattle.book.specs.declared.svq1_vlc.Svq1Half.{Svq1Half}
 use Rattle.book.specs.declared.svq1_vlc.Svq1Half.the-variants.{Intra, Inter}
 use Rattle.codebook.specs.Mean.{residual, rounded, clampMean, meanOf, saturate}
-use Rattle.leaf.specs.Leaf.{sse, plus, samples, seeded, argmin, stageError, bestVector, stages}
-use Rattle.leaf.specs.LeafForms.{less, vector, vectorsIn, vectorError, sampleSum, plusN}
+use Rattle.leaf.specs.Leaf.{plus, samples, seeded, argmin}
+use Rattle.leaf.specs.LeafForms.{less, vector, sampleSum, plusN}
 
 pub square-le : {d : ℕ} → d ≤ 255 → d * d ≤ 65025
 square-le h = mul-le-mul h h
@@ -47,6 +47,32 @@ vector-at (x ∷ a) (y ∷ w) b zero h e l =
 vector-at (x ∷ a) (y ∷ w) b (suc i) h e l =
     let r = vector-at a w b i (omega arith) (omega arith) l in
     (omega (arith, r .0), r .1)
+
+-- ---- 128, which a vector's zero is kept as, over and over
+pub alike-below : (n m v i : ℕ) → getD (take n (replicate m v)) i 0 ≤ v
+alike-below zero m v i = omega arith
+alike-below (suc n) zero v i = omega arith
+alike-below (suc n) (suc m) v zero = omega arith
+alike-below (suc n) (suc m) v (suc i) = alike-below n m v i
+
+-- bytes as a vector on sums of 128 show themselves
+pub level-bytes : (m : ℕ) (p : List ℕ) → length p ≤ m → Bytes p → samples (plus (less 0 (take (length p) (replicate m 128))) (less 128 p)) ≡ p
+unfolding samples plus less
+level-bytes m [] h b = refl
+level-bytes zero (x ∷ p) h b = absurd (omega arith)
+level-bytes (suc m) (x ∷ p) h b =
+    let k : x < 256 = b 0 in
+    let e : saturate (subℕ 128 0 +ℤ subℕ x 128) ≡ x = ap saturate (sub-add 128 0 x 128) ∙ saturate-less (128 + x) 128 ∙ omega arith in
+    rw e (ap (λ (l : List ℕ). x ∷ l) (level-bytes m p (omega arith) (λ i. b (suc i))))
+
+-- a vector of zeros changes no sum
+pub middle-adds : (m b : ℕ) (a : List ℕ) → length a ≤ m → plus (less b a) (less 128 (take (length a) (replicate m 128))) ≡ less b a
+unfolding plus less
+middle-adds m b [] h = refl
+middle-adds zero b (x ∷ a) h = absurd (omega arith)
+middle-adds (suc m) b (x ∷ a) h =
+    let e : subℕ x b +ℤ subℕ 128 128 ≡ subℕ x b = sub-add x b 128 128 ∙ sub-eq (x + 128) (b + 128) x b (omega arith) in
+    rw e (ap (λ (l : List ℤ). subℕ x b ∷ l) (middle-adds m b a (omega arith)))
 
 -- ---- the first place of the least
 
@@ -152,47 +178,6 @@ pub plusN-done : (a w r : List ℕ) (i : ℕ) → i ≡ length a → take i a ++
 unfolding plusN
 plusN-done a w r i e f = sym (append-nil a) ∙ (rw (e, take-length, drop-length) at f)
 
--- ---- the stages
-
--- stage k's vectors begin k times sixteen vectors behind the page's
-at-stage : (t book : List ℕ) (base k at j : ℕ) (z : List ℤ) → at ≡ base + length t * 16 * k
-    → stageError (vectorsIn book base (length t)) t k z j ≡ vectorError t z book at j
-unfolding stageError vectorsIn vectorError
-at-stage t book base k at j z e = rw e
-
-best-stage : (t book : List ℕ) (base k at : ℕ) (z : List ℤ) → at ≡ base + length t * 16 * k
-    → bestVector (vectorsIn book base (length t)) t k z ≡ argmin (vectorError t z book at) 15
-unfolding bestVector stageError vectorsIn vectorError
-best-stage t book base k at z e = rw e
-
--- the best vector is taken
-pub greedy-go : (t book : List ℕ) (base cap k at j : ℕ) (z : List ℤ) → k < cap → at ≡ base + length t * 16 * k →
-    j ≡ argmin (vectorError t z book at) 15 → vectorError t z book at j < sse t (samples z) →
-    stages (vectorsIn book base (length t)) t (cap - k) k z
-    ≡ j ∷ stages (vectorsIn book base (length t)) t (cap - (k + 1)) (k + 1) (plus z (vector book at (length t) j))
-unfolding stages vectorsIn
-greedy-go t book base cap k at j z h p e l =
-    let m : cap - k ≡ suc (cap - (k + 1)) = omega arith in
-    let b = best-stage t book base k at z p ∙ sym e in
-    rw (m, stages, b, at-stage t book base k at j z p, lt-ltb _ _ l, ← p, add-one)
-
--- the search stops: no vector leaves less
-pub greedy-stop : (t book : List ℕ) (base cap k at j : ℕ) (z : List ℤ) → k < cap → at ≡ base + length t * 16 * k →
-    j ≡ argmin (vectorError t z book at) 15 → sse t (samples z) ≤ vectorError t z book at j →
-    stages (vectorsIn book base (length t)) t (cap - k) k z ≡ []
-unfolding stages
-greedy-stop t book base cap k at j z h p e l =
-    let m : cap - k ≡ suc (cap - (k + 1)) = omega arith in
-    let b = best-stage t book base k at z p ∙ sym e in
-    rw (m, stages, b, at-stage t book base k at j z p, le-ltb _ _ l)
-
--- the search stops: no stage is left
-pub greedy-end : (t book : List ℕ) (base cap k : ℕ) (z : List ℤ) → cap ≤ k → stages (vectorsIn book base (length t)) t (cap - k) k z ≡ []
-unfolding stages
-greedy-end t book base cap k z h =
-    let m : cap - k ≡ 0 = omega arith in
-    rw m
-
 -- the vector's values, in place of the sums
 pub stage-sums : (book a : List ℕ) (base n b j : ℕ) → less (b + 128) (plusN a (take n (drop (base + n * j) book))) ≡ plus (less b a) (vector book base n j)
 unfolding vector
@@ -237,15 +222,6 @@ unfolding raised
 raised-le [] m h i = omega arith
 raised-le (x ∷ p) m h zero = omega (arith, h zero)
 raised-le (x ∷ p) m h (suc i) = raised-le p m (λ k. h (suc k)) i
-
--- a predictor of bytes shows itself
-pub samples-bytes : (p : List ℕ) → Bytes p → samples (less 256 (raised 256 p)) ≡ p
-unfolding samples less raised
-samples-bytes [] b = refl
-samples-bytes (x ∷ p) b =
-    let h : x < 256 = b 0 in
-    let e : saturate (subℕ (x + 256) 256) ≡ x = saturate-less (x + 256) 256 ∙ omega arith in
-    rw e (ap (λ (l : List ℕ). x ∷ l) (samples-bytes p (λ k. b (suc k))))
 
 -- ---- blocks of samples
 pub length-shown-sums : (b : ℕ) (a : List ℕ) → length (samples (less b a)) ≡ length a

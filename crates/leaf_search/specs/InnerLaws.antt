@@ -13,27 +13,30 @@ use Rattle.leaf.specs.declared.svq1_enc_leaf.LeafTerms.{LeafTerms}
 use Rattle.leaf.specs.declared.svq1_enc_leaf.LeafCode.the-variants.{Skip, Coded}
 use Rattle.codebook.specs.Mean.{residual, meanOf}
 use Rattle.leaf.specs.Leaf.{Vectors, coded, sse, seeded, staged, samples, leafShown, stages, codedLeaf, leafRule}
-use Rattle.leaf.specs.LeafForms.{less, vectorsIn, Searched}
+use Rattle.leaf.specs.LeafForms.{less, vectorsIn}
 use Rattle.leaf.specs.LeafNeeds.{Coding, Chosen}
 use Rattle.leaf.specs.LentNeedsLaws.{coded-clean, skip-clean}
+use Rattle.leaf_search.specs.StagesNeeds.{Searched}
+use Rattle.leaf_search.specs.declared.svq1_enc_leaf.inner.Stages.{Stages}
 
 -- a mean, sums seeded with it, and a stage search from there make the coded leaf
-pub coded-done : (terms : LeafTerms) (t p book a b index out : List ℕ) (base mean count error bias : ℕ) (m : ℤ)
-    → subℕ mean 256 ≡ meanOf (terms .half) (residual t p) (length t) → less 256 a ≡ seeded (subℕ mean 256) p → Searched t book base (terms .cap) 256 a b count error index
-    → m ≡ subℕ mean 256 → bias ≡ 256 + 128 * count → out ≡ samples (less bias b) → count ≤ 6
-    → Coding terms t p book base (Coded m count) index error out
+pub coded-done : (terms : LeafTerms) (t p book a b out : List ℕ) (base mean bias : ℕ) (m : ℤ) (r : Stages)
+    → subℕ mean 256 ≡ meanOf (terms .half) (residual t p) (length t) → less 256 a ≡ seeded (subℕ mean 256) p
+    → Searched (record { target = t; sums = a; codebook = book; base = base; bias = 256; cap = terms .cap }) b r
+    → m ≡ subℕ mean 256 → bias ≡ 256 + 128 * r .count → out ≡ samples (less bias b) → r .count ≤ 6
+    → Coding terms t p book base (Coded m (r .count)) (r .index) (r .error) out
 unfolding codedLeaf leafShown
-coded-done terms t p book a b index out base mean count error bias m em es s e eb eo most =
+coded-done terms t p book a b out base mean bias m r em es s e eb eo most =
     let vs = vectorsIn book base (length t) in
     let first = seeded (meanOf (terms .half) (residual t p) (length t)) p in
     let z : less 256 a ≡ first = es ∙ ap (λ (x : ℤ). seeded x p) em in
-    let shown : samples (less (256 + 128 * count) b) ≡ samples (staged vs 0 first (stages vs t (terms .cap) 0 first)) =
+    let shown : samples (less (256 + 128 * r .count) b) ≡ samples (staged vs 0 first (stages vs t (terms .cap) 0 first)) =
     ap samples (s .sums ∙ ap (λ (y : List ℤ). staged vs 0 y (stages vs t (terms .cap) 0 y)) z) in
     record {
       leaf = ap₂ coded (e ∙ em) (s .indices ∙ ap (stages vs t (terms .cap) 0) z);
       erring = s .least ∙ ap (sse t) shown;
       shown = eo ∙ ap (λ (n : ℕ). samples (less n b)) eb ∙ shown;
-      clean = coded-clean m count index most (s .six) (s .behind);
+      clean = coded-clean m (r .count) (r .index) most (s .six) (s .behind);
     }
 
 module _ (terms : LeafTerms) (t p book : List ℕ) (base : ℕ) (code : LeafCode) (js : List ℕ) (e : ℕ) (out : List ℕ) (c : Coding terms t p book base code js e out) where

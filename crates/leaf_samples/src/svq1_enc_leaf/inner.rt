@@ -1,10 +1,11 @@
-// A leaf's samples: sums of predictor, mean and vectors, kept plus a bias, and what they show.
+// A leaf's samples: sums of predictor, mean and vectors, kept plus a bias, what they show, and squared errors.
 ghost use mathlib.Core.Path.{_≡_};
-ghost use Prim.Native.Nat.{ℕ, _+_, _-_, _*_, _%_, _<_, _≤_, min};
+ghost use Prim.Native.Nat.{ℕ, _+_, _-_, _*_, _<_, _≤_, min};
 ghost use lib.ListN.{length, take, drop, getD};
 ghost use lib.IntN.{subℕ};
 ghost use Rattle.bits.specs.Basics.{gap};
-ghost use Rattle.leaf.specs.Leaf.{coded, sse, samples, seeded, staged, leafShown};
+ghost use Rattle.codebook.specs.Mean.{saturate};
+ghost use Rattle.leaf.specs.Leaf.{coded, sse, plus, samples, seeded, staged, leafShown};
 ghost use Rattle.leaf.specs.LeafForms.{less, Below, plusN, sqd, vectorsIn, leafOf};
 ghost use Rattle.leaf_samples.specs.ShowNeeds.{MeanKnown, Sized, Staging, CodeShows, Adding};
 use bits::inner::put_row;
@@ -21,7 +22,7 @@ fn above(a: u16, b: u16) -> u16
 }
 
 // The sample that a sum shows.
-pub fn shown(a: u16, bias: u16) -> u16
+fn shown(a: u16, bias: u16) -> u16
     ensures { λ r. ⌜ r ≡ min 255 (a - bias) ⌝ }
 {
     let d = above(a, bias);
@@ -37,7 +38,7 @@ fn distance(t: u8, c: u16) -> u16
 }
 
 // The square of that distance.
-pub fn squared(t: u8, c: u16) -> u16
+fn squared(t: u8, c: u16) -> u16
     requires { ⌜ c ≤ 255 ⌝ }
     ensures { λ r. ⌜ (r ≡ sqd t c) × (r ≤ 65025) ⌝ }
 {
@@ -89,21 +90,54 @@ pub fn seed(a: &mut [u16], p: &[u8], mean: u16)
     }
 }
 
-// The squared distance of two blocks. Two 16-bit totals, of the low and the high bytes, cannot overflow for 256 samples.
-pub fn distance_of(t: &[u8], p: &[u8]) -> u32
-    requires { ⌜ (length (now t) ≤ 256) × (length (now p) ≡ length (now t)) ⌝ }
-    ensures { λ r. ⌜ r ≡ sse (now (t .entry)) (now (p .entry)) ⌝ }
+// The squared error of one sum against the sample `t`.
+fn error_at(t: u8, a: u16, bias: u16) -> u16
+    ensures { λ r. ⌜ r ≡ sqd t (saturate (subℕ a bias)) ⌝ }
+    ensures { λ r. ⌜ r ≤ 65025 ⌝ }
+{
+    squared(t, shown(a, bias))
+}
+
+// The squared error of the sums `a` with the vector `w` added. A sum is kept plus `bias` - 128, and `w`'s samples plus 128. Two 16-bit
+// totals, of the low and the high bytes, cannot overflow for 256 samples.
+pub fn vector_sse(t: &[u8], a: &[u16], w: &[u8], bias: u16) -> u32
+    requires { ⌜ (length (now t) ≤ 256) × (length (now a) ≡ length (now t)) × (length (now w) ≡ length (now t)) × Below 4095 (now a) × (128 ≤ bias) ⌝ }
+    ensures { λ r. ⌜ r ≡ sse (now (t .entry)) (samples (plus (less (bias - 128) (now (a .entry))) (less 128 (now (w .entry))))) ⌝ }
 {
     let mut low: u16 = 0;
     let mut high: u16 = 0;
     let mut i = 0;
     while i < t.len() {
-        let e = squared(t[i], wide(p[i]));
+        let e = error_at(t[i], a[i] + wide(w[i]), bias);
         low += e % 256;
         high += e / 256;
         i += 1;
     }
     (low as u32) + (high as u32) * 256
+}
+
+// The vector of zeros, whose samples are kept plus 128.
+const MIDDLE: [u8; 256] = [128; 256];
+
+// The squared error of the sums `a` as they are, each kept plus `bias`.
+pub fn sums_error(t: &[u8], a: &[u16], bias: u16) -> u32
+    requires { ⌜ (length (now t) ≤ 256) × (length (now a) ≡ length (now t)) × Below 1000 (now a) × (bias ≤ 1000) ⌝ }
+    ensures { λ r. ⌜ r ≡ sse (now (t .entry)) (samples (less bias (now (a .entry)))) ⌝ }
+{
+    let n = t.len();
+    vector_sse(t, a, &MIDDLE[..n], bias + 128)
+}
+
+// Sums to which a block is added as if its samples were a vector's, kept plus 128.
+const LEVEL: [u16; 256] = [128; 256];
+
+// The squared distance of two blocks.
+pub fn distance_of(t: &[u8], p: &[u8]) -> u32
+    requires { ⌜ (length (now t) ≤ 256) × (length (now p) ≡ length (now t)) ⌝ }
+    ensures { λ r. ⌜ r ≡ sse (now (t .entry)) (now (p .entry)) ⌝ }
+{
+    let n = t.len();
+    vector_sse(t, &LEVEL[..n], p, 128)
 }
 
 // The samples that the sums show.

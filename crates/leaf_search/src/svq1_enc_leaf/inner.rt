@@ -1,15 +1,16 @@
 // Functions that only the crates of this repository call. Most have a `requires`: the caller, proved too, meets it. The functions for
 // everybody else are in the modules that keep the names of the original's files.
 ghost use mathlib.Core.Path.{_≡_};
-ghost use Prim.Native.Nat.{_+_, _-_, _*_, _%_, _<_, _≤_};
+ghost use Prim.Native.Nat.{_+_, _*_, _<_, _≤_};
 ghost use lib.ListN.{length};
 ghost use lib.IntN.{subℕ};
 ghost use Rattle.book.specs.Level.{levelNumber};
-ghost use Rattle.codebook.specs.Mean.{residual, meanOf, saturate};
-ghost use Rattle.leaf.specs.Leaf.{coded, sse, plus, samples, argmin, capAt, termsAt};
-ghost use Rattle.leaf.specs.LeafForms.{less, sqd, vectorError, Below, Stage, sampleSum, Searched};
+ghost use Rattle.codebook.specs.Mean.{residual, meanOf};
+ghost use Rattle.leaf.specs.Leaf.{sse, samples, argmin, capAt, termsAt};
+ghost use Rattle.leaf.specs.LeafForms.{less, vectorError, Below, Stage, sampleSum};
 ghost use Rattle.leaf.specs.LeafNeeds.{SearchReady, Coding, Chosen};
 ghost use Rattle.leaf_search.specs.LevelLeafNeeds.{LevelReady, LevelChosen};
+ghost use Rattle.leaf_search.specs.StagesNeeds.{Searched};
 use super::super::svq1_enc_leaf::LeafChoice;
 use book::svq1_blocktree::Svq1Level;
 use book::svq1_vlc::Svq1Half;
@@ -23,34 +24,9 @@ use leaf_samples::svq1_enc_leaf::inner::copy;
 use leaf_samples::svq1_enc_leaf::inner::distance_of;
 use leaf_samples::svq1_enc_leaf::inner::seed;
 use leaf_samples::svq1_enc_leaf::inner::show;
-use leaf_samples::svq1_enc_leaf::inner::shown;
-use leaf_samples::svq1_enc_leaf::inner::squared;
+use leaf_samples::svq1_enc_leaf::inner::sums_error;
+use leaf_samples::svq1_enc_leaf::inner::vector_sse;
 use leaf_samples::svq1_enc_leaf::inner::wide;
-
-// The squared error of one sum against the sample `t`.
-fn error_at(t: u8, a: u16, bias: u16) -> u16
-    ensures { λ r. ⌜ r ≡ sqd t (saturate (subℕ a bias)) ⌝ }
-    ensures { λ r. ⌜ r ≤ 65025 ⌝ }
-{
-    squared(t, shown(a, bias))
-}
-
-// The squared error of the sums `a` with the vector `w` added. A sum is kept plus `bias` - 128, and `w`'s samples plus 128.
-fn vector_sse(t: &[u8], a: &[u16], w: &[u8], bias: u16) -> u32
-    requires { ⌜ (length (now t) ≤ 256) × (length (now a) ≡ length (now t)) × (length (now w) ≡ length (now t)) × Below 4095 (now a) × (128 ≤ bias) ⌝ }
-    ensures { λ r. ⌜ r ≡ sse (now (t .entry)) (samples (plus (less (bias - 128) (now (a .entry))) (less 128 (now (w .entry))))) ⌝ }
-{
-    let mut low: u16 = 0;
-    let mut high: u16 = 0;
-    let mut i = 0;
-    while i < t.len() {
-        let e = error_at(t[i], a[i] + wide(w[i]), bias);
-        low += e % 256;
-        high += e / 256;
-        i += 1;
-    }
-    (low as u32) + (high as u32) * 256
-}
 
 pub struct Best {
     pub index: usize,
@@ -153,7 +129,7 @@ fn search_stages(
 ) -> Stages
     requires { ⌜ (length (now t) ≤ 256) × (length (now a) ≡ length (now t)) × Below 1000 (now a) × (bias ≤ 1000) ⌝ }
     requires { ⌜ (cap ≤ 6) × (base + length (now t) * 16 * cap ≤ length (now book)) × (error ≡ sse (now t) (samples (less bias (now a)))) ⌝ }
-    ensures { λ r. ⌜ Searched (now (t .entry)) (now (book .entry)) base cap bias (now (a .entry)) (now (a .exit)) (r .count) (r .error) (r .index) ⌝ }
+    ensures { λ r. ⌜ Searched (record { target = now (t .entry); sums = now (a .entry); codebook = now (book .entry); base = base; bias = bias; cap = cap }) (now (a .exit)) r ⌝ }
 {
     let n = t.len();
     let mut index = [0u8; 6];
@@ -202,8 +178,7 @@ fn search_coded(
     let half = terms.half;
     let mean = residual_mean(half, t, p);
     seed(a, p, mean);
-    show(a, 256, out);
-    let first = distance_of(t, out);
+    let first = sums_error(t, a, 256);
     let s = search_stages(t, a, book, base, 256, terms.cap, first);
     let count = s.count;
     let stages = s.index;

@@ -18,28 +18,26 @@ residual-mean-requires c κs = search needs
 seed-requires : tie.Need-seed-requires
 seed-requires c κs = search needs
 
-show-requires : tie.Need-show-requires
-show-requires c κs = search needs
-
-distance-of-requires : tie.Need-distance-of-requires
-distance-of-requires c κs = search needs
+sums-error-requires : tie.Need-sums-error-requires
+sums-error-requires c κs = search needs
 
 search-stages-requires : tie.Need-search-stages-requires
 search-stages-requires c κs =
-    let s = c .before .before .before .before .before .before .before .before .before .before .before .before .before .before .before .before .before .before in
-    ((s .pre .few, search needs, c .before .before .before .before .before .before .before .before .before .before .seed .ensures .1, search needs), (s .pre .stages, s .pre .page, rw (c .before .before .before .before .before .show .ensures) at (c .before .distance-of .ensures)))
+    let d = c .before .before .before .before .before in
+    let s = d .before .before .before .before .before .before .before .before in
+    ((s .pre .few, search needs, d .seed .ensures .1, search needs), (s .pre .stages, s .pre .page, c .before .sums-error .ensures))
 
 bias-of-requires : tie.Need-bias-of-requires
 bias-of-requires c κs = search needs
 
-show-requires-2 : tie.Need-show-requires-2
-show-requires-2 c κs = search needs
+show-requires : tie.Need-show-requires
+show-requires c κs = search needs
 
 signed-mean-requires : tie.Need-signed-mean-requires
 signed-mean-requires c κs = search needs
 
-cast-t31 : tie.Need-cast-t31
-cast-t31 c = omega (arith, c .before .before .before .before .before .before .before .before .before .before .search-stages .ensures .counted, c .before .before .before .before .before .before .before .before .before .before .before .before .before .before .before .before .before .before .before .before .before .before .before .before .before .before .before .before .before .pre .stages)
+cast-t27 : tie.Need-cast-t27
+cast-t27 c = search needs
 
 same-length : tie.Need-same-length
 same-length c = search needs
@@ -49,17 +47,18 @@ same-length-2 c = search needs
 
 returns : tie.Need-returns
 returns c =
-    let q = c .before .before .before .before .before .before .before .before .before .before .before .before .before .before .before .before .before .before .before .before .before .before .before .before .before .before .before .before .before in
+    let k = c .before .before .before .before .before .before .before .before .before .before in
+    let d = k .before .before .before .before .before .before in
+    let m = d .before .before .residual-mean in
+    let q = d .before .before .before .before .before .before .before .before in
     let a = q .args in
-    let m = c .before .before .before .before .before .before .before .before .before .before .before .before .before .before .before .before .before .before .before .before .before .before .before .residual-mean in
-    let s = c .before .before .before .before .before .before .before .before .before .before .search-stages in
+    let s = k .search-stages in
     let mean = m .result in
     let small : mean < 32768 = omega (arith, m .ensures .1) in
     let stored : toZ w16 (ofZ w16 (c .signed-mean .result)) ≡ subℕ mean 256 =
     rw (c .signed-mean .ensures) (toZ-ofZ w16 (subℕ mean 256) (sub-sfits mean 256 small (omega arith))) in
-    coded-done (a .terms) (a .t .now) (a .p .now) (a .book .now) _ _ (s .result .index) _ (a .base) mean (s .result .count) (s .result .error)
-    (c .before .before .before .before .before .bias-of .result) (toZ w16 (ofZ w16 (c .signed-mean .result)))
-    (m .ensures .0) (c .before .before .before .before .before .before .before .before .before .before .before .before .before .before .before .before .before .before .before .before .before .seed .ensures .0) (s .ensures) stored (c .before .before .before .before .before .bias-of .ensures) (c .before .before .before .show2 .ensures)
+    coded-done (a .terms) (a .t .now) (a .p .now) (a .book .now) _ _ _ (a .base) mean (c .before .before .before .before .before .bias-of .result) (toZ w16 (ofZ w16 (c .signed-mean .result))) (s .result)
+    (m .ensures .0) (d .seed .ensures .0) (s .ensures) stored (c .before .before .before .before .before .bias-of .ensures) (c .before .before .before .show .ensures)
     (omega (arith, s .ensures .counted, q .pre .stages))
 
 pub search-coded-spec : {M : Type 1} → statement M
@@ -68,13 +67,12 @@ search-coded-spec =
     (tie.spec
     residual-mean-requires
     seed-requires
-    show-requires
-    distance-of-requires
+    sums-error-requires
     search-stages-requires
     bias-of-requires
-    show-requires-2
+    show-requires
     signed-mean-requires
-    cast-t31
+    cast-t27
     same-length
     same-length-2
     returns)

@@ -3,16 +3,15 @@ use native.Mathlib.Omega.{arith}
 use mathlib.Core.Path.{_≡_, refl}
 use Prim.Native.Nat.{_-_}
 use lib.ListN.{length}
-use Rattle.leaf.specs.LeafForms.{less}
-use Rattle.leaf_samples.specs.RaisedLaws.{part-room, greedy-stop, greedy-end}
-use Rattle.leaf_search.specs.StagesLaws.{Going, stopped, taken}
+use Rattle.leaf_samples.specs.RaisedLaws.{part-room}
+use Rattle.leaf_search.specs.StagesLaws.{Going, all-taken, stopped, taken}
 use borrow.Author.Needs.{needs}
 use Rattle.leaf_search.proofs.svq1_enc_leaf.inner.search_stages.Statement.{statement}
 use Rattle.leaf_search.proofs.svq1_enc_leaf.inner.search_stages.Tie as tie
 
 abbrev Inv-loop : tie.InvT-loop
 Inv-loop t a₀ book base bias cap error n index₀ count₀ at₀ p₀ least₀ a index count at p least =
-    Going t a₀ book base bias cap a index count at p least
+    Going (record { target = t; sums = a₀; codebook = book; base = base; bias = bias; cap = cap }) a index count at p least
 
 abbrev μ-loop : tie.MeasureT-loop
 μ-loop t a₀ book base bias cap error n index₀ count₀ at₀ p₀ least₀ a index count at p least = cap - count
@@ -51,12 +50,8 @@ same-length c = omega arith
 
 returns : tie.Need-returns Inv-loop μ-loop
 returns c =
-    let a = c .before .before .before .before .before .before .before .before .args in
-    let l = c .before .before .before .before .loop in
     let b = c .before .best-vector in
-    stopped (a .t .now) (a .a .now) (a .book .now) (a .base) (a .bias) (a .cap) (l .a) (l .index) (l .count) (l .at) (l .plus) (l .least) (l .inv)
-    (greedy-stop (a .t .now) (a .book .now) (a .base) (a .cap) (l .count) (l .at) (b .result .index) (less (l .plus) (l .a)) (search needs) (l .inv .place) (b .ensures .0)
-    (omega (arith, l .inv .found, b .ensures .1 .0)))
+    stopped (c .before .before .before .before .loop .inv) (b .result .index) (b .result .error) (search needs) (b .ensures .0) (b .ensures .1 .0) (search needs)
 
 add-stage-requires : tie.Need-add-stage-requires Inv-loop μ-loop
 add-stage-requires c κs =
@@ -91,23 +86,16 @@ loop-less c = search needs
 loop-again : tie.Need-loop-again Inv-loop μ-loop
 loop-again c =
     let s = c .before .before .before .before .before .before .before .before .before .before .before .before in
-    let a = s .args in
-    let l = c .before .before .before .before .before .before .before .before .loop in
     let b = c .before .before .before .before .before .best-vector in
     let d = c .before .before .add-stage in
-    taken (a .t .now) (a .a .now) (a .book .now) (a .base) (a .bias) (a .cap) (l .a) (l .index) (l .count) (l .at) (l .plus) (l .least) (l .inv)
-    (b .result .index) (b .result .error) (d .last .0) (search needs) (s .pre .1 .0) (b .ensures .0) (b .ensures .1 .0) (search needs)
-    (d .ensures .0) (d .kept .0) (d .ensures .1)
+    taken (c .before .before .before .before .before .before .before .before .loop .inv) (b .result .index) (b .result .error) (search needs) (b .ensures .0) (b .ensures .1 .0)
+    (d .last .0) (s .pre .1 .0) (search needs) (d .ensures .0) (d .kept .0) (d .ensures .1)
 
 same-length-2 : tie.Need-same-length-2 Inv-loop μ-loop
 same-length-2 c = omega arith
 
 returns-2 : tie.Need-returns-2 Inv-loop μ-loop
-returns-2 c =
-    let a = c .before .before .before .before .before .args in
-    let l = c .before .loop in
-    stopped (a .t .now) (a .a .now) (a .book .now) (a .base) (a .bias) (a .cap) (l .a) (l .index) (l .count) (l .at) (l .plus) (l .least) (l .inv)
-    (greedy-end (a .t .now) (a .book .now) (a .base) (a .cap) (l .count) (less (l .plus) (l .a)) (search needs))
+returns-2 c = all-taken (c .before .loop .inv) (search needs)
 
 pub search-stages-spec : {M : Type 1} → statement M
 search-stages-spec =

@@ -4,11 +4,11 @@ use Prim.Native.Nat.{_-_}
 use lib.ListN.{length}
 use Rattle.leaf.specs.Leaf.{plus, samples}
 use Rattle.leaf.specs.LeafForms.{less}
 use Rattle.leaf_samples.specs.RaisedLaws.{vector-at}
 use Rattle.leaf_samples.specs.TotalsLaws.{Totals, one-more, all-summed}
 use borrow.Author.Needs.{needs}
-use Rattle.leaf_search.proofs.svq1_enc_leaf.inner.vector_sse.Statement.{statement}
-use Rattle.leaf_search.proofs.svq1_enc_leaf.inner.vector_sse.Tie as tie
+use Rattle.leaf_samples.proofs.svq1_enc_leaf.inner.vector_sse.Statement.{statement}
+use Rattle.leaf_samples.proofs.svq1_enc_leaf.inner.vector_sse.Tie as tie
 
 abbrev Inv-loop : tie.InvT-loop
 Inv-loop t a w bias low₀ high₀ i₀ low high i = Totals t (samples (plus (less (bias - 128) a) (less 128 w))) low high i

@@ -1,8 +1,8 @@
 -- The square of the distance to the clamped sum. Assumes nothing.
 use borrow.Author.Needs.{needs}
 use Rattle.leaf_samples.specs.RaisedLaws.{saturate-less}
-use Rattle.leaf_search.proofs.svq1_enc_leaf.inner.error_at.Statement.{statement}
-use Rattle.leaf_search.proofs.svq1_enc_leaf.inner.error_at.Tie as tie
+use Rattle.leaf_samples.proofs.svq1_enc_leaf.inner.error_at.Statement.{statement}
+use Rattle.leaf_samples.proofs.svq1_enc_leaf.inner.error_at.Tie as tie
 
 shown-requires : tie.Need-shown-requires
 shown-requires c κs = search needs
