@@ -60,6 +60,15 @@ int8_t *guarded_vectors(const struct guarded *g)
     return (int8_t *)g->bytes;
 }
 
+void guarded_seal(const struct guarded *g)
+{
+    size_t page = (size_t)sysconf(_SC_PAGESIZE), inner = g->length - 2 * page;
+    if (inner && mprotect((char *)g->pages + page, inner, PROT_READ) != 0) {
+        perror("mprotect");
+        exit(1);
+    }
+}
+
 /* Codes 0, 1, 2, .. of `length` bits. */
 static size_t plain_table(uint8_t *book, size_t at, unsigned entries, unsigned length)
 {

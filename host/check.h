@@ -25,6 +25,9 @@ struct guarded guarded_of(size_t bytes, enum guard_side side);
 void guarded_free(struct guarded *g);
 int8_t *guarded_vectors(const struct guarded *g);
 
+/* From here on its bytes may only be read. */
+void guarded_seal(const struct guarded *g);
+
 /* The built-in book and codebook, and a book of codes that all have one length in their table. */
 struct tables { uint8_t book[CABUNLIS_BOOK_BYTES], plain[CABUNLIS_BOOK_BYTES], codebook[CABUNLIS_CODEBOOK_BYTES]; };
 const struct tables *tables(void);
@@ -40,6 +43,7 @@ void test_cards(void);
 void test_refusals(void);
 void test_round_trips(void);
 void test_damaged(void);
+void test_visible(void);
 void test_rooms(void);
 void test_books(void);
 void test_short(void);

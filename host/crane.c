@@ -45,18 +45,6 @@ static double processor_seconds(void)
 
 /* ---- what was written, in numbers */
 
-/* The visible samples' squared distance. */
-static uint64_t distance(const struct plane *p)
-{
-    uint64_t sum = 0;
-    for (size_t y = 0; y < p->height; y++)
-        for (size_t x = 0; x < p->width; x++) {
-            int d = p->source[y * p->width + x] - p->recon[y * p->stride + x];
-            sum += (uint64_t)(d * d);
-        }
-    return sum;
-}
-
 static double psnr(uint64_t sum, size_t samples)
 {
     return sum ? 10.0 * log10(255.0 * 255.0 * (double)samples / (double)sum) : 99.99;
@@ -70,7 +58,7 @@ static void count(struct counts *c, const struct plane *p, const struct cabunlis
     for (size_t k = 0; k < a->done; k++)
         c->modes[p->stated[3 * k] & 3]++;
     if (plane == SCENE_LUMA)
-        c->luma_db = psnr(distance(p), p->width * p->height);
+        c->luma_db = psnr(plane_visible(p).error, p->width * p->height);
 }
 
 static void add(struct counts *all, const struct counts *c)

@@ -81,3 +81,8 @@ struct cabunlis_answer plane_read(struct plane *p, const uint8_t *book, const ui
     struct cabunlis_input input = {bytes, length, start};
     return cabunlis_read(&lent, &tables, &input);
 }
+
+struct cabunlis_visible plane_visible(const struct plane *p)
+{
+    return cabunlis_visible_error(p->width, p->height, p->stride, p->rows, p->source, p->width * p->height, p->recon, p->stride * p->rows);
+}

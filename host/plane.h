@@ -31,4 +31,7 @@ struct cabunlis_plane plane_lent(const struct plane *p);
 struct cabunlis_answer plane_write(struct plane *p, const uint8_t *book, const uint8_t *codebook, uint64_t lambda, uint8_t radius, uint8_t four, size_t start);
 struct cabunlis_answer plane_read(struct plane *p, const uint8_t *book, const uint8_t *codebook, const uint8_t *bytes, size_t length, size_t start);
 
+/* How far its reconstruction is from its source in the samples that the panel shows. */
+struct cabunlis_visible plane_visible(const struct plane *p);
+
 #endif

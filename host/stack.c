@@ -45,6 +45,13 @@ static void *decode(void *lent)
     return NULL;
 }
 
+static void *visible(void *lent)
+{
+    struct lent *l = lent;
+    plane_visible(&l->p);
+    return NULL;
+}
+
 static void *room(void *lent)
 {
     (void)lent;
@@ -92,7 +99,7 @@ static size_t touched(void *(*work)(void *), struct lent *l)
 int main(void)
 {
     static const struct { const char *name; void *(*work)(void *); } CALLS[] = {
-        {"encode_inter_plane", encode}, {"decode_inter_plane", decode}, {"plane_room", room}, {"read_book_file", book_file}, {"house", house},
+        {"encode_inter_plane", encode}, {"decode_inter_plane", decode}, {"visible_error", visible}, {"plane_room", room}, {"read_book_file", book_file}, {"house", house},
     };
     uint64_t state = 9;
     struct lent *l = host_memory(sizeof *l);

@@ -10,6 +10,7 @@ static const struct { const char *name; void (*run)(void); } GROUPS[] = {
     {"refusals", test_refusals},
     {"round trips", test_round_trips},
     {"damaged", test_damaged},
+    {"visible", test_visible},
     {"rooms", test_rooms},
     {"short calls", test_short},
     {"threads", test_threads},

@@ -14,7 +14,7 @@
  *
  * - A slice is a pointer and a length in elements. The caller sees to it that the pointer is valid for so many elements and is not
  *   NULL, not even that of a slice of length 0. Nothing can check that: it is what the proofs assume of a caller.
- * - The same holds of this: a slice that an entry writes (out, recon, vx, vy, stated; book and codebook where they are filled)
+ * - The same holds of this: a slice that an entry writes (out, vx, vy, stated; recon, book and codebook where they are filled)
  *   overlaps no other slice of the same call, and nobody else reads or writes it during the call. Slices that are only read may
  *   overlap each other; nobody writes them during the call.
  * - Nothing is kept between calls and nothing is allocated. Calls on slices of their own may run on any number of threads at once.
@@ -34,7 +34,8 @@
  * and rows are width and height rounded up to a multiple of 16. The first `width` samples of its first `height` rows are the
  * plane's; the others may hold anything, but they are predicted from like the rest, so the reader has to be lent the same
  * reference as the writer. What a call leaves in `recon` is such a canvas, and serves as it is as the reference of the next plane:
- * keep two canvases and let them change places.
+ * keep two canvases and let them change places. The padded source is the source with its last column and row repeated up to stride
+ * and rows.
  *
  * The canvas is divided into 16 x 16 macroblocks, row by row, so there are (stride / 16) * (rows / 16). An 8 x 8 block (row r,
  * column c) has its motion vector, in half samples and from -32 to 31 on each axis, at r * (stride / 8) + c of vx and vy: four a
@@ -84,6 +85,8 @@
  *     struct cabunlis_input input = {output.bytes, (a.next + 7) / 8, 0};
  *     struct cabunlis_answer b = cabunlis_read(&plane, &tables, &input);
  *     // b.next is a.next, and recon, vx and vy are what the writer left
+ *     struct cabunlis_visible shown = cabunlis_visible_error(W, H, W, H, source, sizeof source, recon, sizeof recon);
+ *     // shown.error is a.error, for no sample lies beyond the picture
  */
 #ifndef CABUNLIS_H
 #define CABUNLIS_H
@@ -98,7 +101,7 @@
  * same arguments and structs, PATCH with the rest.
  */
 #define CABUNLIS_VERSION_MAJOR 1
-#define CABUNLIS_VERSION_MINOR 0
+#define CABUNLIS_VERSION_MINOR 1
 #define CABUNLIS_VERSION_PATCH 0
 
 /* One number that grows with the version, for #if (1.2.3 is 1002003), and text, as "1.2.3". */
@@ -115,6 +118,7 @@
 #define cabunlis_encode_inter_plane CABUNLIS_ENTRY(encode_inter_plane)
 #define cabunlis_encode_inter_plane_stated CABUNLIS_ENTRY(encode_inter_plane_stated)
 #define cabunlis_decode_inter_plane CABUNLIS_ENTRY(decode_inter_plane)
+#define cabunlis_visible_error CABUNLIS_ENTRY(visible_error)
 #define cabunlis_plane_room CABUNLIS_ENTRY(plane_room)
 #define cabunlis_plane_room_under CABUNLIS_ENTRY(plane_room_under)
 #define cabunlis_read_book_file CABUNLIS_ENTRY(read_book_file)
@@ -161,7 +165,7 @@ enum cabunlis_refusal {
     CABUNLIS_ERR_SOURCE = 2,
     /* stride or rows not the size rounded up to 16 */
     CABUNLIS_ERR_STRIDE = 3,
-    /* reference length not stride x rows */
+    /* length of reference, or of recon where it is only read, not stride x rows */
     CABUNLIS_ERR_REFERENCE = 4,
     /* book or codebook of another size; a line of a book file malformed, missing or doubled */
     CABUNLIS_ERR_TABLES = 5,
@@ -195,7 +199,7 @@ struct cabunlis_answer {
     size_t done;       /* macroblocks done */
     size_t next;       /* the bit behind them, counted from the first of the slice */
     uint64_t bits;     /* writer: their bits; reader: 0 */
-    uint64_t error;    /* writer: their squared error against the source, its last column and row repeated; reader: 0 */
+    uint64_t error;    /* writer: their squared error against the padded source; reader: 0 */
 };
 
 /*
@@ -241,8 +245,8 @@ enum cabunlis_mode {
 
 /*
  * The same, and in `stated` three numbers for each macroblock done, as far as it has room for all three: its mode (enum
- * cabunlis_mode), its bits, its squared error. What lies behind them stays. `stated` is aligned as a uint32_t is, to four bytes;
- * its length is in numbers, not in bytes, and may be 0.
+ * cabunlis_mode), its bits, its squared error against the padded source. What lies behind them stays. `stated` is aligned as a
+ * uint32_t is, to four bytes; its length is in numbers, not in bytes, and may be 0.
  */
 struct cabunlis_answer cabunlis_encode_inter_plane_stated(
     size_t width, size_t height, size_t stride, size_t rows,
@@ -272,6 +276,31 @@ struct cabunlis_answer cabunlis_decode_inter_plane(
     uint8_t *recon, size_t recon_length,
     int8_t *vx, size_t vx_length,
     int8_t *vy, size_t vy_length);
+
+/* What cabunlis_visible_error answers: 0 and the error, or a refusal and 0. */
+struct cabunlis_visible {
+    uint32_t refusal;
+    uint64_t error;
+};
+
+/*
+ * The squared error of a canvas against a source over the samples that the panel shows, the first `width` of each of the first
+ * `height` rows: the squares of their differences from the source's samples at the same places, summed. What the canvas holds
+ * beyond them does not count.
+ *
+ * The writer's `error` and the errors in `stated` are another figure, by which the writer chooses: they are taken over whole
+ * macroblocks, against the padded source. This one is what the program `listing` prints. Of a plane that was written whole it is
+ * never above the writer's, and where width and height are multiples of 16 it equals that.
+ *
+ * It may be asked of any source and any canvas of a size: of what the writer left, of what the reader left, also where the plane
+ * ended early, of a reference. Both slices are only read; no byte is changed.
+ *
+ * Refusals: 1 to 4, the lowest that applies.
+ */
+struct cabunlis_visible cabunlis_visible_error(
+    size_t width, size_t height, size_t stride, size_t rows,
+    const uint8_t *source, size_t source_length,
+    const uint8_t *recon, size_t recon_length);
 
 /* What a room call answers: 0 and the bytes, or a refusal and 0. */
 struct cabunlis_room {

@@ -161,15 +161,30 @@ impl Answer {
         out
     }
 
-    /// Document 01's listing.
-    pub fn listing(&self, columns: usize) -> String {
+    /// Document 01's listing, with the errors over visible samples that
+    /// document 02, §1, asks for.
+    pub fn listing(&self, job: &Job) -> String {
         let mut out = String::new();
+        let mut total = 0;
         for (index, block) in self.blocks.iter().enumerate() {
-            let (row, column) = (index / columns, index % columns);
+            let (row, column) = (index / job.columns(), index % job.columns());
             let mode = MODES[usize::from(block.mode)];
-            out += &format!("{row},{column},{mode},{},{}\n", block.bits, block.error);
+            let error = self.visible_error(job, row, column);
+            total += error;
+            out += &format!("{row},{column},{mode},{},{error}\n", block.bits);
         }
-        let error: u64 = self.blocks.iter().map(|block| u64::from(block.error)).sum();
-        out + &format!("total,{},{error}\n", self.bit_count)
+        out + &format!("total,{},{total}\n", self.bit_count)
+    }
+
+    /// A macroblock's squared error over the samples inside the picture.
+    fn visible_error(&self, job: &Job, row: usize, column: usize) -> u64 {
+        let mut sum = 0;
+        for y in (row * 16..row * 16 + 16).filter(|&y| y < job.height) {
+            for x in (column * 16..column * 16 + 16).filter(|&x| x < job.width) {
+                let shown = self.reconstruction[y * job.stride() + x];
+                sum += u64::from(job.source[y * job.width + x].abs_diff(shown)).pow(2);
+            }
+        }
+        sum
     }
 }

@@ -81,7 +81,7 @@ fn plane(lambda: u64) -> String {
         reference: vec![0; 256],
     };
     let answer = answer(&job);
-    let listing = answer.listing(1).trim_end().replace('\n', " ");
+    let listing = answer.listing(&job).trim_end().replace('\n', " ");
     format!(
         "{}; {} bits; {listing}",
         hex(&answer.bits),

@@ -20,7 +20,7 @@ pub fn run(folder: &Path) -> Result<(), String> {
     write(&folder.join("out.recon"), &answer.reconstruction)?;
     write(&folder.join("out.mvx"), &answer.x)?;
     write(&folder.join("out.mvy"), &answer.y)?;
-    let listing = answer.listing(job.columns());
+    let listing = answer.listing(&job);
     write(&folder.join("out.txt"), listing.as_bytes())
 }
 

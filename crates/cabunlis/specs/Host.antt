@@ -1,4 +1,4 @@
--- What the C host's calls answer, and every byte that they leave (document 01, "Refused for the state met": a C program calls the writer and reader with numbers and byte slices).
+-- What the C host's calls answer, and every byte that they leave (document 01, "Refused for the state met": a C program calls the writer and reader with numbers and byte slices; document 02, §1).
 use Prim.Native.Nat.{ℕ}
 use mathlib.Core.List.{List}
 use mathlib.Core.Path.{_≡_}
@@ -10,6 +10,8 @@ use Rattle.plane.specs.Refusals.{midPlane}
 use Rattle.plane.specs.Calls.{PlaneAnswer, writeAnswer, PlaneWritten, readPlaneAnswer, PlaneRead}
 use Rattle.plane_enc.specs.Stated.{PlaneStated}
 use Rattle.plane_room.specs.declared.Room.{Room}
+use Rattle.visible_error.specs.declared.VisibleError.{VisibleError}
+use Rattle.cabunlis.specs.declared.errors.HostVisible.{HostVisible}
 use Rattle.cabunlis.specs.declared.planes.HostAnswer.{HostAnswer}
 use Rattle.cabunlis.specs.declared.rooms.HostRoom.{HostRoom}
 
@@ -36,3 +38,7 @@ pub record HostRead (g : Given) (bytes : List ℕ) (start : ℕ) (s : Slices) (r
 -- a room as a C struct stands for it
 abbrev pub roomOf : HostRoom → Room
 roomOf r = record { refused = r .refusal; bytes = r .bytes }
+
+-- an error over what the panel shows, as a C struct
+abbrev pub hostVisible : VisibleError → HostVisible
+hostVisible v = record { refusal = v .refused; error = v .error }

@@ -61,7 +61,7 @@ module _ (g : Given) (t : Task) (ok : Accepted g t) (out : List ℕ) (start : �
   erring k = refl
 
   -- ---- the slices
-  sized-at : (k : ℕ) → Sized g (S k .slices)
+  pub sized-at : (k : ℕ) → Sized g (S k .slices)
   unfolding after written
   sized-at zero = sized
   sized-at (suc k) = laid-sized g (ok .wide) k (W k) (S k .slices) (sized-at k)
@@ -212,7 +212,7 @@ module _ (g : Given) (t : Task) (ok : Accepted g t) (out : List ℕ) (start : �
       pub never-above : E .error + t .settings .lambda * E .bits ≤ sse (paddedSource (g .width) (g .height) (t .source)) (g .reference .samples) + t .settings .lambda * (skipLength * count g)
       unfolding targetOf referenceBlock
       never-above =
-          rw (sse-blocks 16 (cols g) (rows g) (omega arith) (ok .wide) (paddedSource (g .width) (g .height) (t .source)) (g .reference .samples) (padded-size (g .width) (g .height) (t .source)) (ok .reference-size))
+          rw (sse-blocks 16 (cols g) (omega arith) (ok .wide) (paddedSource (g .width) (g .height) (t .source)) (g .reference .samples) (rows g) (padded-size (g .width) (g .height) (t .source)) (ok .reference-size))
           at (below-skipping (count g) (le-refl (count g)))
 
 -- the claim holds of every plane

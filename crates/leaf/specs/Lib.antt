@@ -1,5 +1,6 @@
 -- The definitions that the contracts of this crate cite; the laws that callers cite stand in the files named `..Laws`.
 pub mod Leaf
+pub mod DistanceLaws
 pub mod LeafBits
 pub mod LeafBitsLaws
 pub mod LeafLaws

@@ -248,6 +248,59 @@ fn book_cases(file: &mut [u8], n: usize, codebook: &[u8], source: &[u8], referen
     );
 }
 
+// Planes of which a part of the last macroblocks lies beyond the picture, all samples 100 over a reference of 0. At the largest lambda every macroblock is skipped,
+// so its error is 10,000 for each sample that it shows.
+fn cut_planes(book: &[u8], codebook: &[u8], source: &[u8], reference: &[u8]) {
+    show(
+        b"1 by 1",
+        book,
+        codebook,
+        part(source, 0, 1),
+        part(reference, 0, 256),
+        b"1,1,18446744073709551615,8,1\n",
+    );
+    show(
+        b"17 by 16",
+        book,
+        codebook,
+        part(source, 0, 272),
+        part(reference, 0, 512),
+        b"17,16,18446744073709551615,8,1\n",
+    );
+    show(
+        b"16 by 17",
+        book,
+        codebook,
+        part(source, 0, 272),
+        part(reference, 0, 512),
+        b"16,17,18446744073709551615,8,1\n",
+    );
+    show(
+        b"15 by 1",
+        book,
+        codebook,
+        part(source, 0, 15),
+        part(reference, 0, 256),
+        b"15,1,18446744073709551615,8,1\n",
+    );
+    show(
+        b"176 by 143",
+        book,
+        codebook,
+        part(source, 0, 25168),
+        reference,
+        b"176,143,18446744073709551615,8,1\n",
+    );
+    show(
+        b"175 by 144",
+        book,
+        codebook,
+        part(source, 0, 25200),
+        reference,
+        b"175,144,18446744073709551615,8,1\n",
+    );
+}
+
 fn put_codebook(codebook: &mut [u8]) {
     let mut house = [0u8; 23040];
     house::fill_house_codebook(&mut house);
@@ -264,6 +317,19 @@ fn run(file: &mut [u8], codebook: &[u8], source: &[u8], reference: &[u8]) {
     book_cases(file, n, c, s, r);
 }
 
+// The planes that are cut, under the house book.
+fn run_cut(file: &mut [u8], codebook: &[u8]) {
+    let n = put_house(file);
+    let source = [100u8; 25200];
+    let reference = [0u8; 25344];
+    cut_planes(
+        part(file, 0, n),
+        part(codebook, 0, 23040),
+        &source,
+        &reference,
+    );
+}
+
 fn main() {
     let mut file = [0u8; 24576];
     let mut codebook = [0u8; 23041];
@@ -271,4 +337,5 @@ fn main() {
     let reference = [0u8; 257];
     put_codebook(&mut codebook);
     run(&mut file, &codebook, &source, &reference);
+    run_cut(&mut file, &codebook);
 }

@@ -12,6 +12,7 @@ use borrow.Author.Tests.{le-leb}
 use Rattle.bits.specs.Basics.{pick}
 use Rattle.text.specs.Text.{ascii, comma, lineFeed, digitsBefore, decimal, joined, lineOf}
 use Rattle.text.specs.WritingForms.{putText, TextPut}
+use Rattle.visible_error.specs.Visible.{ShownPlane}
 use Rattle.listing_text.specs.LineForms.{ListedPut, nameAt, lineText, listingLineAt, linesFrom}
 use Rattle.listing_text.specs.Listing.{totalLine, refusedText}
 
@@ -130,13 +131,13 @@ put-refusal bytes n a r s after room p q =
 
 -- ---- the lines of all macroblocks
 -- before the first, and one more
-pub no-lines : (cols : ℕ) (stated bytes : List ℕ) → ListedPut (94 * 0) bytes 0 (linesFrom cols stated 0) 0 bytes
+pub no-lines : (s : ShownPlane) (stated bytes : List ℕ) → ListedPut (94 * 0) bytes 0 (linesFrom s stated 0) 0 bytes
 unfolding linesFrom putText
-no-lines cols stated bytes = record { next = refl; short = omega arith; bytes-after = refl }
+no-lines s stated bytes = record { next = refl; short = omega arith; bytes-after = refl }
 
-pub more-lines : (cols : ℕ) (stated bytes : List ℕ) (k at r : ℕ) (mid after : List ℕ) → 94 * k ≤ length bytes → ListedPut (94 * k) bytes 0 (linesFrom cols stated k) at mid
-    → ListedPut 94 mid at (listingLineAt cols stated k) r after → ListedPut (94 * (k + 1)) bytes 0 (linesFrom cols stated (k + 1)) r after
+pub more-lines : (s : ShownPlane) (stated bytes : List ℕ) (k at r : ℕ) (mid after : List ℕ) → 94 * k ≤ length bytes → ListedPut (94 * k) bytes 0 (linesFrom s stated k) at mid
+    → ListedPut 94 mid at (listingLineAt s stated k) r after → ListedPut (94 * (k + 1)) bytes 0 (linesFrom s stated (k + 1)) r after
 unfolding linesFrom
-more-lines cols stated bytes k at r mid after room p q =
+more-lines s stated bytes k at r mid after room p q =
     let e : 94 * (k + 1) ≡ 94 * k + 94 = omega arith in
     rw (e, add-one k) (put-two (94 * k) bytes 0 _ at mid p (omega arith) 94 _ r after q)

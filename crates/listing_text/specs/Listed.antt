@@ -1,5 +1,5 @@
 -- The listing as a call: the room that it needs, its parts as they are computed, and what it leaves (document 01, "Refused for the state met", the listing program).
-use Prim.Native.Nat.{ℕ, _*_, _≤_, _<_}
+use Prim.Native.Nat.{ℕ, _*_, _≤_}
 use mathlib.Core.Path.{_≡_}
 use mathlib.Core.List.{List, _++_}
 use lib.Dec.{eqb, leb}
@@ -10,9 +10,12 @@ use Rattle.canvas.specs.Canvas.{padded16}
 use Rattle.canvas.specs.declared.svq1_plane.Svq1PlaneCanvas.{Svq1PlaneCanvas}
 use Rattle.macroblock.specs.Macroblock.{Given}
 use Rattle.macroblock.specs.Choice.{Task}
+use Rattle.macroblock.specs.Slices.{Lent, lentBy}
 use Rattle.plane_enc.specs.declared.svq1_enc_inter.WriteEnd.{WriteEnd}
 use Rattle.plane.specs.Refusals.{writeRefusal}
 use Rattle.listing_job.specs.Job.{mostWidth, mostHeight}
+use Rattle.visible_error.specs.Visible.{ShownPlane, visibleTotal}
+use Rattle.visible_error.specs.VisibleNeeds.{shownBlocks, Showable}
 use Rattle.listing_text.specs.Listing.{Files, outputBytes, noSlices, totalLine, refusedText, listing}
 use Rattle.listing_text.specs.LineForms.{linesFrom}
 
@@ -60,13 +63,19 @@ pub record Fresh (out recon vx vy stated : List ℕ) : Type 0 where
   pub vectors-y : vy ≡ replicate (4 * mostBlocks) 0
   pub numbers : length stated ≡ 3 * mostBlocks
 
--- a plane written as far as r says, with what was stated of its macroblocks
-pub record ListedEnd (cols : ℕ) (stated : List ℕ) (r : WriteEnd) : Type 0 where
-  pub wide : 0 < cols
-  pub few : r .done ≤ mostBlocks
+-- the part of them that a plane needs, empty
+pub record EmptyFor (g : Given) (l : Lent) (stated : List ℕ) : Type 0 where
+  pub empty : l ≡ lentBy (replicate outputBytes 0) (noSlices g)
+  pub numbers : length stated ≡ 3 * mostBlocks
+
+-- a plane written as far as r says: what it shows, and what was stated of its macroblocks
+pub record ListedEnd (s : ShownPlane) (stated : List ℕ) (r : WriteEnd) : Type 0 where
+  pub fits : Showable s
+  pub done : r .done ≤ shownBlocks s
+  pub few : shownBlocks s ≤ mostBlocks
   pub numbers : length stated ≡ 3 * mostBlocks
 
 -- its lines and its total, or its refusal
-unfoldable pub endText : ℕ → List ℕ → WriteEnd → List ℕ
-endText cols stated r =
-    pick (eqb (r .refused) 0) (linesFrom cols stated (r .done) ++ totalLine (r .bits) (r .error)) (refusedText (r .refused))
+unfoldable pub endText : ShownPlane → List ℕ → WriteEnd → List ℕ
+endText s stated r =
+    pick (eqb (r .refused) 0) (linesFrom s stated (r .done) ++ totalLine (r .bits) (visibleTotal s)) (refusedText (r .refused))

@@ -14,7 +14,7 @@ use Rattle.bits.specs.Basics.{pick}
 use Rattle.bits.specs.BasicsLaws.{or-next}
 use Rattle.bits.specs.Bits.{bitsOf}
 use Rattle.canvas.specs.Canvas.{sizeRefusal, canvasRefusal}
-use Rattle.canvas.specs.CanvasLaws.{plane-passes}
+use Rattle.canvas.specs.CanvasLaws.{Fitting, plane-passes}
 use Rattle.macroblock.specs.declared.svq1_enc_inter.Svq1MbMode.{Svq1MbMode}
 use Rattle.macroblock.specs.declared.svq1_enc_inter.Svq1MbMode.the-variants.{Inter, Inter4Mv, Intra, Skip}
 use Rattle.macroblock.specs.Mode.{modePosition}
@@ -27,14 +27,15 @@ use Rattle.plane.specs.RunLaws.{Stands, run-stands}
 use Rattle.plane.specs.Plane.{count, Writing, stepStated, fits, written, toWrite, writePlane, writingAt}
 use Rattle.plane.specs.Refusals.{writeRefusal}
 use Rattle.plane.specs.RefusalsLaws.{write-accepted}
-use Rattle.plane.specs.Calls.{PlaneAnswer, PlaneWritten, writtenAnswer, writeAnswer}
+use Rattle.plane.specs.Calls.{PlaneAnswer, PlaneWritten, writtenAnswer, writeAnswer, writeSlices}
 use Rattle.plane_enc.specs.WriterNeeds.{writeEndOf}
 use Rattle.plane_enc.specs.Stated.{threeOf, statedTo, statedIn, PlaneStated}
 use Rattle.listing_job.specs.Job.{mostWidth, mostHeight}
-use Rattle.listing_text.specs.Listing.{outputBytes, modeName, noSlices, macroblockLine, linesTo, totalLine, refusedText, textInto, planeText}
+use Rattle.visible_error.specs.Visible.{ShownPlane, visibleError, visibleTotal}
+use Rattle.listing_text.specs.Listing.{outputBytes, modeName, noSlices, planeShowing, listedEnd, listedPlane, macroblockLine, linesTo, totalLine, refusedText, textWith, textInto, planeText}
 use Rattle.listing_text.specs.LineForms.{ListedPut, nameAt, lineText, listingLineAt, linesFrom}
 use Rattle.listing_text.specs.LineFormsLaws.{put-two}
-use Rattle.listing_text.specs.Listed.{listingRoom, mostBlocks, Listable, Fresh, ListedEnd, endText}
+use Rattle.listing_text.specs.Listed.{listingRoom, mostBlocks, Listable, Fresh, EmptyFor, ListedEnd, endText}
 use Rattle.listing_text.specs.FilesLaws.{count-small, area-small}
 
 -- ---- what is stated of the macroblocks gives their lines
@@ -77,7 +78,7 @@ module _ (g : Given) (t : Task) (out : List ℕ) (start : ℕ) (s : Slices) wher
 
 -- the lines of a plane from what is stated of it
 module _ (g : Given) (t : Task) (out held : List ℕ) where
-  stated-line : (n k : ℕ) → 3 * n ≤ length held → k < n → listingLineAt (cols g) (statedIn g t out 0 (noSlices g) held n) k ≡ macroblockLine g t out k
+  stated-line : (n k : ℕ) → 3 * n ≤ length held → k < n → listingLineAt (listedPlane g t out) (statedIn g t out 0 (noSlices g) held n) k ≡ macroblockLine g t out (visibleError (listedPlane g t out)) k
   unfolding macroblockLine lineText
   stated-line n k h l =
       let m = stepStated g t k (writingAt g t out 0 (noSlices g) k) in
@@ -85,10 +86,9 @@ module _ (g : Given) (t : Task) (out held : List ℕ) where
       let rest : List ℕ = drop (3 * n) held in
       let mode : getD (statedTo g t out 0 (noSlices g) n ++ rest) (3 * k) 0 ≡ modePosition (m .mode) = rw z (stated-at g t out 0 (noSlices g) n k 0 rest l (omega arith)) in
       let bits : getD (statedTo g t out 0 (noSlices g) n ++ rest) (3 * k + 1) 0 ≡ m .bits = stated-at g t out 0 (noSlices g) n k 1 rest l (omega arith) in
-      let error : getD (statedTo g t out 0 (noSlices g) n ++ rest) (3 * k + 2) 0 ≡ m .error = stated-at g t out 0 (noSlices g) n k 2 rest l (omega arith) in
-      rw (stated-in g t out 0 (noSlices g) held n h, mode, bits, error, name-is (m .mode))
+      rw (stated-in g t out 0 (noSlices g) held n h, mode, bits, name-is (m .mode))
 
-  stated-lines : (n k : ℕ) → 3 * n ≤ length held → k ≤ n → linesFrom (cols g) (statedIn g t out 0 (noSlices g) held n) k ≡ linesTo g t out k
+  stated-lines : (n k : ℕ) → 3 * n ≤ length held → k ≤ n → linesFrom (listedPlane g t out) (statedIn g t out 0 (noSlices g) held n) k ≡ linesTo g t out (visibleError (listedPlane g t out)) k
   unfolding linesFrom linesTo
   stated-lines n zero h l = refl
   stated-lines n (suc k) h l = rw (stated-lines n k h (omega arith), stated-line n k h l)
@@ -96,7 +96,10 @@ module _ (g : Given) (t : Task) (out held : List ℕ) where
 -- ---- a plane's end gives its text
 module _ (g : Given) (t : Task) (out : List ℕ) (passes : writeRefusal g t out 0 (noSlices g) ≡ 0) where
   abbrev end : End Writing
-  end = writePlane g t (bitsOf out) 0 (noSlices g)
+  end = listedEnd g t (bitsOf out)
+
+  abbrev shown : ShownPlane
+  shown = listedPlane g t (bitsOf out)
 
   stands : Stands 22 (fits g t) (written g t) (toWrite (bitsOf out) 0 (noSlices g)) (0 + count g) end
   unfolding writePlane after
@@ -124,27 +127,37 @@ module _ (g : Given) (t : Task) (out : List ℕ) (passes : writeRefusal g t out 
         go (yes q) = absurd (omega (arith, stands .early q .0, ended-refused))
         go (no q) = omega (arith, ended-done, stands .at-most)
 
+    -- what is left of the reconstruction is the one that is listed
+    recon-left : left .slices .recon ≡ end .state .slices .recon
+    unfolding writeSlices
+    recon-left =
+        let e : writeSlices g t out 0 (noSlices g) ≡ end .state .slices = rw (eq-eqb (writeRefusal g t out 0 (noSlices g)) 0 passes) in
+        ap (λ (s : Slices). s .recon) (p .left-slices ∙ e)
+
+    plane-left : planeShowing g t (left .slices .recon) ≡ shown
+    plane-left = ap (planeShowing g t) recon-left
+
     module _ (held : List ℕ) (room : 3 * count g ≤ length held) where
-      pub end-text : endText (cols g) (statedIn g t (bitsOf out) 0 (noSlices g) held (r .done)) r ≡ textInto g t (bitsOf out)
-      unfolding endText textInto
+      pub end-text : endText shown (statedIn g t (bitsOf out) 0 (noSlices g) held (r .done)) r ≡ textInto g t (bitsOf out)
+      unfolding endText textInto textWith
       end-text = rw (← ended-refused) (go (eqb (r .refused) 0) refl)
         where
           go : (b : Bool) → eqb (r .refused) 0 ≡ b
-              → pick b (linesFrom (cols g) (statedIn g t (bitsOf out) 0 (noSlices g) held (r .done)) (r .done) ++ totalLine (r .bits) (r .error)) (refusedText (r .refused))
-              ≡ pick b (linesTo g t (bitsOf out) (count g) ++ totalLine (end .state .bits) (end .state .error)) (refusedText (r .refused))
+              → pick b (linesFrom shown (statedIn g t (bitsOf out) 0 (noSlices g) held (r .done)) (r .done) ++ totalLine (r .bits) (visibleTotal shown)) (refusedText (r .refused))
+              ≡ pick b (linesTo g t (bitsOf out) (visibleError shown) (count g) ++ totalLine (end .state .bits) (visibleTotal shown)) (refusedText (r .refused))
           go true q =
               let all = done-all (eqb-true (r .refused) 0 q) in
-              rw (all, stated-lines g t (bitsOf out) held (count g) (count g) room (le-refl (count g)), ← ap (λ (a : PlaneAnswer). a .bits) answered, ← ap (λ (a : PlaneAnswer). a .error) answered)
+              rw (all, stated-lines g t (bitsOf out) held (count g) (count g) room (le-refl (count g)), ← ap (λ (a : PlaneAnswer). a .bits) answered)
           go false q = refl
 
 -- ---- the text put into a slice
-module _ (cols : ℕ) (stated : List ℕ) (e : WriteEnd) (bytes : List ℕ) (room : listingRoom ≤ length bytes) (r : ℕ) (after : List ℕ) where
-  pub put-refused-end : (e .refused ≡ 0 → ⊥) → ListedPut 29 bytes 0 (refusedText (e .refused)) r after → ListedPut listingRoom bytes 0 (endText cols stated e) r after
+module _ (s : ShownPlane) (stated : List ℕ) (e : WriteEnd) (bytes : List ℕ) (room : listingRoom ≤ length bytes) (r : ℕ) (after : List ℕ) where
+  pub put-refused-end : (e .refused ≡ 0 → ⊥) → ListedPut 29 bytes 0 (refusedText (e .refused)) r after → ListedPut listingRoom bytes 0 (endText s stated e) r after
   unfolding endText
   put-refused-end h p = rw (ne-eqb (e .refused) 0 h) (record { next = p .next; short = omega (arith, p .short); bytes-after = p .bytes-after })
 
-  pub put-listed-end : (at : ℕ) (mid : List ℕ) → e .refused ≡ 0 → e .done ≤ mostBlocks → ListedPut (94 * e .done) bytes 0 (linesFrom cols stated (e .done)) at mid
-      → ListedPut 48 mid at (totalLine (e .bits) (e .error)) r after → ListedPut listingRoom bytes 0 (endText cols stated e) r after
+  pub put-listed-end : (at : ℕ) (mid : List ℕ) → e .refused ≡ 0 → e .done ≤ mostBlocks → ListedPut (94 * e .done) bytes 0 (linesFrom s stated (e .done)) at mid
+      → ListedPut 48 mid at (totalLine (e .bits) (visibleTotal s)) r after → ListedPut listingRoom bytes 0 (endText s stated e) r after
   unfolding endText
   put-listed-end at mid h few p q =
       let both = put-two (94 * e .done) bytes 0 _ at mid p (omega arith) 48 _ r after q in
@@ -164,10 +177,14 @@ zeros-taken (suc n) zero h = absurd (omega arith)
 zeros-taken (suc n) (suc m) h = ap (λ (l : List ℕ). 0 ∷ l) (zeros-taken n m (omega arith))
 
 module _ (g : Given) (t : Task) (ok : Listable g t) where
+  fitting : Fitting (g .width) (g .height) (g .reference)
+  fitting =
+      let p = write-accepted g (noSlices g) _ 0 (length (t .source)) (ok .passes) .0 in
+      plane-passes (g .width) (g .height) (g .reference) (or-next (sizeRefusal (g .width) (g .height)) (canvasRefusal (g .width) (g .height) (g .reference)) (p .size) ∙ p .canvas)
+
   pub sizes : Sizes g
   sizes =
-      let p = write-accepted g (noSlices g) _ 0 (length (t .source)) (ok .passes) .0 in
-      let fit = plane-passes (g .width) (g .height) (g .reference) (or-next (sizeRefusal (g .width) (g .height)) (canvasRefusal (g .width) (g .height) (g .reference)) (p .size) ∙ p .canvas) in
+      let fit = fitting in
       let wide : g .reference .stride / 16 ≡ cols g = omega (arith, fit .stride) in
       let high : g .reference .rows / 16 ≡ rows g = omega (arith, fit .rows) in
       record {
@@ -203,20 +220,34 @@ module _ (g : Given) (t : Task) (ok : Listable g t) where
         let y : take (4 * count g) vy ≡ replicate (4 * count g) 0 = ap (take (4 * count g)) (f .vectors-y) ∙ zeros-taken _ _ few in
         rw (sizes .blocks-are, samples, x, y)
 
-    module _ (r : WriteEnd) (left : Lent) (stated : List ℕ) (p : PlaneStated g t 0 (lentBy out lent) held (writeEndOf r) left stated) where
-      own : PlaneStated g t 0 (lentBy (replicate outputBytes 0) (noSlices g)) held (writeEndOf r) left stated
-      own = rw (← f .output, ← lent-are) p
+    pub lent-empty : EmptyFor g (lentBy out lent) held
+    lent-empty = record { empty = rw (f .output, lent-are); numbers = f .numbers }
 
-      room : 3 * count g ≤ length held
-      room = omega (arith, f .numbers, sizes .few-blocks)
+  -- ---- a plane written into empty slices
+  module _ (l : Lent) (held : List ℕ) (f : EmptyFor g l held) (r : WriteEnd) (left : Lent) (stated : List ℕ) (p : PlaneStated g t 0 l held (writeEndOf r) left stated) where
+    own : PlaneStated g t 0 (lentBy (replicate outputBytes 0) (noSlices g)) held (writeEndOf r) left stated
+    own = rw (f .empty) at p
 
-      pub plane-ended : length stated ≡ length held → ListedEnd (g .reference .stride / 16) stated r
-      plane-ended e = record {
-        wide = omega (arith, sizes .cols-are, sizes .some-cols);
-        few = omega (arith, done-most g t (replicate outputBytes 0) (ok .passes) r left (own .written), sizes .few-blocks);
-        numbers = e ∙ f .numbers;
-      }
+    room : 3 * count g ≤ length held
+    room = omega (arith, f .numbers, sizes .few-blocks)
 
-      pub plane-text : endText (g .reference .stride / 16) stated r ≡ planeText g t
-      unfolding planeText
-      plane-text = rw (sizes .cols-are, own .stated) (end-text g t (replicate outputBytes 0) (ok .passes) r left (own .written) held room)
+    abbrev showing : ShownPlane
+    showing = planeShowing g t (left .slices .recon)
+
+    pub plane-ended : length (left .slices .recon) ≡ length (l .slices .recon) → length stated ≡ length held → ListedEnd showing stated r
+    plane-ended e n =
+        let w = write-accepted g (noSlices g) _ 0 (length (t .source)) (ok .passes) in
+        let z = fitting in
+        record {
+          fits = record {
+            fits = record { width = z .width; height = z .height; stride = z .stride; rows = z .rows; samples = e ∙ ap (λ (u : Lent). length (u .slices .recon)) (f .empty) ∙ length-replicate {A = ℕ} _ 0 };
+            samples = w .1;
+          };
+          done = done-most g t (replicate outputBytes 0) (ok .passes) r left (own .written);
+          few = sizes .few-blocks;
+          numbers = n ∙ f .numbers;
+        }
+
+    pub plane-text : endText showing stated r ≡ planeText g t
+    unfolding planeText
+    plane-text = rw (plane-left g t (replicate outputBytes 0) (ok .passes) r left (own .written), own .stated) (end-text g t (replicate outputBytes 0) (ok .passes) r left (own .written) held room)

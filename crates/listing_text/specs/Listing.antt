@@ -1,4 +1,4 @@
--- What the listing program prints (document 01, "Refused for the state met", the listing program; "Bench cards").
+-- What the listing program prints (document 01, "Refused for the state met", the listing program; "Bench cards"; document 02, §1).
 use Prim.Native.Nat.{ℕ, zero, suc, _*_, _/_, _%_}
 use mathlib.Core.List.{List, [], _∷_, _++_}
 use mathlib.Core.Option.{Option, none, some}
@@ -16,7 +16,9 @@ use Rattle.macroblock.specs.Macroblock.{Given, cols}
 use Rattle.macroblock.specs.Limit.{unlimited}
 use Rattle.macroblock.specs.Choice.{Task}
 use Rattle.macroblock.specs.Slices.{Slices}
+use Rattle.plane.specs.Run.{End}
 use Rattle.plane.specs.Plane.{count, Writing, stepStated, writePlane, writingAt}
+use Rattle.visible_error.specs.Visible.{ShownPlane, visibleError, visibleTotal}
 use Rattle.listing_job.specs.Job.{Job, jobIn}
 
 -- the five files; one that cannot be opened reads as empty
@@ -59,6 +61,15 @@ noSlices g = record {
   vy = replicate (4 * count g) 0;
 }
 
+-- the plane's source beside a reconstruction
+abbrev pub planeShowing : Given → Task → List ℕ → ShownPlane
+planeShowing g t recon = record {
+  width = g .width;
+  height = g .height;
+  source = t .source;
+  recon = record { samples = recon; stride = g .reference .stride; rows = g .reference .rows };
+}
+
 -- ---- text
 -- a macroblock's mode
 abbrev pub modeName : Svq1MbMode → List ℕ
@@ -80,24 +91,32 @@ module _ (g : Given) (t : Task) (out : List ℕ) where
   abbrev pub listedState : ℕ → Writing
   listedState k = writingAt g t out 0 (noSlices g) k
 
+  abbrev pub listedEnd : End Writing
+  listedEnd = writePlane g t out 0 (noSlices g)
+
+  -- what the panel shows at the end
+  abbrev pub listedPlane : ShownPlane
+  listedPlane = planeShowing g t (listedEnd .state .slices .recon)
+
   -- row, column, mode, bits, error of macroblock k; rows and columns count macroblocks
-  unfoldable pub macroblockLine : ℕ → List ℕ
-  macroblockLine k =
+  unfoldable pub macroblockLine : (ℕ → ℕ) → ℕ → List ℕ
+  macroblockLine error k =
       let m = stepStated g t k (listedState k) in
-      lineOf (
-      decimal (k / cols g) ∷ decimal (k % cols g) ∷ modeName (m .mode) ∷ decimal (m .bits)
-      ∷ decimal (m .error) ∷ [])
+      lineOf (decimal (k / cols g) ∷ decimal (k % cols g) ∷ modeName (m .mode) ∷ decimal (m .bits) ∷ decimal (error k) ∷ [])
 
   -- the lines of the first n macroblocks
-  unfoldable pub linesTo : ℕ → List ℕ
-  linesTo zero = []
-  linesTo (suc n) = linesTo n ++ macroblockLine n
+  unfoldable pub linesTo : (ℕ → ℕ) → ℕ → List ℕ
+  linesTo error zero = []
+  linesTo error (suc n) = linesTo error n ++ macroblockLine error n
 
-  -- the macroblocks and the total; an early end would print its refusal
+  -- the macroblocks and the total, with any errors and any total of them; an early end would print its refusal
+  unfoldable pub textWith : (ℕ → ℕ) → ℕ → List ℕ
+  textWith error total =
+      pick (eqb (listedEnd .refusal) 0) (linesTo error (count g) ++ totalLine (listedEnd .state .bits) total) (refusedText (listedEnd .refusal))
+
+  -- both error fields are taken over visible samples (document 02, §1)
   unfoldable pub textInto : List ℕ
-  textInto =
-      let e = writePlane g t out 0 (noSlices g) in
-      pick (eqb (e .refusal) 0) (linesTo (count g) ++ totalLine (e .state .bits) (e .state .error)) (refusedText (e .refusal))
+  textInto = textWith (visibleError listedPlane) (visibleTotal listedPlane)
 
 -- the program's output has 65,536 bytes; a plane of its sizes always fits (99 macroblocks of at most 3,135 bits)
 unfoldable pub planeText : Given → Task → List ℕ

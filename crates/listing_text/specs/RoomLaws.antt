@@ -17,10 +17,10 @@ use Rattle.macroblock.specs.declared.svq1_enc_inter.Svq1MbMode.the-variants.{In
 use Rattle.macroblock.specs.Macroblock.{Given}
 use Rattle.macroblock.specs.Choice.{Task}
 use Rattle.plane.specs.Run.{End}
-use Rattle.plane.specs.Plane.{count, Writing, stepStated, writePlane}
+use Rattle.plane.specs.Plane.{count, Writing, stepStated}
 use Rattle.listing_job.specs.Job.{Job, mostWidth, mostHeight, jobIn}
 use Rattle.listing_job.specs.JobLaws.{job-small}
-use Rattle.listing_text.specs.Listing.{Files, givenOf, taskOf, filesRefusal, noSlices, modeName, listedState, macroblockLine, linesTo, totalLine, refusedText, textInto, planeText, jobText, listing}
+use Rattle.listing_text.specs.Listing.{Files, givenOf, taskOf, filesRefusal, modeName, listedState, listedEnd, macroblockLine, linesTo, totalLine, refusedText, textWith, textInto, planeText, jobText, listing}
 use Rattle.listing_text.specs.LineForms.{ListedPut}
 use Rattle.listing_text.specs.LineFormsLaws.{decimal-most}
 use Rattle.listing_text.specs.Listed.{listingRoom, mostBlocks, Listed}
@@ -46,27 +46,32 @@ unfolding lineOf joined
 five-most a b c d e p q r s t = simp length-append (omega arith)
 
 module _ (g : Given) (t : Task) (out : List ℕ) where
-  line-most : (k : ℕ) → length (macroblockLine g t out k) ≤ 94
-  unfolding macroblockLine
-  line-most k =
-      let m = stepStated g t k (listedState g t out k) in
-      five-most _ _ _ _ _ (decimal-most _) (decimal-most _) (name-most (m .mode)) (decimal-most (m .bits)) (decimal-most (m .error))
+  module _ (error : ℕ → ℕ) where
+    line-most : (k : ℕ) → length (macroblockLine g t out error k) ≤ 94
+    unfolding macroblockLine
+    line-most k =
+        let m = stepStated g t k (listedState g t out k) in
+        five-most _ _ _ _ _ (decimal-most _) (decimal-most _) (name-most (m .mode)) (decimal-most (m .bits)) (decimal-most (error k))
 
-  lines-most : (n : ℕ) → length (linesTo g t out n) ≤ 94 * n
-  unfolding linesTo
-  lines-most zero = omega arith
-  lines-most (suc n) = omega (arith, length-append (linesTo g t out n) (macroblockLine g t out n), lines-most n, line-most n)
+    lines-most : (n : ℕ) → length (linesTo g t out error n) ≤ 94 * n
+    unfolding linesTo
+    lines-most zero = omega arith
+    lines-most (suc n) = omega (arith, length-append (linesTo g t out error n) (macroblockLine g t out error n), lines-most n, line-most n)
+
+    with-most : (total : ℕ) → count g ≤ mostBlocks → length (textWith g t out error total) ≤ listingRoom
+    unfolding textWith
+    with-most total h = go (eqb (e .refusal) 0)
+      where
+        e : End Writing
+        e = listedEnd g t out
+
+        go : (b : Bool) → length (pick b (linesTo g t out error (count g) ++ totalLine (e .state .bits) total) (refusedText (e .refusal))) ≤ listingRoom
+        go true = omega (arith, length-append (linesTo g t out error (count g)) (totalLine (e .state .bits) total), lines-most (count g), total-most (e .state .bits) total)
+        go false = omega (arith, refused-most (e .refusal))
 
   text-most : count g ≤ mostBlocks → length (textInto g t out) ≤ listingRoom
   unfolding textInto
-  text-most h = go (eqb (e .refusal) 0)
-    where
-      e : End Writing
-      e = writePlane g t out 0 (noSlices g)
-
-      go : (b : Bool) → length (pick b (linesTo g t out (count g) ++ totalLine (e .state .bits) (e .state .error)) (refusedText (e .refusal))) ≤ listingRoom
-      go true = omega (arith, length-append (linesTo g t out (count g)) (totalLine (e .state .bits) (e .state .error)), lines-most (count g), total-most (e .state .bits) (e .state .error))
-      go false = omega (arith, refused-most (e .refusal))
+  text-most h = with-most _ _ h
 
 plane-most : (g : Given) (t : Task) → count g ≤ mostBlocks → length (planeText g t) ≤ listingRoom
 unfolding planeText

@@ -11,7 +11,9 @@ ghost use Rattle.listing_job.specs.Job.{mostWidth, mostHeight};
 ghost use Rattle.listing_job.specs.JobForms.{jobBy};
 ghost use Rattle.listing_text.specs.LineForms.{ListedPut};
 ghost use Rattle.listing_text.specs.Listing.{filesRefusalBy, planeText, jobText};
-ghost use Rattle.listing_text.specs.Listed.{listingRoom, Listed, filesBy, canvasOf, FilesChecked, Listable, Fresh, ListedEnd, endText};
+ghost use Rattle.listing_text.specs.Listed.{listingRoom, Listed, filesBy, canvasOf, FilesChecked, Listable, Fresh, EmptyFor, ListedEnd, endText};
+ghost use Rattle.macroblock.specs.Slices.{slicesBy, lentBy};
+ghost use Rattle.visible_error.specs.VisibleNeeds.{shownBy};
 use super::inner::lines::put_lines;
 use super::inner::lines::put_refused;
 use super::inner::lines::put_total_line;
@@ -25,6 +27,7 @@ use listing_job::read_job;
 use macroblock::svq1_enc_inter::Settings;
 use plane_enc::svq1_enc_inter::WriteEnd;
 use plane_enc::svq1_enc_inter::encode_inter_plane_stated;
+use visible_error::inner::visible_total;
 
 // The canvas of a plane of the program's sizes.
 fn canvas_of(width: usize, height: usize) -> Svq1PlaneCanvas
@@ -62,18 +65,60 @@ fn files_refusal(
 }
 
 // What is printed of a plane that was written: its macroblocks and the total, or where it ended early its refusal.
-fn put_plane(text: &mut [u8], cols: usize, stated: &[u32], end: WriteEnd) -> usize
-    requires { ⌜ ListedEnd cols (now stated) end × (listingRoom ≤ length (now text)) ⌝ }
-    ensures { λ r. ⌜ ListedPut listingRoom (now (text .entry)) 0 (endText cols (now (stated .entry)) end) r (now (text .exit)) ⌝ }
+fn put_plane(
+    text: &mut [u8],
+    canvas: Svq1PlaneCanvas,
+    source: &[u8],
+    recon: &[u8],
+    stated: &[u32],
+    end: WriteEnd,
+) -> usize
+    requires { ⌜ ListedEnd (shownBy canvas (now source) (now recon)) (now stated) end × (listingRoom ≤ length (now text)) ⌝ }
+    ensures { λ r. ⌜ ListedPut listingRoom (now (text .entry)) 0 (endText (shownBy canvas (now (source .entry)) (now (recon .entry))) (now (stated .entry)) end) r (now (text .exit)) ⌝ }
 {
     if end.refused != 0 {
         return put_refused(text, end.refused);
     }
-    let at = put_lines(text, cols, stated, end.done);
-    put_total_line(text, at, end.bits, end.error)
+    let at = put_lines(text, canvas, source, recon, stated, end.done);
+    put_total_line(text, at, end.bits, visible_total(canvas, source, recon))
 }
 
-// A plane that nothing refuses, written into slices of the program's own, of which it takes as much as it needs.
+// A plane that nothing refuses, written into empty slices of its size, and put.
+fn list_written(
+    canvas: Svq1PlaneCanvas,
+    source: &[u8],
+    reference: &[u8],
+    book: &[u8],
+    codebook: &[u8],
+    settings: Settings,
+    out: &mut [u8],
+    recon: &mut [u8],
+    vx: &mut [u8],
+    vy: &mut [u8],
+    stated: &mut [u32],
+    text: &mut [u8],
+) -> usize
+    requires { ⌜ Listable (givenBy canvas (now reference) (now book) (now codebook)) (taskBy (now source) settings) × EmptyFor (givenBy canvas (now reference) (now book) (now codebook)) (lentBy (now out) (slicesBy (now recon) (now vx) (now vy))) (now stated) × (listingRoom ≤ length (now text)) ⌝ }
+    ensures { λ r. ⌜ ListedPut listingRoom (now (text .entry)) 0 (planeText (givenBy canvas (now (reference .entry)) (now (book .entry)) (now (codebook .entry))) (taskBy (now (source .entry)) settings)) r (now (text .exit)) ⌝ }
+{
+    let end = encode_inter_plane_stated(
+        canvas,
+        source,
+        reference,
+        book,
+        codebook,
+        settings,
+        out,
+        0,
+        recon,
+        vx,
+        vy,
+        stated,
+    );
+    put_plane(text, canvas, source, recon, stated, end)
+}
+
+// The same in slices of the program's own, of which it takes as much as it needs.
 fn list_into(
     canvas: Svq1PlaneCanvas,
     source: &[u8],
@@ -91,10 +136,9 @@ fn list_into(
     requires { ⌜ Listable (givenBy canvas (now reference) (now book) (now codebook)) (taskBy (now source) settings) × Fresh (now out) (now recon) (now vx) (now vy) (now stated) × (listingRoom ≤ length (now text)) ⌝ }
     ensures { λ r. ⌜ ListedPut listingRoom (now (text .entry)) 0 (planeText (givenBy canvas (now (reference .entry)) (now (book .entry)) (now (codebook .entry))) (taskBy (now (source .entry)) settings)) r (now (text .exit)) ⌝ }
 {
-    let cols = canvas.stride / 16;
     let samples = canvas.stride * canvas.rows;
-    let vectors = 4 * (canvas.rows / 16 * cols);
-    let end = encode_inter_plane_stated(
+    let vectors = 4 * (canvas.rows / 16 * (canvas.stride / 16));
+    list_written(
         canvas,
         source,
         reference,
@@ -102,13 +146,12 @@ fn list_into(
         codebook,
         settings,
         out,
-        0,
         &mut recon[..samples],
         &mut vx[..vectors],
         &mut vy[..vectors],
         stated,
-    );
-    put_plane(text, cols, stated, end)
+        text,
+    )
 }
 
 // The same with these slices on the stack: the output, the results of the largest plane, and three numbers for each of its 99 macroblocks.

@@ -15,3 +15,4 @@ pub mod ChoiceLaws
 pub mod MacroblockLaws
 pub mod LayingNeeds
 pub mod LimitLaws
+pub mod SourceLaws

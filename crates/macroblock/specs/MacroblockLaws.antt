@@ -29,7 +29,7 @@ use Rattle.mv_cache.specs.Grid.{part}
 use Rattle.compensation.specs.CompensationLaws.{bytes-list, moved-byte, bytes-moved, length-moved}
 use Rattle.motion.specs.Search.{searched}
 use Rattle.motion.specs.SearchLaws.{found}
-use Rattle.tree.specs.RowsLaws.{sse-most}
+use Rattle.leaf.specs.DistanceLaws.{sse-most}
 use Rattle.tree.specs.Plan.{total, prunedCost}
 use Rattle.plan.specs.PlanClaim.{largestLambda, planCost}
 use Rattle.plan.specs.PlanClaimLaws.{Planned, plan-short, plan-long, plan-bytes, plan-cheapest, plan-reads}

@@ -6,15 +6,15 @@ use Prim.Native.Nat.{ℕ, zero, suc, _+_, _-_, _*_, _/_, _%_, _≤_, _<_, min}
 use native.Mathlib.Omega.{arith}
 use native.Mathlib.Nat.{mod-lt, div-lt-iff-lt-mul, zero-add}
 use native.Mathlib.Decide.{decLt, ℕ-discrete}
-use lib.Arith.{digits-div, digits-mod}
 use lib.ListN.{length, getD, set, length-set}
 use lib.Seq.{ext-getD, getD-set-same, getD-set-other}
 use Rattle.bits.specs.BasicsLaws.{length-values, value-at}
 use Rattle.mv_cache.specs.Grid.{rowSet, entryOf, part}
 use Rattle.mv_cache.specs.PutLaws.{row-same}
 use Rattle.compensation.specs.MovedFormsLaws.{place-in}
-use Rattle.canvas.specs.Canvas.{largestSide, blocksAlong, padded16}
+use Rattle.canvas.specs.Canvas.{largestSide, blocksAlong}
 use Rattle.macroblock.specs.Choice.{paddedSource, targetOf}
+use Rattle.macroblock.specs.SourceLaws.{padded-at}
 use Rattle.macroblock_search.specs.TargetForms.{targetSample, Sources, RowsFilled}
 
 -- ---- a row written into a list
@@ -100,16 +100,10 @@ module _ (width height : ℕ) (source : List ℕ) (k : ℕ) (s : Sources width h
 
   -- a sample of the padded source
   sample-is : (j : ℕ) → j < 256 → getD (paddedSource width height source) (entryOf 16 (blocksAlong width) k j) 0 ≡ targetSample width height source k j
-  unfolding paddedSource targetSample
+  unfolding targetSample
   sample-is j h =
-      let row : ℕ = k / blocksAlong width * 16 + j / 16 in
-      let col : ℕ = k % blocksAlong width * 16 + j % 16 in
       let q : k / blocksAlong width < blocksAlong height = div-lt-iff-lt-mul wide .1 (s .number) in
-      let c : col < padded16 width = omega (arith, mod-lt k wide) in
-      let r : row < padded16 height = omega arith in
-      let within : row * padded16 width + col < padded16 width * padded16 height = place-in col row (padded16 width) (padded16 height) c r in
-      value-at (λ p. getD source (min (p / padded16 width) (height - 1) * width + min (p % padded16 width) (width - 1)) 0) (padded16 width * padded16 height) 0 (row * padded16 width + col) 0 within
-      ∙ rw (zero-add (row * padded16 width + col), digits-div row c, digits-mod row c)
+      padded-at width height source (k % blocksAlong width * 16 + j % 16) (k / blocksAlong width * 16 + j / 16) (omega (arith, mod-lt k wide)) (omega arith)
 
   pub filled-all : (i : ℕ) (out : List ℕ) → 16 ≤ i → RowsFilled (targetSample width height source k) (16 * i) out → out ≡ targetOf width height source k
   unfolding targetOf part

@@ -8,16 +8,17 @@ use native.Mathlib.Omega.{arith}
 use lib.Dec.{leb}
 use borrow.Author.Tests.{le-leb}
 use lib.ListN.{length, replicate, length-replicate}
-use Rattle.bits.specs.Basics.{All, every, valuesFrom}
+use Rattle.bits.specs.Basics.{All, sum, every, valuesFrom}
 use Rattle.book.specs.declared.svq1_vlc.Svq1Half.the-variants.{Intra, Inter}
 use Rattle.vectors.specs.Vectors.{zeroMv, median, predicted, codable}
 use Rattle.mv_cache.specs.Neighbours.{Near, neighbourAt, nearOf}
 use Rattle.macroblock.specs.Macroblock.{Given, Motion, still, single, four, Choice, skipped, coded, halfOf, referenceBlock, baseline, shown, vectorBits, motionBits, choiceBits}
 use Rattle.macroblock.specs.Choice.{Task, paddedSource, targetOf, target, singleTried, fourTried, motionsTried, planningFor, tried, fitting, weightOf, beats, bestOf, chosen}
-use Rattle.macroblock.specs.Slices.{near}
+use Rattle.macroblock.specs.Slices.{near, laid}
 use Rattle.tree.specs.TreeBits.{Node, planTree, nodeBits, emit, treeBits, treeShown}
 use Rattle.listing_job.specs.Job.{Job, jobRead, jobIn}
-use Rattle.listing_text.specs.Listing.{noSlices, outputBytes, totalLine, macroblockLine, linesTo, textInto, planeText}
+use Rattle.listing_text.specs.Listing.{noSlices, planeShowing, outputBytes, totalLine, macroblockLine, linesTo, textWith, textInto, planeText}
+use Rattle.visible_error.specs.Visible.{squareAt, visibleError, visibleTotal}
 use Rattle.starred_cards.specs.Cards.{flatGiven, flatTask, plane, firstLine, firstText, largestLine, largestText, Holds, cards}
 use Rattle.starred_cards.specs.Flat.{flat, flatPlanning, meanLeaf, oneLeaf, tree-is, leaf-at-32, leaf-at-largest}
 use Rattle.bits.specs.Bits.{msb, bitsOf, cleared, afterBits, putBits}
@@ -29,7 +30,7 @@ use Rattle.leaf.specs.Leaf.{sse, seeded, staged, samples, leafShown}
 use Rattle.leaf.specs.LeafBits.{stageBits, leafBits}
 use Rattle.codebook.specs.Mean.{rounded, clampMean, meanOf, saturate}
 use Rattle.compensation.specs.Compensation.{sampleAt, halfSample, movedBlock}
-use Rattle.mv_cache.specs.Grid.{part}
+use Rattle.mv_cache.specs.Grid.{owner, placeIn, part, putFrom, putPart}
 use Rattle.motion.specs.Search.{inWindow, allowed, errorOf, consider, fullAt, rowTo, rowsTo, fullSearch, aroundTo, searchBest, searched, searchOk, searchRefusal, searchAnswer}
 use Rattle.compensation.specs.Error.{sad}
 use Rattle.plane.specs.Plane.{written, writePlane}
@@ -110,14 +111,31 @@ weight-at-largest : weightOf (given largest) (task largest) 0 (around largest) s
 unfolding weightOf codesOf msb houseBook houseFrom rank signedRank logUnder vectorBits motionBits choiceBits nodeBits emit treeBits leafBits stageBits shown treeShown rebuilt paintAt paint blockOf gather place placeUnder shownAt leafShown staged samples seeded saturate baseline movedBlock valuesFrom halfSample sampleAt referenceBlock part sse paddedSource targetOf
 weight-at-largest = refl
 
+-- what they leave of the reconstruction, and its visible error
+recon-at-32 : laid (given 32) 0 (coded still tree) (noSlices (given 32)) .recon ≡ flat 256 100
+unfolding laid putPart putFrom owner placeIn shown treeShown rebuilt paintAt paint blockOf gather place placeUnder shownAt leafShown staged samples seeded saturate baseline movedBlock valuesFrom halfSample sampleAt referenceBlock part
+recon-at-32 = refl
+
+recon-at-largest : laid (given largest) 0 skipped (noSlices (given largest)) .recon ≡ flat 256 0
+unfolding laid putPart putFrom owner placeIn shown treeShown rebuilt paintAt paint blockOf gather place placeUnder shownAt leafShown staged samples seeded saturate baseline movedBlock valuesFrom halfSample sampleAt referenceBlock part
+recon-at-largest = refl
+
+errors-at-32 : (visibleError (planeShowing (given 32) (task 32) (flat 256 100)) 0 ≡ 0) × (visibleTotal (planeShowing (given 32) (task 32) (flat 256 100)) ≡ 0)
+unfolding visibleError visibleTotal squareAt sum
+errors-at-32 = (refl, refl)
+
+errors-at-largest : (visibleError (planeShowing (given largest) (task largest) (flat 256 0)) 0 ≡ 2560000) × (visibleTotal (planeShowing (given largest) (task largest) (flat 256 0)) ≡ 2560000)
+unfolding visibleError visibleTotal squareAt sum
+errors-at-largest = (refl, refl)
+
 -- what is listed for a plane of one macroblock: of the output only its length matters
 text-at-32 : (out : List ℕ) → leb 22 (length out) ≡ true → textInto (given 32) (task 32) out ≡ firstText
-unfolding textInto linesTo macroblockLine totalLine lineOf joined decimal digitsBefore writePlane run after written
-text-at-32 out h = rw (chosen-at-32, weight-at-32, h)
+unfolding textInto textWith linesTo macroblockLine totalLine lineOf joined decimal digitsBefore writePlane run after written
+text-at-32 out h = rw (chosen-at-32, weight-at-32, h, recon-at-32, errors-at-32 .0, errors-at-32 .1)
 
 text-at-largest : (out : List ℕ) → leb 1 (length out) ≡ true → textInto (given largest) (task largest) out ≡ largestText
-unfolding textInto linesTo macroblockLine totalLine lineOf joined decimal digitsBefore writePlane run after written
-text-at-largest out h = rw (chosen-at-largest, weight-at-largest, h)
+unfolding textInto textWith linesTo macroblockLine totalLine lineOf joined decimal digitsBefore writePlane run after written
+text-at-largest out h = rw (chosen-at-largest, weight-at-largest, h, recon-at-largest, errors-at-largest .0, errors-at-largest .1)
 
 -- the program's output is long enough
 room : (n : ℕ) → n ≤ 524288 → leb n (length (bitsOf (replicate outputBytes 0))) ≡ true

@@ -15,7 +15,8 @@ use Rattle.leaf.specs.Leaf.{sse}
 use Rattle.tree.specs.Blocks.{blockCount, left, right, level, first, gather, paint, step, placeUnder, place, blockOf, paintAt, rebuilt}
 use Rattle.tree.specs.BlocksLaws.{suc-level, suc-row, level-part, level-le}
 use Rattle.tree.specs.Plan.{Weight, pruned, jointWeight, flagged}
-use Rattle.tree.specs.RowsLaws.{weave, Inside, sse-append, sse-weave, gather-add, gather-weave, length-gather, length-weave, gather-whole, paint-add, paint-weave, bytes-gather, bytes-both, bytes-weave, sse-most}
+use Rattle.leaf.specs.DistanceLaws.{sse-most}
+use Rattle.tree.specs.RowsLaws.{weave, Inside, sse-append, sse-weave, gather-add, gather-weave, length-gather, length-weave, gather-whole, paint-add, paint-weave, bytes-gather, bytes-both, bytes-weave}
 
 -- the samples of a block from those of its two parts of level d
 abbrev pub join : ℕ → List ℕ → List ℕ → List ℕ

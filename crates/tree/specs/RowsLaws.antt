@@ -2,12 +2,12 @@
 -- Assumes nothing.
 use mathlib.Core.Path.{_≡_, refl, sym, ap, _∙_}
 use mathlib.Core.List.{List, [], _∷_, _++_, append-assoc}
-use Prim.Native.Nat.{ℕ, zero, suc, _+_, _*_, _≤_, _<_, zero-le}
-use native.Mathlib.Nat.{zero-add, suc-add, mul-le-mul}
+use Prim.Native.Nat.{ℕ, zero, suc, _+_, _*_, _≤_, _<_}
+use native.Mathlib.Nat.{zero-add, suc-add}
 use native.Mathlib.Omega.{arith}
 use lib.ListN.{length, take, drop, set, length-append, length-take, length-drop, take-append-drop, drop-of-length-le}
 use lib.Seq.{take-append-le, drop-append-le, take-at, drop-at, length-take-le, take-add, drop-drop, set-comm, sets}
-use Rattle.bits.specs.Basics.{All, Bytes, gap}
+use Rattle.bits.specs.Basics.{All, Bytes}
 use Rattle.bits.specs.FillLaws.{sets-append, sets-all}
 use Rattle.leaf.specs.Leaf.{sse}
 use Rattle.tree.specs.Blocks.{gather, paint}
@@ -241,13 +241,3 @@ woven (suc h) w l r a b =
 
 pub bytes-weave : (h w : ℕ) (l r : List ℕ) → Bytes l → Bytes r → Bytes (weave h w l r)
 bytes-weave h w l r a b = at-bytes (weave h w l r) (woven h w l r (all-bytes l a) (all-bytes r b))
-
-gap-most : (x y : ℕ) → x < 256 → y < 256 → gap x y * gap x y ≤ 65025
-gap-most x y a b = let h : gap x y ≤ 255 = omega arith in mul-le-mul h h
-
--- the squared distance of n bytes from n others
-pub sse-most : (xs ys : List ℕ) → Bytes xs → Bytes ys → sse xs ys ≤ 65025 * length ys
-unfolding sse
-sse-most [] ys a b = zero-le
-sse-most (x ∷ xs) [] a b = omega arith
-sse-most (x ∷ xs) (y ∷ ys) a b = omega (arith, gap-most x y (a 0) (b 0), sse-most xs ys (λ k. a (suc k)) (λ k. b (suc k)))

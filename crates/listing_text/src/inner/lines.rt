@@ -1,10 +1,14 @@
 // The lines of a listing, put into a lent text. Each function asks for as much room as its longest line takes.
 ghost use mathlib.Core.List.{[], _∷_, _++_};
-ghost use Prim.Native.Nat.{_+_, _*_, _≤_, _<_};
+ghost use Prim.Native.Nat.{_+_, _*_, _≤_};
 ghost use lib.ListN.{length};
 ghost use Rattle.text.specs.Text.{comma, decimal};
 ghost use Rattle.listing_text.specs.LineForms.{ListedPut, nameAt, lineText, linesFrom};
 ghost use Rattle.listing_text.specs.Listing.{totalLine, refusedText};
+ghost use Rattle.visible_error.specs.VisibleNeeds.{shownBy, shownBlocks, Showable};
+use canvas::svq1_plane::Svq1PlaneCanvas;
+use canvas::svq1_plane::inner::blocks_along;
+use visible_error::inner::visible_block;
 
 // A number and the byte behind it.
 fn put_number(text: &mut [u8], at: usize, n: u64, behind: u8) -> usize
@@ -54,10 +58,18 @@ fn put_macroblock_line(
 }
 
 // The lines of `count` macroblocks, `cols` to a row, from three numbers each: the mode's position, the bits, the error.
-pub fn put_lines(text: &mut [u8], cols: usize, stated: &[u32], count: usize) -> usize
-    requires { ⌜ (0 < cols) × (3 * count ≤ length (now stated)) × (94 * count ≤ length (now text)) ⌝ }
-    ensures { λ r. ⌜ ListedPut (94 * count) (now (text .entry)) 0 (linesFrom cols (now (stated .entry)) count) r (now (text .exit)) ⌝ }
+pub fn put_lines(
+    text: &mut [u8],
+    canvas: Svq1PlaneCanvas,
+    source: &[u8],
+    recon: &[u8],
+    stated: &[u32],
+    count: usize,
+) -> usize
+    requires { ⌜ Showable (shownBy canvas (now source) (now recon)) × (count ≤ shownBlocks (shownBy canvas (now source) (now recon))) × (3 * count ≤ length (now stated)) × (94 * count ≤ length (now text)) ⌝ }
+    ensures { λ r. ⌜ ListedPut (94 * count) (now (text .entry)) 0 (linesFrom (shownBy canvas (now (source .entry)) (now (recon .entry))) (now (stated .entry)) count) r (now (text .exit)) ⌝ }
 {
+    let cols = blocks_along(canvas.width);
     let mut at = 0;
     let mut k = 0;
     while k < count {
@@ -69,7 +81,7 @@ pub fn put_lines(text: &mut [u8], cols: usize, stated: &[u32], count: usize) -> 
             (k % cols) as u64,
             stated[i],
             stated[i + 1] as u64,
-            stated[i + 2] as u64,
+            visible_block(canvas, source, recon, k) as u64,
         );
         k += 1;
     }

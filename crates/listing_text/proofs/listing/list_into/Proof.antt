@@ -1,105 +1,69 @@
--- The parts that are lent are the slices of the definition; what the writer leaves is put as its text. Assumes nothing.
+-- The parts that are lent are empty slices of the plane's size. Assumes nothing.
 use native.Mathlib.Omega.{arith}
-use mathlib.Core.Path.{sym}
+use mathlib.Core.Path.{_≡_, sym}
+use Prim.Native.Nat.{_*_, _/_, _≤_}
+use lib.ListN.{length}
 use lib.Seq.{length-take-le}
 use Rattle.macroblock.specs.Macroblock.{Given}
 use Rattle.macroblock.specs.Choice.{Task}
 use Rattle.macroblock_choice.specs.ChosenNeeds.{taskBy}
 use Rattle.macroblock.specs.MacroblockNeeds.{givenBy}
-use Rattle.listing_text.specs.ListedLaws.{sizes, recon-long, vx-long, vy-long, plane-ended, plane-text}
+use Rattle.listing_text.specs.ListedLaws.{Sizes, sizes, recon-long, vx-long, vy-long, lent-empty}
 use borrow.Author.Needs.{needs}
 use Rattle.listing_text.proofs.listing.list_into.Statement.{statement}
 use Rattle.listing_text.proofs.listing.list_into.Tie as tie
 
+-- the plane, what is asked of it, its sizes, and how long the program's slices are
+abbrev plane : tie.Start → Given
+plane e = let a = e .args in givenBy (a .canvas) (a .reference .now) (a .book .now) (a .codebook .now)
+
+abbrev task : tie.Start → Task
+task e = taskBy (e .args .source .now) (e .args .settings)
+
+sized : (e : tie.Start) → Sizes (plane e)
+sized e = sizes (plane e) (task e) (e .pre .0)
+
+samples : (e : tie.Start) → e .args .canvas .stride * e .args .canvas .rows ≤ length (e .args .recon .now)
+samples e = let a = e .args in recon-long (plane e) (task e) (e .pre .0) (a .out .now) (a .recon .now) (a .vx .now) (a .vy .now) (a .stated .now) (e .pre .1)
+
+across : (e : tie.Start) → 4 * (e .args .canvas .rows / 16 * (e .args .canvas .stride / 16)) ≤ length (e .args .vx .now)
+across e = let a = e .args in vx-long (plane e) (task e) (e .pre .0) (a .out .now) (a .recon .now) (a .vx .now) (a .vy .now) (a .stated .now) (e .pre .1)
+
+down : (e : tie.Start) → 4 * (e .args .canvas .rows / 16 * (e .args .canvas .stride / 16)) ≤ length (e .args .vy .now)
+down e = let a = e .args in vy-long (plane e) (task e) (e .pre .0) (a .out .now) (a .recon .now) (a .vx .now) (a .vy .now) (a .stated .now) (e .pre .1)
+
 mul-samples : tie.Need-mul-samples
-mul-samples c =
-    let s = c .before .before .before .before .before .before .before .before .before .before .before .before in
-    let a = s .args in
-    let g : Given = givenBy (a .canvas) (a .reference .now) (a .book .now) (a .codebook .now) in
-    let t : Task = taskBy (a .source .now) (a .settings) in
-    let z = sizes g t (s .pre .0) in
-    omega (arith, z .small-area)
+mul-samples c = omega (arith, sized (c .before .before .before .before .before .before .before .before .before .before .before) .small-area)
 
 mul-vectors : tie.Need-mul-vectors
-mul-vectors c =
-    let s = c .before .before .before .before .before .before .before .before .before .before .before .before .before in
-    let a = s .args in
-    let g : Given = givenBy (a .canvas) (a .reference .now) (a .book .now) (a .codebook .now) in
-    let t : Task = taskBy (a .source .now) (a .settings) in
-    let z = sizes g t (s .pre .0) in
-    omega (arith, z .blocks-are, z .few-blocks)
+mul-vectors c = let z = sized (c .before .before .before .before .before .before .before .before .before .before .before .before .before) in omega (arith, z .blocks-are, z .few-blocks)
 
 mul-vectors-2 : tie.Need-mul-vectors-2
-mul-vectors-2 c =
-    let s = c .before .before .before .before .before .before .before .before .before .before .before .before .before in
-    let a = s .args in
-    let g : Given = givenBy (a .canvas) (a .reference .now) (a .book .now) (a .codebook .now) in
-    let t : Task = taskBy (a .source .now) (a .settings) in
-    let z = sizes g t (s .pre .0) in
-    omega (arith, z .blocks-are, z .few-blocks)
+mul-vectors-2 c = let z = sized (c .before .before .before .before .before .before .before .before .before .before .before .before .before) in omega (arith, z .blocks-are, z .few-blocks)
 
-slice-relend-prefix-encode-inter-plane-stated :
-    tie.Need-slice-relend-prefix-encode-inter-plane-stated
-slice-relend-prefix-encode-inter-plane-stated c =
-    let s = c .before .before .before .before .before .before .before .before .before .before .before .before .before .before in
-    let a = s .args in
-    let g : Given = givenBy (a .canvas) (a .reference .now) (a .book .now) (a .codebook .now) in
-    let t : Task = taskBy (a .source .now) (a .settings) in
-    omega (arith, recon-long g t (s .pre .0) (a .out .now) (a .recon .now) (a .vx .now) (a .vy .now) (a .stated .now) (s .pre .1))
+slice-relend-prefix-list-written : tie.Need-slice-relend-prefix-list-written
+slice-relend-prefix-list-written c = omega (arith, samples (c .before .before .before .before .before .before .before .before .before .before .before .before .before .before))
 
-slice-aggregate-encode-inter-plane-stated : tie.Need-slice-aggregate-encode-inter-plane-stated
-slice-aggregate-encode-inter-plane-stated c =
-    let s = c .before .before .before .before .before .before .before .before .before .before .before .before .before .before .before in
-    let a = s .args in
-    let g : Given = givenBy (a .canvas) (a .reference .now) (a .book .now) (a .codebook .now) in
-    let t : Task = taskBy (a .source .now) (a .settings) in
-    sym (length-take-le _ (a .recon .now) (recon-long g t (s .pre .0) (a .out .now) (a .recon .now) (a .vx .now) (a .vy .now) (a .stated .now) (s .pre .1)))
+slice-aggregate-list-written : tie.Need-slice-aggregate-list-written
+slice-aggregate-list-written c = let e = c .before .before .before .before .before .before .before .before .before .before .before .before .before .before .before in sym (length-take-le _ (e .args .recon .now) (samples e))
 
-slice-relend-prefix-encode-inter-plane-stated-2 :
-    tie.Need-slice-relend-prefix-encode-inter-plane-stated-2
-slice-relend-prefix-encode-inter-plane-stated-2 c =
-    let s = c .before .before .before .before .before .before .before .before .before .before .before .before .before .before .before in
-    let a = s .args in
-    let g : Given = givenBy (a .canvas) (a .reference .now) (a .book .now) (a .codebook .now) in
-    let t : Task = taskBy (a .source .now) (a .settings) in
-    omega (arith, vx-long g t (s .pre .0) (a .out .now) (a .recon .now) (a .vx .now) (a .vy .now) (a .stated .now) (s .pre .1))
+slice-relend-prefix-list-written-2 : tie.Need-slice-relend-prefix-list-written-2
+slice-relend-prefix-list-written-2 c = omega (arith, across (c .before .before .before .before .before .before .before .before .before .before .before .before .before .before .before))
 
-slice-aggregate-encode-inter-plane-stated-2 : tie.Need-slice-aggregate-encode-inter-plane-stated-2
-slice-aggregate-encode-inter-plane-stated-2 c =
-    let s = c .before .before .before .before .before .before .before .before .before .before .before .before .before .before .before .before in
-    let a = s .args in
-    let g : Given = givenBy (a .canvas) (a .reference .now) (a .book .now) (a .codebook .now) in
-    let t : Task = taskBy (a .source .now) (a .settings) in
-    sym (length-take-le _ (a .vx .now) (vx-long g t (s .pre .0) (a .out .now) (a .recon .now) (a .vx .now) (a .vy .now) (a .stated .now) (s .pre .1)))
+slice-aggregate-list-written-2 : tie.Need-slice-aggregate-list-written-2
+slice-aggregate-list-written-2 c = let e = c .before .before .before .before .before .before .before .before .before .before .before .before .before .before .before .before in sym (length-take-le _ (e .args .vx .now) (across e))
 
-slice-relend-prefix-encode-inter-plane-stated-3 :
-    tie.Need-slice-relend-prefix-encode-inter-plane-stated-3
-slice-relend-prefix-encode-inter-plane-stated-3 c =
-    let s = c .before .before .before .before .before .before .before .before .before .before .before .before .before .before .before .before in
-    let a = s .args in
-    let g : Given = givenBy (a .canvas) (a .reference .now) (a .book .now) (a .codebook .now) in
-    let t : Task = taskBy (a .source .now) (a .settings) in
-    omega (arith, vy-long g t (s .pre .0) (a .out .now) (a .recon .now) (a .vx .now) (a .vy .now) (a .stated .now) (s .pre .1))
+slice-relend-prefix-list-written-3 : tie.Need-slice-relend-prefix-list-written-3
+slice-relend-prefix-list-written-3 c = omega (arith, down (c .before .before .before .before .before .before .before .before .before .before .before .before .before .before .before .before))
 
-slice-aggregate-encode-inter-plane-stated-3 : tie.Need-slice-aggregate-encode-inter-plane-stated-3
-slice-aggregate-encode-inter-plane-stated-3 c =
-    let s = c .before .before .before .before .before .before .before .before .before .before .before .before .before .before .before .before .before in
-    let a = s .args in
-    let g : Given = givenBy (a .canvas) (a .reference .now) (a .book .now) (a .codebook .now) in
-    let t : Task = taskBy (a .source .now) (a .settings) in
-    sym (length-take-le _ (a .vy .now) (vy-long g t (s .pre .0) (a .out .now) (a .recon .now) (a .vx .now) (a .vy .now) (a .stated .now) (s .pre .1)))
+slice-aggregate-list-written-3 : tie.Need-slice-aggregate-list-written-3
+slice-aggregate-list-written-3 c = let e = c .before .before .before .before .before .before .before .before .before .before .before .before .before .before .before .before .before in sym (length-take-le _ (e .args .vy .now) (down e))
 
-encode-inter-plane-stated-requires : tie.Need-encode-inter-plane-stated-requires
-encode-inter-plane-stated-requires c κs = search needs
-
-put-plane-requires : tie.Need-put-plane-requires
-put-plane-requires c κs =
-    let s = c .before .before .before .before .before .before .before .before .before .before .before .before .before .before .before .before .before .before .before .before .before .before .before .before .before .before .before .before .before .before .before in
-    let a = s .args in
-    let g : Given = givenBy (a .canvas) (a .reference .now) (a .book .now) (a .codebook .now) in
-    let t : Task = taskBy (a .source .now) (a .settings) in
-    let w = c .before .before .before .before .before .before .before .before .before .before .before .before .encode-inter-plane-stated in
-    (plane-ended g t (s .pre .0) (a .out .now) (a .recon .now) (a .vx .now) (a .vy .now) (a .stated .now) (s .pre .1) (w .result) _ _ (w .ensures) (w .kept .1 .1 .1 .1 .1 .1 .1 .1 .1 .1 .1 .0), s .pre .2)
+list-written-requires : tie.Need-list-written-requires
+list-written-requires c κs =
+    let e = c .before .before .before .before .before .before .before .before .before .before .before .before .before .before .before .before .before .before .before in
+    let a = e .args in
+    (e .pre .0, lent-empty (plane e) (task e) (e .pre .0) (a .out .now) (a .recon .now) (a .vx .now) (a .vy .now) (a .stated .now) (e .pre .1), e .pre .2)
 
 same-length : tie.Need-same-length
 same-length c = search needs
@@ -120,13 +84,7 @@ same-length-6 : tie.Need-same-length-6
 same-length-6 c = search needs
 
 returns : tie.Need-returns
-returns c =
-    let s = c .before .before .before .before .before .before .before .before .before .before .before .before .before .before .before .before .before .before .before .before .before .before .before .before .before .before .before .before .before .before .before .before .before .before in
-    let a = s .args in
-    let g : Given = givenBy (a .canvas) (a .reference .now) (a .book .now) (a .codebook .now) in
-    let t : Task = taskBy (a .source .now) (a .settings) in
-    let w = c .before .before .before .before .before .before .before .before .before .before .before .before .before .before .before .encode-inter-plane-stated in
-    rw (← plane-text g t (s .pre .0) (a .out .now) (a .recon .now) (a .vx .now) (a .vy .now) (a .stated .now) (s .pre .1) (w .result) _ _ (w .ensures)) (c .before .before .put-plane .ensures)
+returns c = c .before .before .before .before .before .before .before .before .before .before .before .before .list-written .ensures
 
 pub list-into-spec : {M : Type 1} → statement M
 list-into-spec =
@@ -135,14 +93,13 @@ list-into-spec =
     mul-samples
     mul-vectors
     mul-vectors-2
-    slice-relend-prefix-encode-inter-plane-stated
-    slice-aggregate-encode-inter-plane-stated
-    slice-relend-prefix-encode-inter-plane-stated-2
-    slice-aggregate-encode-inter-plane-stated-2
-    slice-relend-prefix-encode-inter-plane-stated-3
-    slice-aggregate-encode-inter-plane-stated-3
-    encode-inter-plane-stated-requires
-    put-plane-requires
+    slice-relend-prefix-list-written
+    slice-aggregate-list-written
+    slice-relend-prefix-list-written-2
+    slice-aggregate-list-written-2
+    slice-relend-prefix-list-written-3
+    slice-aggregate-list-written-3
+    list-written-requires
     same-length
     same-length-2
     same-length-3

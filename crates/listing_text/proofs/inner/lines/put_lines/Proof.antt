@@ -3,29 +3,40 @@ use native.Mathlib.Omega.{arith}
 use Prim.Native.Nat.{_+_, _-_, _*_, _≤_}
 use mathlib.Core.Path.{_≡_, refl, _∙_}
 use lib.ListN.{length}
-use Rattle.listing_text.specs.LineForms.{ListedPut, linesFrom}
+use Rattle.visible_error.specs.Visible.{ShownPlane}
+use Rattle.visible_error.specs.VisibleNeeds.{shownBy}
+use Rattle.listing_text.specs.LineForms.{ListedPut, lineText, linesFrom}
 use Rattle.listing_text.specs.LineFormsLaws.{no-lines, more-lines}
 use borrow.Author.Needs.{needs}
 use Rattle.listing_text.proofs.inner.lines.put_lines.Statement.{statement}
 use Rattle.listing_text.proofs.inner.lines.put_lines.Tie as tie
 
 abbrev Inv-loop : tie.InvT-loop
-Inv-loop text₀ cols stated count at₀ k₀ text at k = (k ≤ count) × (length text ≡ length text₀) × ListedPut (94 * k) text₀ 0 (linesFrom cols stated k) at text
+Inv-loop text₀ canvas source recon stated count cols at₀ k₀ text at k =
+    (k ≤ count) × (length text ≡ length text₀) × ListedPut (94 * k) text₀ 0 (linesFrom (shownBy canvas source recon) stated k) at text
 
 abbrev μ-loop : tie.MeasureT-loop
-μ-loop text₀ cols stated count at₀ k₀ text at k = count - k
+μ-loop text₀ canvas source recon stated count cols at₀ k₀ text at k = count - k
+
+abbrev plane : tie.Start Inv-loop μ-loop → ShownPlane
+plane e = let a = e .args in shownBy (a .canvas) (a .source .now) (a .recon .now)
+
+blocks-along-requires : tie.Need-blocks-along-requires Inv-loop μ-loop
+blocks-along-requires c κs = search needs
 
 loop-holds : tie.Need-loop-holds Inv-loop μ-loop
-loop-holds c = let a = c .before .before .args in (omega arith, refl, no-lines (a .cols) (a .stated .now) (a .text .now))
+loop-holds c =
+    let e = c .before .before .before .before .before in
+    (omega arith, refl, no-lines (plane e) (e .args .stated .now) (e .args .text .now))
 
 mul-i : tie.Need-mul-i Inv-loop μ-loop
 mul-i c = search needs
 
 div-put-macroblock-line : tie.Need-div-put-macroblock-line Inv-loop μ-loop
-div-put-macroblock-line c = search needs
+div-put-macroblock-line c = omega (arith, c .before .before .before .blocks-along .ensures, c .before .before .before .before .before .before .before .before .pre .0 .fits .width .some)
 
 rem-put-macroblock-line : tie.Need-rem-put-macroblock-line Inv-loop μ-loop
-rem-put-macroblock-line c = search needs
+rem-put-macroblock-line c = omega (arith, c .before .before .before .blocks-along .ensures, c .before .before .before .before .before .before .before .before .pre .0 .fits .width .some)
 
 mul-put-macroblock-line : tie.Need-mul-put-macroblock-line Inv-loop μ-loop
 mul-put-macroblock-line c = search needs
@@ -45,20 +56,13 @@ shared-slice-read-put-macroblock-line-2 :
 shared-slice-read-put-macroblock-line-2 c = search needs
 
 cast-put-macroblock-line : tie.Need-cast-put-macroblock-line Inv-loop μ-loop
-cast-put-macroblock-line c = omega (arith, c .shared-slice-known3 .given (3 * c .before .before .before .before .loop .k + 1))
+cast-put-macroblock-line c = omega (arith, c .shared-slice-known5 .given (3 * c .before .before .before .before .loop .k + 1))
 
-add-put-macroblock-line-2 : tie.Need-add-put-macroblock-line-2 Inv-loop μ-loop
-add-put-macroblock-line-2 c = search needs
-
-mul-put-macroblock-line-3 : tie.Need-mul-put-macroblock-line-3 Inv-loop μ-loop
-mul-put-macroblock-line-3 c = search needs
-
-shared-slice-read-put-macroblock-line-3 :
-    tie.Need-shared-slice-read-put-macroblock-line-3 Inv-loop μ-loop
-shared-slice-read-put-macroblock-line-3 c = search needs
+visible-block-requires : tie.Need-visible-block-requires Inv-loop μ-loop
+visible-block-requires c κs = search needs
 
 cast-put-macroblock-line-2 : tie.Need-cast-put-macroblock-line-2 Inv-loop μ-loop
-cast-put-macroblock-line-2 c = omega (arith, c .shared-slice-known4 .given (3 * c .before .before .before .before .before .loop .k + 2))
+cast-put-macroblock-line-2 c = search needs
 
 put-macroblock-line-requires : tie.Need-put-macroblock-line-requires Inv-loop μ-loop
 put-macroblock-line-requires c κs = search needs
@@ -71,9 +75,11 @@ loop-less c = search needs
 
 loop-again : tie.Need-loop-again Inv-loop μ-loop
 loop-again c =
-    let a = c .before .before .before .before .before .before .before .before .before .before .before .args in
+    let e = c .before .before .before .before .before .before .before .before .before .before .before .before .before .before in
     let l = c .before .before .before .before .before .before .before .before .loop in
-    (omega arith, c .before .before .put-macroblock-line .kept .0 ∙ l .inv .1, more-lines (a .cols) (a .stated .now) (a .text .now) (l .k) (l .at) _ _ _ (omega arith) (l .inv .2) (c .before .before .put-macroblock-line .ensures))
+    let w = c .before .before .put-macroblock-line in
+    let cols = c .before .before .before .before .before .before .before .before .before .blocks-along .ensures in
+    (omega arith, w .kept .0 ∙ l .inv .1, more-lines (plane e) (e .args .stated .now) (e .args .text .now) (l .k) (l .at) _ _ _ (omega arith) (l .inv .2) (rw (cols, c .before .before .before .visible-block .ensures .0) at (w .ensures)))
 
 same-length : tie.Need-same-length Inv-loop μ-loop
 same-length c = search needs
@@ -81,7 +87,7 @@ same-length c = search needs
 returns : tie.Need-returns Inv-loop μ-loop
 returns c =
     let l = c .before .loop in
-    let e : l .k ≡ c .before .before .before .before .args .count = omega arith in
+    let e : l .k ≡ c .before .before .before .before .before .before .before .args .count = omega arith in
     rw (← e) (l .inv .2)
 
 pub put-lines-spec : {M : Type 1} → statement M
@@ -90,6 +96,7 @@ put-lines-spec =
     (tie.spec
     Inv-loop
     μ-loop
+    blocks-along-requires
     loop-holds
     mul-i
     div-put-macroblock-line
@@ -100,9 +107,7 @@ put-lines-spec =
     mul-put-macroblock-line-2
     shared-slice-read-put-macroblock-line-2
     cast-put-macroblock-line
-    add-put-macroblock-line-2
-    mul-put-macroblock-line-3
-    shared-slice-read-put-macroblock-line-3
+    visible-block-requires
     cast-put-macroblock-line-2
     put-macroblock-line-requires
     add-k
