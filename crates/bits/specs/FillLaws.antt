@@ -6,7 +6,7 @@ use native.Mathlib.Nat.{add-zero}
 use native.Mathlib.Numerals.{add-one}
 use native.Mathlib.Omega.{arith}
 use lib.ListN.{length, take, drop, getD, set, length-drop, drop-of-length-le}
-use lib.Seq.{take-all, take-suc, take-suc-set, take-length, length-take-le, sets, sets-eq}
+use lib.Seq.{take-all, take-suc, take-suc-set, take-length, length-take-le, getD-take, getD-drop, sets, sets-eq}
 
 -- the first i elements are there, and element i is stored
 pub fill-step : (whole out : List ℕ) (i v : ℕ) → i < length out → i < length whole → take i out ≡ take i whole → v ≡ getD whole i 0
@@ -38,11 +38,14 @@ pub sets-all : (o xs : List ℕ) → length o ≡ length xs → sets o 0 xs ≡ 
 sets-all o xs e = sets-eq xs o 0 (omega arith) ∙ rw (drop-of-length-le o {i = 0 + length xs} (omega arith)) (append-nil xs)
 
 -- ---- the run of w elements from q on, as a part of a slice has it
-abbrev pub part : List ℕ → ℕ → ℕ → List ℕ
-part l q w = take (q + w - q) (drop q l)
+abbrev pub runOf : List ℕ → ℕ → ℕ → List ℕ
+runOf l q w = take (q + w - q) (drop q l)
 
-pub run : (l : List ℕ) (q w : ℕ) → part l q w ≡ take w (drop q l)
+pub run : (l : List ℕ) (q w : ℕ) → runOf l q w ≡ take w (drop q l)
 run l q w = let e : q + w - q ≡ w = omega arith in rw e
 
-pub length-part : (l : List ℕ) (q w : ℕ) → q + w ≤ length l → length (part l q w) ≡ w
-length-part l q w h = ap length (run l q w) ∙ length-take-le w (drop q l) (simp length-drop (omega arith))
+pub length-run : (l : List ℕ) (q w : ℕ) → q + w ≤ length l → length (runOf l q w) ≡ w
+length-run l q w h = ap length (run l q w) ∙ length-take-le w (drop q l) (simp length-drop (omega arith))
+
+pub run-at : (l : List ℕ) (q w j : ℕ) → j < w → getD (runOf l q w) j 0 ≡ getD l (q + j) 0
+run-at l q w j h = getD-take (q + w - q) (drop q l) j 0 (omega arith) ∙ getD-drop q l j 0

@@ -27,13 +27,13 @@ sizes-taken = refl
 
 -- ---- tables one behind the other
 -- how many entries there are in all
-unfoldable pub total : List ℕ → ℕ
-total [] = 0
-total (n ∷ ns) = n + total ns
+unfoldable pub sizesSum : List ℕ → ℕ
+sizesSum [] = 0
+sizesSum (n ∷ ns) = n + sizesSum ns
 
-pub total-step : (ns : List ℕ) (i : ℕ) → i < length ns → total (drop i ns) ≡ getD ns i 0 + total (drop (i + 1) ns)
-unfolding total
-total-step ns i h = rw add-one (ap total (drop-cons ns i 0 h))
+pub total-step : (ns : List ℕ) (i : ℕ) → i < length ns → sizesSum (drop i ns) ≡ getD ns i 0 + sizesSum (drop (i + 1) ns)
+unfolding sizesSum
+total-step ns i h = rw add-one (ap sizesSum (drop-cons ns i 0 h))
 
 -- the test of the tables from table i on, where p entries stand before it
 pub each-step : (ns t : List ℕ) (i p : ℕ) → i < length ns
@@ -50,13 +50,13 @@ unfolding eachPrefixFree
 each-end ns t i h = rw (drop-of-length-le ns h)
 
 -- so each of the tables is prefix-free
-each-at : (ns t : List ℕ) (i : ℕ) → eachPrefixFree ns t ≡ true → i < length ns → prefixFree (codesOf (entries (total (take i ns)) (getD ns i 0) t)) ≡ true
-unfolding eachPrefixFree total
+each-at : (ns t : List ℕ) (i : ℕ) → eachPrefixFree ns t ≡ true → i < length ns → prefixFree (codesOf (entries (sizesSum (take i ns)) (getD ns i 0) t)) ≡ true
+unfolding eachPrefixFree sizesSum
 each-at [] t i e h = absurd (not-suc-le-zero h)
 each-at (n ∷ ns) t zero e h = both-true (prefixFree (codesOf (take (3 * n) t))) (eachPrefixFree ns (drop (3 * n) t)) e .0
 each-at (n ∷ ns) t (suc i) e h =
     let two = both-true (prefixFree (codesOf (take (3 * n) t))) (eachPrefixFree ns (drop (3 * n) t)) e in
-    let m : ℕ = total (take i ns) in
+    let m : ℕ = sizesSum (take i ns) in
     let k : 3 * (n + m) ≡ 3 * n + 3 * m = omega arith in
     rw (k, ← drop-drop (3 * m) (3 * n) t) (each-at ns (drop (3 * n) t) i (two .1) (le-of-suc-le-suc h))
 
@@ -64,21 +64,21 @@ each-at (n ∷ ns) t (suc i) e h =
 firstFour : List ℕ
 firstFour = 4 ∷ 64 ∷ 256 ∷ 512 ∷ []
 
-total-append : (xs ys : List ℕ) → total (xs ++ ys) ≡ total xs + total ys
-unfolding total
-total-append [] ys = sym (zero-add (total ys))
+total-append : (xs ys : List ℕ) → sizesSum (xs ++ ys) ≡ sizesSum xs + sizesSum ys
+unfolding sizesSum
+total-append [] ys = sym (zero-add (sizesSum ys))
 total-append (x ∷ xs) ys = omega (arith, total-append xs ys)
 
-total-eights : (n i : ℕ) → i ≤ n → total (take i (replicate n 8)) ≡ 8 * i
-unfolding total
+total-eights : (n i : ℕ) → i ≤ n → sizesSum (take i (replicate n 8)) ≡ 8 * i
+unfolding sizesSum
 total-eights n zero h = refl
 total-eights zero (suc i) h = absurd (not-suc-le-zero h)
 total-eights (suc n) (suc i) h = omega (arith, total-eights n i (le-of-suc-le-suc h))
 
-stage-start : (i : ℕ) → i < 12 → total (take (4 + i) codeTableSizes) ≡ 836 + 8 * i
-unfolding firstFour total
+stage-start : (i : ℕ) → i < 12 → sizesSum (take (4 + i) codeTableSizes) ≡ 836 + 8 * i
+unfolding firstFour sizesSum
 stage-start i h =
-    ap total (take-append-add firstFour (replicate 12 8) i) ∙ total-append firstFour (take i (replicate 12 8)) ∙ rw (total-eights 12 i (omega arith))
+    ap sizesSum (take-append-add firstFour (replicate 12 8) i) ∙ total-append firstFour (take i (replicate 12 8)) ∙ rw (total-eights 12 i (omega arith))
 
 stage-size : (i : ℕ) → i < 12 → getD codeTableSizes (4 + i) 0 ≡ 8
 unfolding firstFour
@@ -131,7 +131,7 @@ pub record GoodBook (book : List ℕ) : Type 0 where
 
 module _ (book : List ℕ) (len : length book ≡ bookBytes) (good : goodTable book ≡ true) (each : eachPrefixFree codeTableSizes book ≡ true) where
   -- table i, of n entries from entry `from` on
-  table-at : (i from n : ℕ) → i < 16 → total (take i codeTableSizes) ≡ from → getD codeTableSizes i 0 ≡ n → from + n ≤ 932 → GoodCodes n (entries from n book)
+  table-at : (i from n : ℕ) → i < 16 → sizesSum (take i codeTableSizes) ≡ from → getD codeTableSizes i 0 ≡ n → from + n ≤ 932 → GoodCodes n (entries from n book)
   table-at i from n h p q fits =
       let size : length (entries from n book) ≡ 3 * n = length-take-le (3 * n) (drop (3 * from) book) (rw length-drop (omega arith)) in
       record {
@@ -142,7 +142,7 @@ module _ (book : List ℕ) (len : length book ≡ bookBytes) (good : goodTable b
       }
 
   mean-at : (h : Svq1Half) → GoodCodes (means h) (meanTable h book)
-  unfolding total
+  unfolding sizesSum
   mean-at Intra = table-at 2 68 256 (omega arith) refl refl (omega arith)
   mean-at Inter = table-at 3 324 512 (omega arith) refl refl (omega arith)
 
@@ -159,7 +159,7 @@ module _ (book : List ℕ) (len : length book ≡ bookBytes) (good : goodTable b
 
 -- A BOOK THAT PASSES: the sixteen tables, each of its size, good and prefix-free
 pub good-book : (book : List ℕ) → bookRefusal book ≡ 0 → GoodBook book
-unfolding bookRefusal codesRefusal total
+unfolding bookRefusal codesRefusal sizesSum
 good-book book e =
     let two = or-none (unless (eqb (length book) bookBytes) 5) (codesRefusal book) e in
     let one = or-none (unless (goodTable book) 6) (unless (eachPrefixFree codeTableSizes book) 7) (two .1) in

@@ -82,7 +82,7 @@ file-accepted book ls bytes passes are =
 
 -- ---- what is accepted
 -- what an accepted file is: the text of the lines of a good book, which is the book read
-pub record Accepted (file : List ℕ) : Type 0 where
+pub record FileAccepted (file : List ℕ) : Type 0 where
   pub lines : List Line
   pub read : fileLines file ≡ some lines
   pub text : file ≡ fileOf lines
@@ -235,11 +235,11 @@ module _ (ls : List Line) (none-refused : linesRefusal ls ≡ 0) where
       sym (lines-book ls each-once each-good long) ∙ none-refused
 
 -- what is accepted is the lines of a good book, each entry once, and the book read is that book
-pub accepted : (file : List ℕ) → fileRefusal file ≡ 0 → Accepted file
+pub accepted : (file : List ℕ) → fileRefusal file ≡ 0 → FileAccepted file
 unfolding fileRefusal fileBook
 accepted file passes = go (fileLines file) refl (sym passes)
   where
-    go : (o : Option (List Line)) → fileLines file ≡ o → 0 ≡ refusalRead (fileLines file) → Accepted file
+    go : (o : Option (List Line)) → fileLines file ≡ o → 0 ≡ refusalRead (fileLines file) → FileAccepted file
     go none q z = absurd (omega (arith, rw q at z))
     go (some ls) q z =
         let fine : linesRefusal ls ≡ 0 = sym (rw q at z) in

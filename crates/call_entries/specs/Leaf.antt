@@ -15,8 +15,8 @@ abbrev pub filled : List ℕ → List ℕ
 filled s = s ++ replicate (256 - length s) 0
 
 -- a leaf with its bits, its error and 256 samples
-abbrev pub partOf : Leaf → ℕ → ℕ → List ℕ → LeafPart
-partOf l bits error samples = record {
+abbrev pub leafPartOf : Leaf → ℕ → ℕ → List ℕ → LeafPart
+leafPartOf l bits error samples = record {
   bits = bits;
   error = error;
   mean = leafMean l;
@@ -42,5 +42,5 @@ nothing n = record {
 
 -- the answer of the call
 abbrev pub leafPart : Answer LeafChosen → LeafPart
-leafPart (done c) = partOf (c .leaf) (c .bits) (c .error) (filled (c .shown))
+leafPart (done c) = leafPartOf (c .leaf) (c .bits) (c .error) (filled (c .shown))
 leafPart (refused n) = nothing n

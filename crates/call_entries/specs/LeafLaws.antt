@@ -10,7 +10,7 @@ use Rattle.leaf.specs.LeafCall.{BlockIn, leafAnswer}
 use Rattle.leaf_call.specs.LeafAnswer.{LeafAnswered}
 use Rattle.leaf.specs.LeafForms.{leafOf}
 use Rattle.leaf_call.specs.declared.svq1_enc_leaf.LeafAnswer.{LeafAnswer}
-use Rattle.call_entries.specs.Leaf.{filled, partOf, nothing, leafPart}
+use Rattle.call_entries.specs.Leaf.{filled, leafPartOf, nothing, leafPart}
 
 -- zeros behind a front are what they were
 pub filled-back : (n : ℕ) (s : List ℕ) → length s ≡ 256 → drop n s ≡ replicate (256 - n) 0 → filled (take n s) ≡ s
@@ -24,5 +24,5 @@ module _ (b : BlockIn) (r : LeafAnswer) (a : LeafAnswered b r) where
   pub part-refused : (r .refused ≡ 0 → ⊥) → nothing (r .refused) ≡ leafPart (leafAnswer b)
   part-refused h = rw (← a .answer, ne-eqb (r .refused) 0 h)
 
-  pub part-found : r .refused ≡ 0 → length (r .samples) ≡ 256 → partOf (leafOf (r .code) (r .stages)) (r .bits) (r .error) (r .samples) ≡ leafPart (leafAnswer b)
+  pub part-found : r .refused ≡ 0 → length (r .samples) ≡ 256 → leafPartOf (leafOf (r .code) (r .stages)) (r .bits) (r .error) (r .samples) ≡ leafPart (leafAnswer b)
   part-found z size = rw (← a .answer, eq-eqb (r .refused) 0 z, filled-back (length (b .target)) (r .samples) size (a .behind))

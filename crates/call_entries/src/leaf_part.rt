@@ -5,7 +5,7 @@ ghost use lib.Dec.{eqb};
 ghost use lib.ListN.{length};
 ghost use Rattle.leaf.specs.LeafCall.{leafAnswer};
 ghost use Rattle.leaf.specs.LeafForms.{leafOf};
-ghost use Rattle.call_entries.specs.Leaf.{partOf, nothing, leafPart};
+ghost use Rattle.call_entries.specs.Leaf.{leafPartOf, nothing, leafPart};
 use super::inner::leaf_node;
 use leaf::svq1_enc_leaf::LeafCode;
 use leaf_call::svq1_enc_leaf::search_leaf;
@@ -47,7 +47,7 @@ fn found_part(
     error: u32,
     samples: [u8; 256],
 ) -> LeafPart
-    ensures { λ r. ⌜ (r ≡ partOf (leafOf code stages) bits error samples) × (length samples ≡ 256) ⌝ }
+    ensures { λ r. ⌜ (r ≡ leafPartOf (leafOf code stages) bits error samples) × (length samples ≡ 256) ⌝ }
 {
     let leaf = leaf_node(code, stages);
     let front = leaf.stages;

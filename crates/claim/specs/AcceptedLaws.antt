@@ -17,10 +17,10 @@ use Rattle.macroblock.specs.MacroblockLaws.{Fine}
 use Rattle.macroblock.specs.Slices.{Slices}
 use Rattle.plane.specs.Refusals.{slicesRefusal, writeRefusal}
 use Rattle.plane.specs.RefusalsLaws.{slices-held, write-accepted}
-use Rattle.plane.specs.SlicesLaws.{Sized}
+use Rattle.plane.specs.SlicesLaws.{SizedSlices}
 use Rattle.claim.specs.Claim.{InMemory}
 
-pub record Accepted (g : Given) (t : Task) : Type 0 where
+pub record AcceptedPlane (g : Given) (t : Task) : Type 0 where
   pub fine : Fine g t
   pub wide : 0 < cols g
   pub canvas : g .reference .stride * g .reference .rows ≡ rows g * 16 * (16 * cols g)
@@ -33,7 +33,7 @@ pub record Accepted (g : Given) (t : Task) : Type 0 where
 area : (width height : ℕ) → padded16 width * padded16 height ≡ blocksAlong height * 16 * padded16 width
 area width height = mul-comm (padded16 width) (padded16 height) ∙ ap (λ (n : ℕ). n * padded16 width) (mul-comm 16 (blocksAlong height))
 
-pub accepted : (g : Given) (t : Task) (out : List ℕ) (start : ℕ) (a : Slices) → InMemory g t out start a → writeRefusal g t out start a ≡ 0 → Accepted g t
+pub accepted : (g : Given) (t : Task) (out : List ℕ) (start : ℕ) (a : Slices) → InMemory g t out start a → writeRefusal g t out start a ≡ 0 → AcceptedPlane g t
 accepted g t out start a mem e =
     let p = write-accepted g a (length out) start (length (t .source)) e .0 in
     let f = plane-passes (g .width) (g .height) (g .reference) (or-next (sizeRefusal (g .width) (g .height)) _ (p .size) ∙ p .canvas) in
@@ -48,7 +48,7 @@ accepted g t out start a mem e =
       data-passes = p .tables;
     }
 
-pub slices-sized : (g : Given) (t : Task) → Accepted g t → (d : Slices) → slicesRefusal g d ≡ 0 → Sized g d
+pub slices-sized : (g : Given) (t : Task) → AcceptedPlane g t → (d : Slices) → slicesRefusal g d ≡ 0 → SizedSlices g d
 slices-sized g t ok d e =
     let h = slices-held g d e in
     record { recon = h .recon-whole ∙ ok .canvas; blocks = h .blocks-long }

@@ -10,7 +10,6 @@ use lib.ListN.{length, take, drop, length-append, length-drop}
 use Rattle.bits.specs.Basics.{All, sum}
 use Rattle.bits.specs.Bits.{bitsOf}
 use Rattle.bits.specs.Calls.{startRefusal}
-use Rattle.book.specs.BookLaws.{data-passes}
 use Rattle.leaf.specs.Leaf.{sse}
 use Rattle.mv_cache.specs.Grid.{part}
 use Rattle.mv_cache.specs.GridLaws.{part-own, part-other, agree-whole, agree-take}
@@ -33,13 +32,13 @@ use Rattle.plane.specs.Plane.{count, Writing, wrote, wroteWeight, wroteBits, wr
 use Rattle.plane.specs.Refusals.{slicesRefusal}
 use Rattle.plane.specs.RefusalsLaws.{lent-passes, read-passes, results-pass}
 use Rattle.plane.specs.LimitLaws.{skip-rest-at}
-use Rattle.plane.specs.SlicesLaws.{Sized, holds-recon, laid-sized, ranged-laid, Alike, alike-laid, alike-near, laid-past}
+use Rattle.plane.specs.SlicesLaws.{SizedSlices, holds-recon, laid-sized, ranged-laid, Alike, alike-laid, alike-near, laid-past}
 use Rattle.claim.specs.SumLaws.{sse-blocks}
 use Rattle.claim.specs.OutputLaws.{reached, appended, held, before, stands-in}
 use Rattle.claim.specs.Claim.{ReadBack, stateAt, final, modeCost, Claimed}
-use Rattle.claim.specs.AcceptedLaws.{Accepted, accepted, slices-sized, padded-size}
+use Rattle.claim.specs.AcceptedLaws.{AcceptedPlane, accepted, slices-sized, padded-size}
 
-module _ (g : Given) (t : Task) (ok : Accepted g t) (out : List ℕ) (start : ℕ) (a : Slices) (sized : Sized g a)
+module _ (g : Given) (t : Task) (ok : AcceptedPlane g t) (out : List ℕ) (start : ℕ) (a : Slices) (sized : SizedSlices g a)
     (whole : writePlane g t (bitsOf out) start a .refusal ≡ 0) where
   abbrev S : ℕ → Writing
   S = stateAt g t out start a
@@ -61,7 +60,7 @@ module _ (g : Given) (t : Task) (ok : Accepted g t) (out : List ℕ) (start : �
   erring k = refl
 
   -- ---- the slices
-  pub sized-at : (k : ℕ) → Sized g (S k .slices)
+  pub sized-at : (k : ℕ) → SizedSlices g (S k .slices)
   unfolding after written
   sized-at zero = sized
   sized-at (suc k) = laid-sized g (ok .wide) k (W k) (S k .slices) (sized-at k)
@@ -80,7 +79,7 @@ module _ (g : Given) (t : Task) (ok : Accepted g t) (out : List ℕ) (start : �
   shownTo d zero = d
   shownTo d (suc k) = laid g k (W k) (shownTo d k)
 
-  shown-sized : (d : Slices) → Sized g d → (k : ℕ) → Sized g (shownTo d k)
+  shown-sized : (d : Slices) → SizedSlices g d → (k : ℕ) → SizedSlices g (shownTo d k)
   unfolding shownTo
   shown-sized d z zero = z
   shown-sized d z (suc k) = laid-sized g (ok .wide) k (W k) (shownTo d k) (shown-sized d z k)
@@ -88,7 +87,7 @@ module _ (g : Given) (t : Task) (ok : Accepted g t) (out : List ℕ) (start : �
   never : (j : ℕ) {X : Type 0} → j < 0 → X
   never j h = absurd (omega arith)
 
-  alike : (d : Slices) → Sized g d → (k : ℕ) → k ≤ count g → Alike g (ok .wide) k (shownTo d k) (S k .slices)
+  alike : (d : Slices) → SizedSlices g d → (k : ℕ) → k ≤ count g → Alike g (ok .wide) k (shownTo d k) (S k .slices)
   unfolding shownTo after written
   alike d z zero h = record { recon = λ j l. never _ l; blocks = λ b j l. never _ l }
   alike d z (suc k) h =
@@ -113,7 +112,7 @@ module _ (g : Given) (t : Task) (ok : Accepted g t) (out : List ℕ) (start : �
   R d k = record { next = S k .next; slices = shownTo d k }
 
   -- the reader over bits that begin as the output does
-  module _ (xs : List ℕ) (begin : take (E .next) xs ≡ take (E .next) (E .out)) (d : Slices) (z : Sized g d) where
+  module _ (xs : List ℕ) (begin : take (E .next) xs ≡ take (E .next) (E .out)) (d : Slices) (z : SizedSlices g d) where
     read-one : (k : ℕ) → k < count g → readStep g xs k (R d k) ≡ on (R d (suc k))
     unfolding readStep shownTo
     read-one k h =

@@ -9,7 +9,7 @@ use lib.Arith.{digits-div, digits-mod}
 use Rattle.bits.specs.Basics.{sum}
 use Rattle.bits.specs.SumLaws.{sum-same, sum-rows, sum-swap}
 use Rattle.leaf.specs.Leaf.{sse}
-use Rattle.leaf.specs.DistanceLaws.{square, sse-sum}
+use Rattle.leaf.specs.DistanceLaws.{squareOf, sse-sum}
 use Rattle.mv_cache.specs.Grid.{entryOf, part}
 use Rattle.mv_cache.specs.GridLaws.{length-part, part-at}
 
@@ -33,15 +33,15 @@ module _ (s cols rows : ℕ) (f : ℕ → ℕ) where
 
 module _ (s cols : ℕ) (some : 0 < s) (wide : 0 < cols) (xs ys : List ℕ) where
   -- macroblock k of both, entry by entry
-  pub sse-part : (k : ℕ) → sse (part s cols k xs) (part s cols k ys) ≡ sum (λ j. square xs ys (entryOf s cols k j)) (s * s)
+  pub sse-part : (k : ℕ) → sse (part s cols k xs) (part s cols k ys) ≡ sum (λ j. squareOf xs ys (entryOf s cols k j)) (s * s)
   sse-part k =
       let same = length-part s cols some wide k in
-      sse-sum (part s cols k xs) (part s cols k ys) (same xs ∙ sym (same ys)) ∙ ap (sum (square (part s cols k xs) (part s cols k ys))) (same xs)
+      sse-sum (part s cols k xs) (part s cols k ys) (same xs ∙ sym (same ys)) ∙ ap (sum (squareOf (part s cols k xs) (part s cols k ys))) (same xs)
       ∙ sum-same _ _ (s * s) (λ j l. rw (part-at s cols some wide k xs j l, part-at s cols some wide k ys j l))
 
   -- all macroblocks
   pub sse-blocks : (rows : ℕ) → length xs ≡ rows * s * (s * cols) → length ys ≡ rows * s * (s * cols) → sum (λ k. sse (part s cols k xs) (part s cols k ys)) (rows * cols) ≡ sse xs ys
   sse-blocks rows hx hy =
-      sum-same _ (λ k. sum (λ j. square xs ys (entryOf s cols k j)) (s * s)) (rows * cols) (λ k h. sse-part k)
-      ∙ by-blocks s cols rows (square xs ys)
-      ∙ sym (sse-sum xs ys (hx ∙ sym hy) ∙ ap (sum (square xs ys)) hx)
+      sum-same _ (λ k. sum (λ j. squareOf xs ys (entryOf s cols k j)) (s * s)) (rows * cols) (λ k h. sse-part k)
+      ∙ by-blocks s cols rows (squareOf xs ys)
+      ∙ sym (sse-sum xs ys (hx ∙ sym hy) ∙ ap (sum (squareOf xs ys)) hx)

@@ -98,11 +98,11 @@ place-of : (a j u : ℕ) → 4294967296 ≤ 2 * a + u
     → pos (2 * (a + j)) +ℤ down u ≡ pos (2 * ((2 * a + u) / 2 - 2147483648 + j) + (2 * a + u) % 2)
 place-of a j u h = pos-sub (2 * (a + j)) u 4294967296 ∙ sub-pos (2 * (a + j) + u) 4294967296 (omega arith) ∙ ap pos (omega arith)
 
-pub record Inside (h s size : ℕ) : Type 0 where
+pub record ReadsInside (h s size : ℕ) : Type 0 where
   pub low : 4294967296 ≤ h
   pub high : h / 2 - 2147483648 + h % 2 + s ≤ size
 
-pub is-inside : (h s size : ℕ) → insideUp h s size ≡ true → Inside h s size
+pub is-inside : (h s size : ℕ) → insideUp h s size ≡ true → ReadsInside h s size
 is-inside h s size e =
     let b = both-true (leb 4294967296 h) _ e in
     record { low = leb-true _ _ (b .0); high = leb-true _ _ (b .1) }
@@ -120,10 +120,10 @@ module _ (c : Canvas) (x y ux uy s cols q : ℕ) (parts : Parts s cols q) where
   abbrev y0 : ℕ
   y0 = hy / 2 - 2147483648
 
-  pub in-canvas : length (c .samples) ≡ c .stride * c .rows → Inside hx s (c .stride) → Inside hy s (c .rows) → InCanvas c s (hx % 2) (hy % 2) x0 y0
+  pub in-canvas : length (c .samples) ≡ c .stride * c .rows → ReadsInside hx s (c .stride) → ReadsInside hy s (c .rows) → InCanvas c s (hx % 2) (hy % 2) x0 y0
   in-canvas e a b = record { ox-bit = omega arith; oy-bit = omega arith; canvas-len = e; x-in = a .high; y-in = b .high }
 
-  sample-same : Inside hx s (c .stride) → Inside hy s (c .rows) → (j : ℕ) → j < s * s
+  sample-same : ReadsInside hx s (c .stride) → ReadsInside hy s (c .rows) → (j : ℕ) → j < s * s
       → cell c (hx % 2) (hy % 2) ((y0 + j / s) * c .stride + x0 + j % s) ≡ movedSample c 16 x y (downMv ux uy) (entryOf s cols q j)
   sample-same a b j h =
       let some = side-some s cols q parts in
@@ -144,7 +144,7 @@ module _ (c : Canvas) (x y ux uy s cols q : ℕ) (parts : Parts s cols q) where
       ∙ ap₂ (halfSample c) (place-of (x + q % cols * s) (j % s) ux (a .low)) (place-of (y + q / cols * s) (j / s) uy (b .low))
       ∙ e ∙ ap (cell c (hx % 2) (hy % 2)) l)
 
-  pub inside-moved : (xs : List ℕ) → Inside hx s (c .stride) → Inside hy s (c .rows)
+  pub inside-moved : (xs : List ℕ) → ReadsInside hx s (c .stride) → ReadsInside hy s (c .rows)
       → cellPart c (hx % 2) (hy % 2) x0 y0 s cols q xs ≡ movedPart c x y (downMv ux uy) s cols q xs
   unfolding cellPart movedPart
   inside-moved xs a b =

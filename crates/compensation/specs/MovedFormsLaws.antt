@@ -17,7 +17,7 @@ use Rattle.vectors.specs.declared.svq1_motion_predictor.Svq1Mv.{Svq1Mv}
 use Rattle.canvas.specs.Canvas.{Canvas}
 use Rattle.compensation.specs.Compensation.{even, clampTo, sampleAt, mean2, mean4, halfSample, movedSample}
 use Rattle.mv_cache.specs.Grid.{entryOf}
-use Rattle.mv_cache.specs.GridLaws.{Holds, in-owner}
+use Rattle.mv_cache.specs.GridLaws.{HoldsBlocks, in-owner}
 use Rattle.mv_cache.specs.PutLaws.{putTo, put-all, Steps, entry-steps}
 use Rattle.bits.specs.DifferenceLaws.{pos-sub, sub-half, sub-one}
 use Rattle.compensation.specs.MovedForms.{movedPart, Parts, down, downHalf, downMv, Lifted}
@@ -97,7 +97,7 @@ module _ (s cols q : ℕ) (p : Parts s cols q) where
       by (suc n) e = omega arith
 
   -- its entries lie among the 256
-  pub holds-part : (xs : List ℕ) → length xs ≡ 256 → Holds s cols (suc q) xs
+  pub holds-part : (xs : List ℕ) → length xs ≡ 256 → HoldsBlocks s cols (suc q) xs
   holds-part xs e j l =
       let h : j < cols * s * (s * cols) = in-owner s cols side-some cols-some cols j (omega (arith, p .inside)) in
       let w : cols * s ≡ 16 = mul-comm cols s ∙ p .across in

@@ -1,6 +1,6 @@
 -- Laws of rows read inside the canvas: there the clamp does nothing; a row by its parts; where a row ends.
 -- Assumes nothing.
-use Prim.Native.Nat.{ℕ, _+_, _-_, _*_, _/_, _%_, _<_, _≤_}
+use Prim.Native.Nat.{ℕ, _+_, _*_, _/_, _%_, _<_, _≤_}
 use mathlib.Core.Path.{_≡_, refl, ap, _∙_}
 use mathlib.Core.Bool.{Bool, true, false}
 use mathlib.Core.List.{List}
@@ -9,13 +9,13 @@ use native.Mathlib.Decide.{decLt}
 use native.Mathlib.Nat.{mul-le-mul-right, add-mul, zero-mul, one-mul, mul-comm}
 use lib.Dec.{eqb}
 use lib.IntN.{pos}
-use lib.ListN.{length, getD, take, drop, length-take, length-drop}
-use lib.Seq.{getD-drop, getD-take}
+use lib.ListN.{length, getD}
 use borrow.Author.Tests.{lt-ltb, eq-eqb, ne-eqb, eqb-false}
 use Rattle.compensation.specs.declared.svq1_enc_inter.inner.Taken.{Taken}
 use Rattle.canvas.specs.Canvas.{Canvas}
 use Rattle.compensation.specs.Compensation.{sampleAt, halfSample}
 use Rattle.compensation.specs.RowForms.{against, againstTwo, againstFour, cell, cells, ReadIn, Summed}
+use Rattle.bits.specs.FillLaws.{runOf, run-at}
 use Rattle.bits.specs.SumLaws.{sum-same}
 
 -- ---- inside the canvas
@@ -94,43 +94,33 @@ target-fits n i h =
 pub one-of : (o s : ℕ) → (o ≡ 0 → ⊥) → o < 2 → o * s ≡ s
 one-of o s h k = let e : o ≡ 1 = omega arith in rw e (one-mul s)
 
--- ---- parts of a list, as the code lends them
-abbrev pub partOf : List ℕ → ℕ → ℕ → List ℕ
-partOf xs a n = take (a + n - a) (drop a xs)
-
-pub part-len : (xs : List ℕ) (a n : ℕ) → a + n ≤ length xs → length (partOf xs a n) ≡ n
-part-len xs a n h = simp (length-take, length-drop) (omega arith)
-
-pub part-at : (xs : List ℕ) (a n j : ℕ) → j < n → getD (partOf xs a n) j 0 ≡ getD (drop a xs) j 0
-part-at xs a n j h = let e : a + n - a ≡ n = omega arith in rw e (rw getD-take)
-
 -- ---- a row at a full sample, between columns, between rows, and between both
 module _ (t : List ℕ) (c : Canvas) (n ox oy ti p : ℕ) where
-  pub row-full : ox ≡ 0 → oy ≡ 0 → against (partOf t ti n) (partOf (c .samples) p n) n ≡ cells t c n ox oy ti p
+  pub row-full : ox ≡ 0 → oy ≡ 0 → against (runOf t ti n) (runOf (c .samples) p n) n ≡ cells t c n ox oy ti p
   unfolding cell
-  row-full e f = sum-same _ _ n (λ k h. simp (eq-eqb ox 0 e, eq-eqb oy 0 f, part-at t ti n k h, part-at (c .samples) p n k h, getD-drop))
+  row-full e f = sum-same _ _ n (λ k h. simp (eq-eqb ox 0 e, eq-eqb oy 0 f, run-at t ti n k h, run-at (c .samples) p n k h))
 
   pub row-two : ox < 2 → oy < 2 → ox + oy ≡ 1
-      → againstTwo (partOf t ti n) (partOf (c .samples) p n) (partOf (c .samples) (p + oy * c .stride + ox) n) n ≡ cells t c n ox oy ti p
+      → againstTwo (runOf t ti n) (runOf (c .samples) p n) (runOf (c .samples) (p + oy * c .stride + ox) n) n ≡ cells t c n ox oy ti p
   unfolding cell
   row-two bx by one = go (decLt ox 1)
     where
-      go : Dec (ox < 1) → againstTwo (partOf t ti n) (partOf (c .samples) p n) (partOf (c .samples) (p + oy * c .stride + ox) n) n ≡ cells t c n ox oy ti p
+      go : Dec (ox < 1) → againstTwo (runOf t ti n) (runOf (c .samples) p n) (runOf (c .samples) (p + oy * c .stride + ox) n) n ≡ cells t c n ox oy ti p
       go (yes l) =
           let x : ox ≡ 0 = omega arith in
           let z : oy * c .stride ≡ c .stride = one-of oy (c .stride) (λ e. omega arith) by in
           sum-same _ _ n (λ k h.
           let q : p + oy * c .stride + ox + k ≡ p + k + c .stride = omega arith in
-          simp (eq-eqb ox 0 x, ne-eqb oy 0 (λ e. omega arith), part-at t ti n k h, part-at (c .samples) p n k h, part-at (c .samples) (p + oy * c .stride + ox) n k h, getD-drop, q))
+          simp (eq-eqb ox 0 x, ne-eqb oy 0 (λ e. omega arith), run-at t ti n k h, run-at (c .samples) p n k h, run-at (c .samples) (p + oy * c .stride + ox) n k h, q))
       go (no l) =
           let y : oy ≡ 0 = omega arith in
           let z : oy * c .stride ≡ 0 = rw y (zero-mul (c .stride)) in
           sum-same _ _ n (λ k h.
           let q : p + oy * c .stride + ox + k ≡ p + k + 1 = omega arith in
-          simp (ne-eqb ox 0 (λ e. omega arith), eq-eqb oy 0 y, part-at t ti n k h, part-at (c .samples) p n k h, part-at (c .samples) (p + oy * c .stride + ox) n k h, getD-drop, q))
+          simp (ne-eqb ox 0 (λ e. omega arith), eq-eqb oy 0 y, run-at t ti n k h, run-at (c .samples) p n k h, run-at (c .samples) (p + oy * c .stride + ox) n k h, q))
 
   pub row-four : ox ≡ 1 → oy ≡ 1
-      → againstFour (partOf t ti n) (partOf (c .samples) p n) (partOf (c .samples) (p + ox) n) (partOf (c .samples) (p + oy * c .stride) n) (partOf (c .samples) (p + oy * c .stride + ox) n) n
+      → againstFour (runOf t ti n) (runOf (c .samples) p n) (runOf (c .samples) (p + ox) n) (runOf (c .samples) (p + oy * c .stride) n) (runOf (c .samples) (p + oy * c .stride + ox) n) n
       ≡ cells t c n ox oy ti p
   unfolding cell
   row-four x y =
@@ -139,7 +129,7 @@ module _ (t : List ℕ) (c : Canvas) (n ox oy ti p : ℕ) where
       let r : p + ox + k ≡ p + k + 1 = omega arith in
       let q : p + oy * c .stride + k ≡ p + k + c .stride = omega arith in
       let s : p + oy * c .stride + ox + k ≡ p + k + c .stride + 1 = omega arith in
-      simp (ne-eqb ox 0 (λ e. omega arith), ne-eqb oy 0 (λ e. omega arith), part-at t ti n k h, part-at (c .samples) p n k h, part-at (c .samples) (p + ox) n k h, part-at (c .samples) (p + oy * c .stride) n k h, part-at (c .samples) (p + oy * c .stride + ox) n k h, getD-drop, q, r, s))
+      simp (ne-eqb ox 0 (λ e. omega arith), ne-eqb oy 0 (λ e. omega arith), run-at t ti n k h, run-at (c .samples) p n k h, run-at (c .samples) (p + ox) n k h, run-at (c .samples) (p + oy * c .stride) n k h, run-at (c .samples) (p + oy * c .stride + ox) n k h, q, r, s))
 
 -- ---- row i of a block that is read inside the canvas
 pub record RowIn (t : List ℕ) (c : Canvas) (n ox oy x0 y0 i : ℕ) : Type 0 where

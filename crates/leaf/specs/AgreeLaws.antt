@@ -28,8 +28,8 @@ use Rattle.leaf.specs.declared.svq1_enc_leaf.LeafCode.{LeafCode}
 use Rattle.leaf.specs.declared.svq1_enc_leaf.LeafTerms.{LeafTerms}
 
 -- the same sixteen vectors in each of the first n stages
-abbrev pub Agree : ℕ → Vectors → Vectors → Type 0
-Agree n vs ws = (s j : ℕ) → s < n → j < 16 → vs s j ≡ ws s j
+abbrev pub VectorsAgree : ℕ → Vectors → Vectors → Type 0
+VectorsAgree n vs ws = (s j : ℕ) → s < n → j < 16 → vs s j ≡ ws s j
 
 argmin-same : (f g : ℕ → ℕ) (k : ℕ) → ((j : ℕ) → j ≤ k → f j ≡ g j) → argmin f k ≡ argmin g k
 unfolding argmin
@@ -38,7 +38,7 @@ argmin-same f g (suc k) h =
     let e = argmin-same f g k (λ j l. h j (omega arith)) in
     rw (e, h (suc k) (omega arith), h (argmin g k) (omega (arith, argmin-le g k)))
 
-module _ (n : ℕ) (vs ws : Vectors) (same : Agree n vs ws) where
+module _ (n : ℕ) (vs ws : Vectors) (same : VectorsAgree n vs ws) where
   error-same : (t : List ℕ) (s : ℕ) (z : List ℤ) (j : ℕ) → s < n → j < 16 → stageError vs t s z j ≡ stageError ws t s z j
   unfolding stageError
   error-same t s z j h l = rw (same s j h l)
@@ -75,7 +75,7 @@ module _ (n : ℕ) (vs ws : Vectors) (same : Agree n vs ws) where
   unfolding leafShown
   shown-same p m js h l = ap samples (staged-same js 0 (seeded m p) (omega arith) l)
 
-module _ (terms : LeafTerms) (vs ws : Vectors) (same : Agree (terms .cap) vs ws) (t p : List ℕ) where
+module _ (terms : LeafTerms) (vs ws : Vectors) (same : VectorsAgree (terms .cap) vs ws) (t p : List ℕ) where
   abbrev n : ℕ
   n = terms .cap
 
@@ -109,10 +109,10 @@ module _ (terms : LeafTerms) (vs ws : Vectors) (same : Agree (terms .cap) vs ws)
 -- ---- the raised codebook
 -- a level's open stages hold the same vectors in the codebook and in its copy; at L4 and L5 no stage is open
 pub page-agrees : (codebook : List ℕ) → Bytes codebook → (h : Svq1Half) (d cap : ℕ) → cap ≤ 6
-    → Agree (capAt d cap) (vectorsIn (raisedCodebook codebook) (pageStart h d) (area d)) (vectorAt codebook h d)
+    → VectorsAgree (capAt d cap) (vectorsIn (raisedCodebook codebook) (pageStart h d) (area d)) (vectorAt codebook h d)
 page-agrees codebook bytes h d cap most = go (decLt d 4)
   where
-    go : Dec (d < 4) → Agree (capAt d cap) (vectorsIn (raisedCodebook codebook) (pageStart h d) (area d)) (vectorAt codebook h d)
+    go : Dec (d < 4) → VectorsAgree (capAt d cap) (vectorsIn (raisedCodebook codebook) (pageStart h d) (area d)) (vectorAt codebook h d)
     go (yes l) = rw (lt-ltb d 4 l) (λ s j a b. sym (vectors-raised codebook bytes h d s j l (omega arith) b))
     go (no l) = rw (le-ltb d 4 (omega arith)) (λ s j a b. absurd (omega arith))
 
@@ -136,7 +136,7 @@ pub leaf-found : (codebook : List ℕ) → Bytes codebook → (terms : LeafTerms
 leaf-found codebook bytes terms d t p code js e out most size c =
     let vs = vectorsIn (raisedCodebook codebook) (pageStart (terms .half) d) (length t) in
     let ws = vectorAt codebook (terms .half) d in
-    let same : Agree (capAt d (terms .cap)) vs ws = rw size (page-agrees codebook bytes (terms .half) d (terms .cap) most) in
+    let same : VectorsAgree (capAt d (terms .cap)) vs ws = rw size (page-agrees codebook bytes (terms .half) d (terms .cap) most) in
     let shown = rule-shown-same (termsAt d terms) vs ws same t p in
     record {
       leaf = c .leaf ∙ rule-same (termsAt d terms) vs ws same t p;

@@ -10,15 +10,16 @@ use Rattle.bits.specs.Basics.{Bytes, gap, sum}
 use Rattle.bits.specs.SumLaws.{sum-first}
 use Rattle.leaf.specs.Leaf.{sse}
 
-abbrev pub square : List ℕ → List ℕ → ℕ → ℕ
-square xs ys j = gap (getD xs j 0) (getD ys j 0) * gap (getD xs j 0) (getD ys j 0)
+-- the squared distance at place j
+abbrev pub squareOf : List ℕ → List ℕ → ℕ → ℕ
+squareOf xs ys j = gap (getD xs j 0) (getD ys j 0) * gap (getD xs j 0) (getD ys j 0)
 
-pub sse-sum : (xs ys : List ℕ) → length xs ≡ length ys → sse xs ys ≡ sum (square xs ys) (length xs)
+pub sse-sum : (xs ys : List ℕ) → length xs ≡ length ys → sse xs ys ≡ sum (squareOf xs ys) (length xs)
 unfolding sse sum
 sse-sum [] ys h = refl
 sse-sum (x ∷ xs) [] h = absurd (omega arith)
 sse-sum (x ∷ xs) (y ∷ ys) h =
-    ap (λ (n : ℕ). gap x y * gap x y + n) (sse-sum xs ys (omega arith)) ∙ sym (sum-first (square (x ∷ xs) (y ∷ ys)) (length xs))
+    ap (λ (n : ℕ). gap x y * gap x y + n) (sse-sum xs ys (omega arith)) ∙ sym (sum-first (squareOf (x ∷ xs) (y ∷ ys)) (length xs))
 
 -- of two bytes, and of n bytes from n others
 pub gap-most : (x y : ℕ) → x < 256 → y < 256 → gap x y * gap x y ≤ 65025

@@ -29,9 +29,9 @@ pub record Coded (T : Tables) (d : ℕ) (m : ℤ) (js : List ℕ) : Type 0 where
   pub bare : 4 ≤ d → length js ≡ 0
   pub small : (k : ℕ) → getD js k 0 < 16
 
-abbrev pub Allowed : Tables → ℕ → Leaf → Type 0
-Allowed T d skip = T .half ≡ Inter
-Allowed T d (coded m js) = Coded T d m js
+abbrev pub AllowedLeaf : Tables → ℕ → Leaf → Type 0
+AllowedLeaf T d skip = T .half ≡ Inter
+AllowedLeaf T d (coded m js) = Coded T d m js
 
 -- ---- reading what was written
 read-stages : (js r : List ℕ) → ((k : ℕ) → getD js k 0 < 16) → readStages (length js) (stageBits js ++ r) ≡ got js r
@@ -44,7 +44,7 @@ bare-passes : (d n : ℕ) → (4 ≤ d → n ≡ 0) → ltb 3 d && ltb 0 n ≡ f
 bare-passes d n h = elim (decLt 3 d) [ yes a ↦ rw (lt-ltb 3 d a, h a) | no a ↦ rw (le-ltb 3 d (omega arith)) ]
 
 -- a leaf's bits, with anything behind them, read as the leaf
-pub read-leaf : (T : Tables) → GoodTables T → (d : ℕ) (l : Leaf) (r : List ℕ) → d ≤ 5 → Allowed T d l → readLeaf T d (leafBits T d l ++ r) ≡ got l r
+pub read-leaf : (T : Tables) → GoodTables T → (d : ℕ) (l : Leaf) (r : List ℕ) → d ≤ 5 → AllowedLeaf T d l → readLeaf T d (leafBits T d l ++ r) ≡ got l r
 unfolding readLeaf leafBits readRest
 read-leaf T g d skip r h a = rw (take-code (T .stage d) 0 r (g .stage-free d h) (omega (arith, g .stage-count d h)), a)
 read-leaf T g d (coded m js) r h a =
@@ -73,7 +73,7 @@ pub length-leaf : (T : Tables) (d : ℕ) (m : ℤ) (js : List ℕ)
 unfolding leafBits
 length-leaf T d m js = simp (length-append, length-stages) (omega arith)
 
-pub leaf-most : (T : Tables) → GoodTables T → (d : ℕ) (l : Leaf) → d ≤ 5 → Allowed T d l → length (leafBits T d l) ≤ 88
+pub leaf-most : (T : Tables) → GoodTables T → (d : ℕ) (l : Leaf) → d ≤ 5 → AllowedLeaf T d l → length (leafBits T d l) ≤ 88
 unfolding leafBits
 leaf-most T g d skip h a = omega (arith, g .stage-most d 0 h)
 leaf-most T g d (coded m js) h a =

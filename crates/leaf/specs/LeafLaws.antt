@@ -20,7 +20,7 @@ use Rattle.book.specs.declared.svq1_vlc.Svq1Half.the-variants.{Intra, Inter}
 use Rattle.codebook.specs.Codebook.{vectorAt}
 use Rattle.codebook.specs.Mean.{residual, rounded, clampMean, meanOf, meanPosition, meanAt, saturate}
 use Rattle.leaf.specs.Leaf.{Leaf, skip, coded, Vectors, sse, plus, seeded, staged, samples, leafShown, argmin, stageError, bestVector, stages, codedLeaf, leafRule, capAt, termsAt}
-use Rattle.leaf.specs.LeafBitsLaws.{Allowed}
+use Rattle.leaf.specs.LeafBitsLaws.{AllowedLeaf}
 use Rattle.leaf.specs.declared.svq1_enc_leaf.LeafTerms.{LeafTerms}
 
 -- ---- where the error is 0 already no stage stays
@@ -109,7 +109,7 @@ capped d cap h =
 
 -- by tables of the terms' half
 module _ (T : Tables) (vs : Vectors) (d : ℕ) (terms : LeafTerms) (t p : List ℕ) (same : T .half ≡ terms .half) (most : terms .cap ≤ 6) where
-  pub coded-allowed : Allowed T d (codedLeaf (termsAt d terms) vs t p)
+  pub coded-allowed : AllowedLeaf T d (codedLeaf (termsAt d terms) vs t p)
   unfolding codedLeaf meanOf
   coded-allowed =
       let z = rounded (residual t p) (length t) in
@@ -125,21 +125,21 @@ module _ (T : Tables) (vs : Vectors) (d : ℕ) (terms : LeafTerms) (t p : List �
         small = stages-small vs t n 0 (seeded m p);
       }
 
-  pub rule-allowed : (terms .skip ≡ true → terms .half ≡ Inter) → Allowed T d (leafRule (termsAt d terms) vs t p)
+  pub rule-allowed : (terms .skip ≡ true → terms .half ≡ Inter) → AllowedLeaf T d (leafRule (termsAt d terms) vs t p)
   unfolding leafRule
   rule-allowed o = go (terms .skip) (leb (sse t p) (sse t (leafShown vs p (codedLeaf (termsAt d terms) vs t p)))) o
     where
-      go : (f q : Bool) → (f ≡ true → terms .half ≡ Inter) → Allowed T d (pick (f && q) skip (codedLeaf (termsAt d terms) vs t p))
+      go : (f q : Bool) → (f ≡ true → terms .half ≡ Inter) → AllowedLeaf T d (pick (f && q) skip (codedLeaf (termsAt d terms) vs t p))
       go true true o = same ∙ o refl
       go true false o = coded-allowed
       go false q o = coded-allowed
 
 -- ---- as many samples as the block has, all of them bytes
 -- every vector has n samples
-abbrev pub Sized : Vectors → ℕ → Type 0
-Sized vs n = (s j : ℕ) → length (vs s j) ≡ n
+abbrev pub SizedLeaf : Vectors → ℕ → Type 0
+SizedLeaf vs n = (s j : ℕ) → length (vs s j) ≡ n
 
-pub vectors-sized : (codebook : List ℕ) (h : Svq1Half) (d : ℕ) → Sized (vectorAt codebook h d) (area d)
+pub vectors-sized : (codebook : List ℕ) (h : Svq1Half) (d : ℕ) → SizedLeaf (vectorAt codebook h d) (area d)
 unfolding vectorAt
 vectors-sized codebook h d s j = length-values _ (area d) 0
 
@@ -149,7 +149,7 @@ length-plus [] ys e = refl
 length-plus (x ∷ xs) [] e = absurd (omega arith)
 length-plus (x ∷ xs) (y ∷ ys) e = ap suc (length-plus xs ys (omega arith))
 
-pub length-staged : (vs : Vectors) (n s : ℕ) (z : List ℤ) (js : List ℕ) → Sized vs n → length z ≡ n → length (staged vs s z js) ≡ n
+pub length-staged : (vs : Vectors) (n s : ℕ) (z : List ℤ) (js : List ℕ) → SizedLeaf vs n → length z ≡ n → length (staged vs s z js) ≡ n
 unfolding staged
 length-staged vs n s z [] f e = e
 length-staged vs n s z (j ∷ js) f e =
@@ -163,7 +163,7 @@ pub length-seeded : (m : ℤ) (p : List ℕ) → length (seeded m p) ≡ length 
 unfolding seeded
 length-seeded m p = length-map p _
 
-pub length-shown : (vs : Vectors) (p : List ℕ) (l : Leaf) → Sized vs (length p) → length (leafShown vs p l) ≡ length p
+pub length-shown : (vs : Vectors) (p : List ℕ) (l : Leaf) → SizedLeaf vs (length p) → length (leafShown vs p l) ≡ length p
 unfolding leafShown
 length-shown vs p skip f = refl
 length-shown vs p (coded m js) f =

@@ -22,7 +22,7 @@ use Rattle.book.specs.declared.svq1_vlc.Svq1Half.{Svq1Half}
 use Rattle.codebook.specs.Mean.{meanPosition}
 use Rattle.leaf.specs.Leaf.{Leaf, skip, coded}
 use Rattle.leaf.specs.LeafBits.{stageBits, leafBits}
-use Rattle.leaf.specs.LeafBitsLaws.{Allowed, length-leaf}
+use Rattle.leaf.specs.LeafBitsLaws.{AllowedLeaf, length-leaf}
 use Rattle.leaf.specs.LeafForms.{leafOf}
 use Rattle.leaf.specs.LentNeeds.{lentTables, lentBits, LentTables, CodeFits, Clean}
 use Rattle.leaf.specs.declared.svq1_enc_leaf.LeafCode.{LeafCode}
@@ -45,7 +45,7 @@ book-tables book e h d l =
     record { stage-size = s .size; stage-good = s .good; means = record { size = m .size; good = m .good } }
 
 -- a leaf that may stand somewhere has a mean with an entry
-pub allowed-fits : (T : Tables) (d : ℕ) (c : LeafCode) (js : List ℕ) → Allowed T d (leafOf c js) → CodeFits (T .half) c
+pub allowed-fits : (T : Tables) (d : ℕ) (c : LeafCode) (js : List ℕ) → AllowedLeaf T d (leafOf c js) → CodeFits (T .half) c
 allowed-fits T d Skip js a = tt
 allowed-fits T d (Coded m n) js a = a .place
 
@@ -83,7 +83,7 @@ entry t n k g s h =
     record { there = there; long = good-is t g .long k there }
 
 -- what writing the parts of a coded leaf asks
-pub record Parts (stage mean : List ℕ) (n k bytes at : ℕ) : Type 0 where
+pub record LeafParts (stage mean : List ℕ) (n k bytes at : ℕ) : Type 0 where
   pub stage-entry : GoodEntry stage (n + 1)
   pub mean-entry : GoodEntry mean k
   pub whole : Fits bytes at (codeLen stage (n + 1) + codeLen mean k + 4 * n)
@@ -107,7 +107,7 @@ module _ (h : Svq1Half) (stage mean js : List ℕ) (t : LentTables h stage mean)
       length-leaf (lentTables h stage mean) 0 m (take count js)
       ∙ rw (few-length js count six, ← counted, ← placed, ← add-one, code-length stage (n + 1) (stage-entry .there), code-length mean k (mean-entry .there))
 
-  pub coded-parts : (bytes at : ℕ) → Fits bytes at (length (lentBits h stage mean (leafOf (Coded m count) js))) → Parts stage mean n k bytes at
+  pub coded-parts : (bytes at : ℕ) → Fits bytes at (length (lentBits h stage mean (leafOf (Coded m count) js))) → LeafParts stage mean n k bytes at
   coded-parts bytes at f = record { stage-entry = stage-entry; mean-entry = mean-entry; whole = rw coded-size at f }
 
   -- the parts, written one behind the other

@@ -62,7 +62,7 @@ pub fits-is : (b : BlockIn) → blockOk b ≡ blockFits (b .level) (b .half) (le
 unfolding blockOk blockFits
 fits-is b = refl
 
-pub record Passes (b : BlockIn) : Type 0 where
+pub record BlockPasses (b : BlockIn) : Type 0 where
   pub codebook : length (b .codebook) ≡ codebookBytes
   pub book : bookRefusal (b .book) ≡ 0
   pub level : b .level ≤ 5
@@ -77,7 +77,7 @@ skips true zero e q = let z : false ≡ true = e in absurd (let n : _≡_ {A = �
 skips true (suc h) e q = refl
 skips false h e q = absurd (let n : _≡_ {A = ℕ} 0 1 = cc in omega arith)
 
-pub block-passes : (b : BlockIn) → blockRefusal b ≡ 0 → Passes b
+pub block-passes : (b : BlockIn) → blockRefusal b ≡ 0 → BlockPasses b
 unfolding blockRefusal blockOk
 block-passes b e =
     let two = or-none (dataRefusal (b .book) (b .codebook)) (unless (blockOk b) 8) e in

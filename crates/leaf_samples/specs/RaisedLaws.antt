@@ -48,7 +48,7 @@ vector-at (x ∷ a) (y ∷ w) b (suc i) h e l =
     let r = vector-at a w b i (omega arith) (omega arith) l in
     (omega (arith, r .0), r .1)
 
--- ---- 128, which a vector's zero is kept as, over and over
+-- ---- lists of 128, which is what a vector's zero is kept as
 pub alike-below : (n m v i : ℕ) → getD (take n (replicate m v)) i 0 ≤ v
 alike-below zero m v i = omega arith
 alike-below (suc n) zero v i = omega arith

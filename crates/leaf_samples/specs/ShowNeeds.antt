@@ -17,7 +17,7 @@ pub record MeanKnown (h : Svq1Half) (m : ℤ) : Type 0 where
   pub back : meanAt h (meanPosition h m) ≡ m
 
 -- a predictor of at most 256 samples, and room for as many sums and samples
-pub record Sized (p a out : List ℕ) : Type 0 where
+pub record SizedSums (p a out : List ℕ) : Type 0 where
   pub few : length p ≤ 256
   pub sums : length a ≡ length p
   pub shown : length out ≡ length p

@@ -18,7 +18,8 @@ use Rattle.leaf_search.specs.StagesNeeds.{StageSearch, vectorsFor, stage
 abbrev left : StageSearch → ℕ → List ℤ → List ℕ
 left q k z = stages (vectorsFor q) (q .target) (q .cap - k) k z
 
-pub record Going (q : StageSearch) (a index : List ℕ) (count at p least : ℕ) : Type 0 where
+-- after `count` stages: their indices, the sums with their vectors added, each kept plus p, and the least error
+pub record StagesGoing (q : StageSearch) (a index : List ℕ) (count at p least : ℕ) : Type 0 where
   pub within : count ≤ q .cap
   pub same : length a ≡ length (q .target)
   pub six : length index ≡ 6
@@ -30,7 +31,7 @@ pub record Going (q : StageSearch) (a index : List ℕ) (count at p least : ℕ)
   pub found : least ≡ sse (q .target) (samples (less p a))
   pub behind : drop count index ≡ replicate (6 - count) 0
 
-module _ {q : StageSearch} {a index : List ℕ} {count at p least : ℕ} (g : Going q a index count at p least) where
+module _ {q : StageSearch} {a index : List ℕ} {count at p least : ℕ} (g : StagesGoing q a index count at p least) where
   -- what is there is what is handed back
   ended : left q count (less p a) ≡ [] → Searched q a (record { count = count; error = least; index = index })
   unfolding staged
@@ -95,7 +96,7 @@ module _ {q : StageSearch} {a index : List ℕ} {count at p least : ℕ} (g : Go
           let rest : drop (suc count) index ≡ replicate (6 - (count + 1)) 0 = cc in
           drop-set-lt (count + 1) index count j (omega arith) ∙ ap (λ (k : ℕ). drop k index) (add-one count) ∙ rest
 
-      pub taken : Going q a′ (set index count j) (count + 1) (at + length (q .target) * 16) (p + 128) e
+      pub taken : StagesGoing q a′ (set index count j) (count + 1) (at + length (q .target) * 16) (p + 128) e
       unfolding vectorError
       taken =
           record {

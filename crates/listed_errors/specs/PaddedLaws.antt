@@ -11,7 +11,7 @@ use Rattle.bits.specs.Basics.{gap, sum}
 use Rattle.bits.specs.SumLaws.{sum-same, sum-le, sum-each-le, sum-add, sum-rows, sum-swap}
 use Rattle.canvas.specs.Canvas.{blocksAlong, padded16}
 use Rattle.leaf.specs.Leaf.{sse}
-use Rattle.leaf.specs.DistanceLaws.{square}
+use Rattle.leaf.specs.DistanceLaws.{squareOf}
 use Rattle.mv_cache.specs.Grid.{entryOf, part}
 use Rattle.macroblock.specs.Choice.{paddedSource, targetOf}
 use Rattle.macroblock.specs.SourceLaws.{padded-at}
@@ -89,7 +89,7 @@ module _ (s : ShownPlane) where
 
     -- ---- the padded one, sample by sample
     sample : (j i : ℕ) → j < 16 → i < 16
-        → square (paddedSource (s .width) (s .height) (s .source)) (s .recon .samples) (entryOf 16 (blocksAlong (s .width)) k (j * 16 + i)) ≡ paddedAt s (left + i) (top + j)
+        → squareOf (paddedSource (s .width) (s .height) (s .source)) (s .recon .samples) (entryOf 16 (blocksAlong (s .width)) k (j * 16 + i)) ≡ paddedAt s (left + i) (top + j)
     unfolding paddedAt
     sample j i hj hi =
         let row : k / blocksAlong (s .width) * 16 + (j * 16 + i) / 16 ≡ top + j = omega arith in

@@ -1,4 +1,4 @@
--- The lines of a listing as they are written, from numbers (document 01, "Refused for the state met", the listing program).
+-- The lines of a listing as they are written, from numbers (document 01, "Refused for the state met", the listing program; document 02, §1).
 use Prim.Native.Nat.{ℕ, zero, suc, _+_, _*_, _/_, _%_, _≤_}
 use mathlib.Core.Path.{_≡_}
 use mathlib.Core.List.{List, [], _∷_, _++_}

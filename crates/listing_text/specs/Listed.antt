@@ -1,4 +1,4 @@
--- The listing as a call: the room that it needs, its parts as they are computed, and what it leaves (document 01, "Refused for the state met", the listing program).
+-- The listing as a call: the room that it needs, its parts as they are computed, and what it leaves (document 01, "Refused for the state met", the listing program; document 02, §1).
 use Prim.Native.Nat.{ℕ, _*_, _≤_}
 use mathlib.Core.Path.{_≡_}
 use mathlib.Core.List.{List, _++_}
@@ -69,7 +69,7 @@ pub record EmptyFor (g : Given) (l : Lent) (stated : List ℕ) : Type 0 where
   pub numbers : length stated ≡ 3 * mostBlocks
 
 -- a plane written as far as r says: what it shows, and what was stated of its macroblocks
-pub record ListedEnd (s : ShownPlane) (stated : List ℕ) (r : WriteEnd) : Type 0 where
+pub record ListedReady (s : ShownPlane) (stated : List ℕ) (r : WriteEnd) : Type 0 where
   pub fits : Showable s
   pub done : r .done ≤ shownBlocks s
   pub few : shownBlocks s ≤ mostBlocks

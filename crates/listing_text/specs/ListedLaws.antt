@@ -23,7 +23,7 @@ use Rattle.macroblock.specs.Choice.{Task}
 use Rattle.macroblock.specs.Slices.{Slices, slicesBy, Lent, lentBy}
 use Rattle.plane_enc.specs.declared.svq1_enc_inter.WriteEnd.{WriteEnd}
 use Rattle.plane.specs.Run.{End, after}
-use Rattle.plane.specs.RunLaws.{Stands, run-stands}
+use Rattle.plane.specs.RunLaws.{RunStands, run-stands}
 use Rattle.plane.specs.Plane.{count, Writing, stepStated, fits, written, toWrite, writePlane, writingAt}
 use Rattle.plane.specs.Refusals.{writeRefusal}
 use Rattle.plane.specs.RefusalsLaws.{write-accepted}
@@ -35,7 +35,7 @@ use Rattle.visible_error.specs.Visible.{ShownPlane, visibleError, visibleTotal}
 use Rattle.listing_text.specs.Listing.{outputBytes, modeName, noSlices, planeShowing, listedEnd, listedPlane, macroblockLine, linesTo, totalLine, refusedText, textWith, textInto, planeText}
 use Rattle.listing_text.specs.LineForms.{ListedPut, nameAt, lineText, listingLineAt, linesFrom}
 use Rattle.listing_text.specs.LineFormsLaws.{put-two}
-use Rattle.listing_text.specs.Listed.{listingRoom, mostBlocks, Listable, Fresh, EmptyFor, ListedEnd, endText}
+use Rattle.listing_text.specs.Listed.{listingRoom, mostBlocks, Listable, Fresh, EmptyFor, ListedReady, endText}
 use Rattle.listing_text.specs.FilesLaws.{count-small, area-small}
 
 -- ---- what is stated of the macroblocks gives their lines
@@ -101,7 +101,7 @@ module _ (g : Given) (t : Task) (out : List ℕ) (passes : writeRefusal g t out 
   abbrev shown : ShownPlane
   shown = listedPlane g t (bitsOf out)
 
-  stands : Stands 22 (fits g t) (written g t) (toWrite (bitsOf out) 0 (noSlices g)) (0 + count g) end
+  stands : RunStands 22 (fits g t) (written g t) (toWrite (bitsOf out) 0 (noSlices g)) (0 + count g) end
   unfolding writePlane after
   stands = run-stands 22 (fits g t) (written g t) (toWrite (bitsOf out) 0 (noSlices g)) (count g) 0
 
@@ -165,9 +165,7 @@ module _ (s : ShownPlane) (stated : List ℕ) (e : WriteEnd) (bytes : List ℕ) 
 
 -- ---- a plane of the program's sizes in its own slices
 pub record Sizes (g : Given) : Type 0 where
-  pub cols-are : g .reference .stride / 16 ≡ cols g
   pub blocks-are : g .reference .rows / 16 * (g .reference .stride / 16) ≡ count g
-  pub some-cols : 0 < cols g
   pub few-blocks : count g ≤ mostBlocks
   pub small-area : g .reference .stride * g .reference .rows ≤ mostWidth * mostHeight
 
@@ -188,9 +186,7 @@ module _ (g : Given) (t : Task) (ok : Listable g t) where
       let wide : g .reference .stride / 16 ≡ cols g = omega (arith, fit .stride) in
       let high : g .reference .rows / 16 ≡ rows g = omega (arith, fit .rows) in
       record {
-        cols-are = wide;
         blocks-are = rw (wide, high);
-        some-cols = omega (arith, fit .width .some);
         few-blocks = count-small (g .width) (g .height) (ok .wide) (ok .high);
         small-area = rw (fit .stride, fit .rows) (area-small (g .width) (g .height) (ok .wide) (ok .high));
       }
@@ -234,7 +230,7 @@ module _ (g : Given) (t : Task) (ok : Listable g t) where
     abbrev showing : ShownPlane
     showing = planeShowing g t (left .slices .recon)
 
-    pub plane-ended : length (left .slices .recon) ≡ length (l .slices .recon) → length stated ≡ length held → ListedEnd showing stated r
+    pub plane-ended : length (left .slices .recon) ≡ length (l .slices .recon) → length stated ≡ length held → ListedReady showing stated r
     plane-ended e n =
         let w = write-accepted g (noSlices g) _ 0 (length (t .source)) (ok .passes) in
         let z = fitting in

@@ -91,6 +91,7 @@ module _ (g : Given) (t : Task) (out : List ℕ) where
   abbrev pub listedState : ℕ → Writing
   listedState k = writingAt g t out 0 (noSlices g) k
 
+  -- its end
   abbrev pub listedEnd : End Writing
   listedEnd = writePlane g t out 0 (noSlices g)
 

@@ -11,7 +11,7 @@ ghost use Rattle.listing_job.specs.Job.{mostWidth, mostHeight};
 ghost use Rattle.listing_job.specs.JobForms.{jobBy};
 ghost use Rattle.listing_text.specs.LineForms.{ListedPut};
 ghost use Rattle.listing_text.specs.Listing.{filesRefusalBy, planeText, jobText};
-ghost use Rattle.listing_text.specs.Listed.{listingRoom, Listed, filesBy, canvasOf, FilesChecked, Listable, Fresh, EmptyFor, ListedEnd, endText};
+ghost use Rattle.listing_text.specs.Listed.{listingRoom, Listed, filesBy, canvasOf, FilesChecked, Listable, Fresh, EmptyFor, ListedReady, endText};
 ghost use Rattle.macroblock.specs.Slices.{slicesBy, lentBy};
 ghost use Rattle.visible_error.specs.VisibleNeeds.{shownBy};
 use super::inner::lines::put_lines;
@@ -73,14 +73,15 @@ fn put_plane(
     stated: &[u32],
     end: WriteEnd,
 ) -> usize
-    requires { ⌜ ListedEnd (shownBy canvas (now source) (now recon)) (now stated) end × (listingRoom ≤ length (now text)) ⌝ }
+    requires { ⌜ ListedReady (shownBy canvas (now source) (now recon)) (now stated) end × (listingRoom ≤ length (now text)) ⌝ }
     ensures { λ r. ⌜ ListedPut listingRoom (now (text .entry)) 0 (endText (shownBy canvas (now (source .entry)) (now (recon .entry))) (now (stated .entry)) end) r (now (text .exit)) ⌝ }
 {
     if end.refused != 0 {
         return put_refused(text, end.refused);
     }
     let at = put_lines(text, canvas, source, recon, stated, end.done);
-    put_total_line(text, at, end.bits, visible_total(canvas, source, recon))
+    let error = visible_total(canvas, source, recon);
+    put_total_line(text, at, end.bits, error)
 }
 
 // A plane that nothing refuses, written into empty slices of its size, and put.

@@ -43,16 +43,16 @@ module _ (g : Given) (t : Task) where
 
   -- ---- what fits
   -- after this mode the rest can be skipped
-  abbrev pub Fits : ℕ → Near → ℕ → Choice → Type 0
-  Fits k n spent c = canSkipRest (t .limit) g (suc k) (spent + weightOf g t k n c .bits) ≡ true
+  abbrev pub FitsLimit : ℕ → Near → ℕ → Choice → Type 0
+  FitsLimit k n spent c = canSkipRest (t .limit) g (suc k) (spent + weightOf g t k n c .bits) ≡ true
 
   all-hold : (k : ℕ) (n : Near) (spent : ℕ) (l : Limit) → All (λ c. canSkipRest l g (suc k) (spent + weightOf g t k n c .bits) ≡ true) (fittingIn l g t k n spent)
   all-hold k n spent unlimited = all-any (λ c. true ≡ true) (tried g t k n) (λ c. refl)
   all-hold k n spent (within b) = passing-pass _ (tried g t k n)
 
-  pub chosen-fits : (k : ℕ) (n : Near) (spent : ℕ) → Fits k n spent skipped → Fits k n spent (chosen g t k n spent)
+  pub chosen-fits : (k : ℕ) (n : Near) (spent : ℕ) → FitsLimit k n spent skipped → FitsLimit k n spent (chosen g t k n spent)
   unfolding chosen fitting
-  chosen-fits k n spent h = from-one (Fits k n spent) k n (fitting g t k n spent) h (all-hold k n spent (t .limit))
+  chosen-fits k n spent h = from-one (FitsLimit k n spent) k n (fitting g t k n spent) h (all-hold k n spent (t .limit))
 
   -- SKIP is among those that fit, where it fits
   pub skip-first : (P : Choice → Type 0) (k : ℕ) (n : Near) (spent : ℕ) (l : Limit) → canSkipRest l g (suc k) (spent + weightOf g t k n skipped .bits) ≡ true → All P (fittingIn l g t k n spent) → P skipped
@@ -61,8 +61,8 @@ module _ (g : Given) (t : Task) where
   skip-first P k n spent (within b) e h = (rw e at h) .0
 
   -- ---- what costs least
-  abbrev pub costOf : ℕ → Near → Choice → ℕ
-  costOf k n c = cost (t .settings .lambda) (weightOf g t k n c)
+  abbrev pub choiceCost : ℕ → Near → Choice → ℕ
+  choiceCost k n c = cost (t .settings .lambda) (weightOf g t k n c)
 
   beats-is : (a b : ℕ) (p : Bool) (q : Bool) → ltb a b || (eqb a b && p) ≡ q → (q ≡ true → a ≤ b) × (q ≡ false → b ≤ a)
   beats-is a b p q e = go (ltb a b) (eqb a b) refl refl e
@@ -73,31 +73,31 @@ module _ (g : Given) (t : Task) where
       go false false el es e = ((λ h. let z : _≡_ {A = ℕ} 0 1 = cc in absurd (omega arith)), (λ h. ltb-false a b el))
 
   prefer-least : (k : ℕ) (n : Near) (c d : Choice) (q : Bool) → beats g t k n d c ≡ q
-      → (costOf k n (pick q d c) ≤ costOf k n c) × (costOf k n (pick q d c) ≤ costOf k n d)
+      → (choiceCost k n (pick q d c) ≤ choiceCost k n c) × (choiceCost k n (pick q d c) ≤ choiceCost k n d)
   unfolding beats
   prefer-least k n c d q e =
-      let two = beats-is (costOf k n d) (costOf k n c) (ltb (weightOf g t k n d .bits) (weightOf g t k n c .bits)) q e in
+      let two = beats-is (choiceCost k n d) (choiceCost k n c) (ltb (weightOf g t k n d .bits) (weightOf g t k n c .bits)) q e in
       go q two
     where
-      go : (q : Bool) → (q ≡ true → costOf k n d ≤ costOf k n c) × (q ≡ false → costOf k n c ≤ costOf k n d)
-          → (costOf k n (pick q d c) ≤ costOf k n c) × (costOf k n (pick q d c) ≤ costOf k n d)
-      go true h = (h .0 refl, le-refl (costOf k n d))
-      go false h = (le-refl (costOf k n c), h .1 refl)
+      go : (q : Bool) → (q ≡ true → choiceCost k n d ≤ choiceCost k n c) × (q ≡ false → choiceCost k n c ≤ choiceCost k n d)
+          → (choiceCost k n (pick q d c) ≤ choiceCost k n c) × (choiceCost k n (pick q d c) ≤ choiceCost k n d)
+      go true h = (h .0 refl, le-refl (choiceCost k n d))
+      go false h = (le-refl (choiceCost k n c), h .1 refl)
 
   best-least : (k : ℕ) (n : Near) (c : Choice) (ds : List Choice)
-      → (costOf k n (bestOf g t k n c ds) ≤ costOf k n c) × All (λ d. costOf k n (bestOf g t k n c ds) ≤ costOf k n d) ds
+      → (choiceCost k n (bestOf g t k n c ds) ≤ choiceCost k n c) × All (λ d. choiceCost k n (bestOf g t k n c ds) ≤ choiceCost k n d) ds
   unfolding bestOf
-  best-least k n c [] = (le-refl (costOf k n c), tt)
+  best-least k n c [] = (le-refl (choiceCost k n c), tt)
   best-least k n c (d ∷ ds) =
       let two = prefer-least k n c d (beats g t k n d c) refl in
       let rest = best-least k n (pick (beats g t k n d c) d c) ds in
       (le-trans (rest .0) (two .0), (le-trans (rest .0) (two .1), rest .1))
 
-  from-least : (k : ℕ) (n : Near) (cs : List Choice) → All (λ d. costOf k n (bestFrom g t k n cs) ≤ costOf k n d) cs
+  from-least : (k : ℕ) (n : Near) (cs : List Choice) → All (λ d. choiceCost k n (bestFrom g t k n cs) ≤ choiceCost k n d) cs
   from-least k n [] = tt
   from-least k n (c ∷ cs) = best-least k n c cs
 
-  pub chosen-cost : (k : ℕ) (n : Near) (spent : ℕ) → All (λ d. costOf k n (chosen g t k n spent) ≤ costOf k n d) (fitting g t k n spent)
+  pub chosen-cost : (k : ℕ) (n : Near) (spent : ℕ) → All (λ d. choiceCost k n (chosen g t k n spent) ≤ choiceCost k n d) (fitting g t k n spent)
   unfolding chosen
   chosen-cost k n spent = from-least k n (fitting g t k n spent)
 

@@ -39,7 +39,7 @@ use Rattle.macroblock.specs.declared.svq1_enc_inter.Svq1MbMode.the-varia
 use Rattle.macroblock.specs.Mode.{modePosition}
 use Rattle.macroblock.specs.Macroblock.{Given, cols, Motion, still, single, four, Choice, skipped, coded, motionMode, halfOf, vectorsOf, leftOf, topOf, referenceBlock, vectorFor, baseline, shown, modeCodes, vectorCodes, componentBits, differenceBits, vectorBits, motionBits, modeBits, choiceBits}
 use Rattle.macroblock.specs.Choice.{Task, paddedSource, targetOf, target, searchFor, blockSearchFor, ifFound, singleTried, fourTried, motionsTried, skipsLeaves, planningFor, tried, fitting, weightOf, chosen}
-use Rattle.macroblock.specs.ChoiceLaws.{chosen-one, all-fitting, Fits, skip-first, costOf, chosen-cost}
+use Rattle.macroblock.specs.ChoiceLaws.{chosen-one, all-fitting, FitsLimit, skip-first, choiceCost, chosen-cost}
 use Rattle.macroblock.specs.Reading.{readDifference, readVector, readCoded, readBehind, readMacroblock}
 
 -- ---- a block of 256 bytes
@@ -185,13 +185,13 @@ module _ (g : Given) (t : Task) (ok : Fine g t) where
   tree-short k m = plan-short (planningFor g t k m) (planned-for k m)
 
   -- the most bits of a macroblock, under any good book
-  abbrev pub mostBits : ℕ
-  mostBits = 3135
+  abbrev pub mostChoiceBits : ℕ
+  mostChoiceBits = 3135
 
   -- ---- what holds of every choice tried
   pub record Good (k : ℕ) (n : Near) (c : Choice) : Type 0 where
     pub reads : (r : List ℕ) → readMacroblock g n (choiceBits g n c ++ r) ≡ got c r
-    pub short : length (choiceBits g n c) ≤ mostBits
+    pub short : length (choiceBits g n c) ≤ mostChoiceBits
     pub block : Block (shown g k c)
     pub inside : All Inside (vectorsOf c)
 
@@ -268,7 +268,7 @@ module _ (g : Given) (t : Task) (ok : Fine g t) where
 
   -- ---- at this lambda nothing saturates
   module _ (low : t .settings .lambda ≤ largestLambda) where
-    plain : (k : ℕ) (n : Near) (c : Choice) → Good k n c → costOf g t k n c ≡ total (t .settings .lambda) (weightOf g t k n c)
+    plain : (k : ℕ) (n : Near) (c : Choice) → Good k n c → choiceCost g t k n c ≡ total (t .settings .lambda) (weightOf g t k n c)
     unfolding weightOf
     plain k n c h =
         let e = near-24 (target g t k) (shown g k c) (target-block k) (h .block) in
@@ -283,11 +283,11 @@ module _ (g : Given) (t : Task) (ok : Fine g t) where
     unfolding fitting
     chosen-least k n spent =
         let e = plain k n (chosen g t k n spent) (chosen-good k n spent) in
-        all-both (λ c. costOf g t k n (chosen g t k n spent) ≤ costOf g t k n c) (Good k n) (NotBelow k n spent) (fitting g t k n spent)
+        all-both (λ c. choiceCost g t k n (chosen g t k n spent) ≤ choiceCost g t k n c) (Good k n) (NotBelow k n spent) (fitting g t k n spent)
         (λ c l h. rw (e, plain k n c h) at l) (chosen-cost g t k n spent) (all-fitting g t (Good k n) k n spent (t .limit) (tried-good k n))
 
     -- nor SKIP, where it fits
-    pub under-skip : (k : ℕ) (n : Near) (spent : ℕ) → Fits g t k n spent skipped → NotBelow k n spent skipped
+    pub under-skip : (k : ℕ) (n : Near) (spent : ℕ) → FitsLimit g t k n spent skipped → NotBelow k n spent skipped
     unfolding fitting
     under-skip k n spent h = skip-first g t (NotBelow k n spent) k n spent (t .limit) h (chosen-least k n spent)
 

@@ -49,12 +49,12 @@ abbrev pub placedAt : ℤ → ℕ
 placedAt (pos n) = n + 32
 placedAt (negsuc n) = 31 - n
 
-pub record Placed (d : ℤ) : Type 0 where
+pub record CodePlaced (d : ℤ) : Type 0 where
   pub sum : d +ℤ pos 32 ≡ pos (placedAt d)
   pub is : placedAt d ≡ placeOf d
   pub small : placedAt d < 64
 
-pub placed : (d : ℤ) → InRange d → Placed d
+pub placed : (d : ℤ) → InRange d → CodePlaced d
 placed (pos n) h = record { sum = refl; is = refl; small = omega (arith, range-pos n h) }
 placed (negsuc n) h =
     let l = range-neg n h in

@@ -10,7 +10,7 @@ use Rattle.mv_cache.specs.Neighbours.{Near}
 use Rattle.macroblock.specs.Macroblock.{Given, Choice, skipped}
 use Rattle.macroblock.specs.Limit.{Limit, unlimited, within, canSkipRest}
 use Rattle.macroblock.specs.Choice.{Task, tried, fittingIn, fitting, motionsTried, weightOf, bestOf, bestFrom, chosen}
-use Rattle.macroblock.specs.ChoiceLaws.{Fits, best-one}
+use Rattle.macroblock.specs.ChoiceLaws.{FitsLimit, best-one}
 use Rattle.bits.specs.ListLaws.{all-passing, passing-all, passing-same}
 use Rattle.macroblock.specs.MacroblockLaws.{Fine, Good, tried-good}
 use Rattle.macroblock_choice.specs.CandidateNeeds.{codedFor, inRoom, chosenIn}
@@ -36,6 +36,6 @@ module _ (g : Given) (t : Task) (ok : Fine g t) (k : ℕ) (n : Near) (room : ℕ
     within-limit (within b) a e =
         rw e (ap (bestOf g t k n skipped) (passing-same (inRoom g t k n room) _ (Good g t ok k n) others (short (within b) a) (tried-good g t ok k n .1)))
 
-    pub room-limit : Allows (t .limit) g k spent room → Fits g t k n spent skipped → chosenIn g t k n room ≡ chosen g t k n spent
+    pub room-limit : Allows (t .limit) g k spent room → FitsLimit g t k n spent skipped → chosenIn g t k n room ≡ chosen g t k n spent
     unfolding chosenIn chosen fitting
     room-limit a e = within-limit (t .limit) a e

@@ -64,11 +64,11 @@ pub near-is : (c j u : ℕ) → u + 1 ≡ c + j → lowered c +ℤ subℕ j 1 �
 near-is c j u e = sub-add c 1024 j 1 ∙ sub-eq (c + j) (1024 + 1) u 1024 (omega arith)
 
 -- ---- where a vector in the window reads, on one axis
-pub record Reads (side place stride u : ℕ) : Type 0 where
+pub record ReadsAt (side place stride u : ℕ) : Type 0 where
   pub low : 512 ≤ place + u / 2
   pub high : place + u / 2 - 512 + u % 2 + side ≤ stride
 
-reads : (side place size stride u : ℕ) → 1 ≤ side → place + side ≤ stride → 1 ≤ size → size ≤ stride → windowUp side place size u ≡ true → Reads side place stride u
+reads : (side place size stride u : ℕ) → 1 ≤ side → place + side ≤ stride → 1 ≤ size → size ≤ stride → windowUp side place size u ≡ true → ReadsAt side place stride u
 reads side place size stride u hs hp hz hst w =
     let b = both-true (leb 512 (place + u / 2)) _ w in
     let first : 512 ≤ place + u / 2 = leb-true _ _ (b .0) in
@@ -105,7 +105,7 @@ module _ (t ref : List ℕ) (p : Spot) (ux uy : ℕ) where
   y0 = p .y + uy / 2 - 512
 
   -- the clamp-free row is the row of the definition
-  row-is : (i : ℕ) → i < p .side → Reads (p .side) (p .x) (p .stride) ux → Reads (p .side) (p .y) (p .rows) uy
+  row-is : (i : ℕ) → i < p .side → ReadsAt (p .side) (p .x) (p .stride) ux → ReadsAt (p .side) (p .y) (p .rows) uy
       → rowAt t canvas (p .side) (ux % 2) (uy % 2) x0 y0 i ≡ rowError (spotSearch t ref p) (loweredMv ux uy) i
   unfolding rowAt rowError spotSearch
   row-is i hi rx ry =
@@ -119,7 +119,7 @@ module _ (t ref : List ℕ) (p : Spot) (ux uy : ℕ) where
       ∙ h ∙ ap (cell canvas (ux % 2) (uy % 2)) e)))
 
   -- what the early sum says of the vector's absolute error
-  pub judged : (limit : ℕ) (s : Taken) → MotionReady t ref p → Reads (p .side) (p .x) (p .stride) ux → Reads (p .side) (p .y) (p .rows) uy
+  pub judged : (limit : ℕ) (s : Taken) → MotionReady t ref p → ReadsAt (p .side) (p .x) (p .stride) ux → ReadsAt (p .side) (p .y) (p .rows) uy
       → s ≡ early (rowAt t canvas (p .side) (ux % 2) (uy % 2) x0 y0) limit (p .side) 0 0
       → Judged (errorOf (spotSearch t ref p) (loweredMv ux uy)) limit (s .error)
   unfolding spotSearch
@@ -193,12 +193,12 @@ module _ (t ref : List ℕ) (p : Spot) (ux uy : ℕ) (ok : Both p ux uy) where
       record { x-low = x .0; x-high = x .1; y-low = y .0; y-high = y .1; x-unset = λ q. absurd (omega arith); y-unset = λ q. absurd (omega arith) }
 
   module _ (r : MotionReady t ref p) where
-    pub reads-x : Reads (p .side) (p .x) (p .stride) ux
+    pub reads-x : ReadsAt (p .side) (p .x) (p .stride) ux
     reads-x =
         reads (p .side) (p .x) (p .width) (p .stride) ux (omega (arith, r .sides)) (r .x-in) (r .width-some) (r .width-in)
         (both-true (codableUp (p .px) ux) _ (ok .x) .1)
 
-    pub reads-y : Reads (p .side) (p .y) (p .rows) uy
+    pub reads-y : ReadsAt (p .side) (p .y) (p .rows) uy
     reads-y =
         reads (p .side) (p .y) (p .height) (p .rows) uy (omega (arith, r .sides)) (r .y-in) (r .height-some) (r .height-in)
         (both-true (codableUp (p .py) uy) _ (ok .y) .1)

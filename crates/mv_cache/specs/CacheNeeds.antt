@@ -8,7 +8,7 @@ use Rattle.vectors.specs.declared.svq1_motion_predictor.Svq1Mv.{Svq1Mv}
 use Rattle.mv_cache.specs.declared.svq1_mv_cache.NearBlocks.{NearBlocks}
 use Rattle.mv_cache.specs.Neighbours.{Near}
 use Rattle.mv_cache.specs.Grid.{putPart}
-use Rattle.mv_cache.specs.GridLaws.{Holds}
+use Rattle.mv_cache.specs.GridLaws.{HoldsBlocks}
 use Rattle.canvas.specs.Canvas.{largestSide, blocksAlong}
 
 -- the neighbours as the code holds them
@@ -37,7 +37,7 @@ pub record BlocksRoom (s cols k : ℕ) (xs : List ℕ) : Type 0 where
   pub side-most : s ≤ 16
   pub wide : 0 < cols
   pub cols-most : cols ≤ blocksAlong largestSide
-  pub holds : Holds s cols (suc k) xs
+  pub holds : HoldsBlocks s cols (suc k) xs
 
 -- the vectors vs stored as macroblock k's, a byte for each component; every other byte stays
 pub record Stored (cols k : ℕ) (vs : List Svq1Mv) (vx vy ux uy : List ℕ) : Type 0 where

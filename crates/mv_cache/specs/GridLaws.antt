@@ -53,10 +53,10 @@ module _ (s cols : ℕ) where
   Agree k a b = (j : ℕ) → owner s cols j < k → getD a j 0 ≡ getD b j 0
 
   -- every entry of the first k macroblocks lies in the slice
-  abbrev pub Holds : ℕ → List ℕ → Type 0
-  Holds k a = (j : ℕ) → owner s cols j < k → j < length a
+  abbrev pub HoldsBlocks : ℕ → List ℕ → Type 0
+  HoldsBlocks k a = (j : ℕ) → owner s cols j < k → j < length a
 
-  pub agree-put : (k : ℕ) (v a b : List ℕ) → Holds (suc k) a → Holds (suc k) b → Agree k a b
+  pub agree-put : (k : ℕ) (v a b : List ℕ) → HoldsBlocks (suc k) a → HoldsBlocks (suc k) b → Agree k a b
       → Agree (suc k) (putPart s cols k v a) (putPart s cols k v b)
   agree-put k v a b ha hb e j h = go (decLt (owner s cols j) k)
     where
@@ -119,7 +119,7 @@ module _ (s cols : ℕ) (some : 0 < s) (wide : 0 < cols) where
   part-at k xs j h = value-at (λ i. getD xs (entryOf s cols k i) 0) (s * s) 0 j 0 h ∙ rw zero-add
 
   -- macroblock k after it was written, and after another was
-  pub part-own : (k : ℕ) (v xs : List ℕ) → Holds s cols (suc k) xs → length v ≡ s * s → part s cols k (putPart s cols k v xs) ≡ v
+  pub part-own : (k : ℕ) (v xs : List ℕ) → HoldsBlocks s cols (suc k) xs → length v ≡ s * s → part s cols k (putPart s cols k v xs) ≡ v
   part-own k v xs h e =
       ext-getD 0 _ v (length-part k _ ∙ sym e) (λ j l.
       let m : j < s * s = rw length-part at l in
@@ -127,7 +127,7 @@ module _ (s cols : ℕ) (some : 0 < s) (wide : 0 < cols) where
       part-at k _ j m ∙ put-own s cols k v xs (entryOf s cols k j) (h _ (omega arith)) o
       ∙ ap (λ (i : ℕ). getD v i 0) (place-of s cols some wide k j m))
 
-  pub part-other : (k i : ℕ) (v xs : List ℕ) → Holds s cols (suc k) xs → k < i → part s cols k (putPart s cols i v xs) ≡ part s cols k xs
+  pub part-other : (k i : ℕ) (v xs : List ℕ) → HoldsBlocks s cols (suc k) xs → k < i → part s cols k (putPart s cols i v xs) ≡ part s cols k xs
   part-other k i v xs h e =
       ext-getD 0 _ _ (length-part k _ ∙ sym (length-part k xs)) (λ j l.
       let m : j < s * s = rw length-part at l in

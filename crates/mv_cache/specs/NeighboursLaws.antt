@@ -18,7 +18,7 @@ use Rattle.vectors.specs.declared.svq1_motion_predictor.Neighbour.the-variants.
 use Rattle.vectors.specs.VectorsLaws.{InRange, range-pos, range-neg, Inside, InsideIf, predicted-in}
 use Rattle.mv_cache.specs.Neighbours.{storedAt, neighbourAt, Near, nearOf, forOne, forFirst, forSecond, forThird, forFourth}
 use Rattle.mv_cache.specs.Grid.{owner, placeIn, putPart}
-use Rattle.mv_cache.specs.GridLaws.{entry, Agree, Holds, owner-entry, put-own, put-other}
+use Rattle.mv_cache.specs.GridLaws.{entry, Agree, HoldsBlocks, owner-entry, put-own, put-other}
 
 -- ---- the seven neighbours belong to macroblocks before k
 -- an 8×8 row and column, where they are on the plane, belong to a macroblock before k
@@ -192,7 +192,7 @@ stored-component f in-range (v ∷ vs) h zero = rw (byte-back (f v) (in-range v 
 stored-component f in-range (v ∷ vs) h (suc j) = stored-component f in-range vs (h .1) j
 
 -- macroblock k stored with bytes of vectors in -32..31
-pub ranged-put : (cols k : ℕ) (v a : List ℕ) → Holds 2 cols (suc k) a → Ranged cols k a → ((j : ℕ) → InRange (signedOf (getD v j 0)))
+pub ranged-put : (cols k : ℕ) (v a : List ℕ) → HoldsBlocks 2 cols (suc k) a → Ranged cols k a → ((j : ℕ) → InRange (signedOf (getD v j 0)))
     → Ranged cols (suc k) (putPart 2 cols k v a)
 ranged-put cols k v a ha h hv j l = go (decLt (owner 2 cols j) k)
   where

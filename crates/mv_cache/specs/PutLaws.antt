@@ -10,9 +10,9 @@ use mathlib.Core.List.{List}
 use lib.ListN.{length, take, drop, getD, set, length-set, length-drop}
 use lib.Seq.{ext-getD, getD-set-same, getD-set-other, getD-drop, sets}
 use lib.Arith.{digits-lt, digits-div, digits-mod}
-use Rattle.bits.specs.FillLaws.{row-step, run, part as slicePart}
+use Rattle.bits.specs.FillLaws.{row-step, run, runOf}
 use Rattle.mv_cache.specs.Grid.{rowSet, owner, placeIn, entryOf, putPart}
-use Rattle.mv_cache.specs.GridLaws.{Holds, length-put, put-own, put-other, owner-of, place-of}
+use Rattle.mv_cache.specs.GridLaws.{HoldsBlocks, length-put, put-own, put-other, owner-of, place-of}
 
 -- macroblock k's first m entries written, one after the other
 unfoldable pub putTo : ℕ → ℕ → ℕ → List ℕ → ℕ → List ℕ → List ℕ
@@ -70,11 +70,11 @@ module _ (s cols : ℕ) (some : 0 < s) (wide : 0 < cols) where
   place-lt p = digits-lt (mod-lt (p / (s * cols)) some) (mod-lt (p % (s * cols)) some)
 
   -- a macroblock's entries lie in a slice that holds it
-  pub entry-in : (k j : ℕ) (xs : List ℕ) → Holds s cols (suc k) xs → j < s * s → entryOf s cols k j < length xs
+  pub entry-in : (k j : ℕ) (xs : List ℕ) → HoldsBlocks s cols (suc k) xs → j < s * s → entryOf s cols k j < length xs
   entry-in k j xs h l = h _ (omega (arith, owner-of s cols some wide k j l))
 
   -- and so do the numbers that its place is computed by
-  pub entry-steps : (k j : ℕ) (xs : List ℕ) → Holds s cols (suc k) xs → j < s * s → Steps s cols k j (length xs)
+  pub entry-steps : (k j : ℕ) (xs : List ℕ) → HoldsBlocks s cols (suc k) xs → j < s * s → Steps s cols k j (length xs)
   entry-steps k j xs h l =
       let e = entry-in k j xs h l in
       let w : 1 ≤ s * cols = mul-pos some wide in
@@ -136,7 +136,7 @@ row-run o p (suc n) v xs h =
     let k : n < length (drop p v) = simp length-drop (omega arith) in
     rw (← add-one n, ← row-step xs (drop p v) o n k, row-run o p n v xs (omega arith), getD-drop p v n 0) refl
 
-pub row-part : (o p n : ℕ) (v xs : List ℕ) → p + n ≤ length v → sets xs o (slicePart v p n) ≡ rowSet o (λ j. getD v (p + j) 0) n xs
+pub row-part : (o p n : ℕ) (v xs : List ℕ) → p + n ≤ length v → sets xs o (runOf v p n) ≡ rowSet o (λ j. getD v (p + j) 0) n xs
 row-part o p n v xs h = rw (run v p n) (row-run o p n v xs h)
 
 pub row-same : (o : ℕ) (f g : ℕ → ℕ) (n : ℕ) (xs : List ℕ) → ((k : ℕ) → k < n → f k ≡ g k) → rowSet o f n xs ≡ rowSet o g n xs
@@ -170,7 +170,7 @@ module _ (s cols k : ℕ) where
 
   module _ (some : 0 < s) (wide : 0 < cols) where
     -- the numbers that row i's first place is computed by, and its end, in a slice that holds the macroblock
-    pub row-steps : (xs : List ℕ) → Holds s cols (suc k) xs → (i : ℕ) → i < s → RowSteps s cols k i (length xs)
+    pub row-steps : (xs : List ℕ) → HoldsBlocks s cols (suc k) xs → (i : ℕ) → i < s → RowSteps s cols k i (length xs)
     row-steps xs h i l =
         let a = along i 0 some in
         let first = entry-steps s cols some wide k (s * i + 0) xs h (row-below i 0 l some) in

@@ -17,7 +17,7 @@ use Rattle.leaf.specs.LeafBits.{leafBits}
 use Rattle.tree.specs.Blocks.{blockCount, left, right, level, first, paintAt, rebuilt}
 use Rattle.tree.specs.BlocksLaws.{zero-row, suc-level}
 use Rattle.tree.specs.RowsLaws.{paint-whole}
-use Rattle.tree.specs.GeometryLaws.{In, at-first, first-place, in-first, shown, length-shown, rebuilt-is}
+use Rattle.tree.specs.GeometryLaws.{In, at-first, first-place, in-first, prunedShown, length-shown, rebuilt-is}
 use Rattle.tree.specs.Plan.{Weight, pruned}
 use Rattle.tree.specs.SumLaws.{tree-sum, flat-is-tree}
 use Rattle.tree.specs.TreeBits.{Node, Off, Split, Ends, isSplit, reached, grow, nodeBits, treeBits, nodeShows}
@@ -230,12 +230,12 @@ module _ (d : ℕ) (five : d ≤ 5) (split : ℕ → Bool) (leafOf : ℕ → Lea
     same (suc e) i l g h s m = same-step e i (split i) refl g h (λ k x y q. same e k (suc-level i e l k x y) (omega arith) q) s m
 
     -- the reconstruction of the tree is what the splits and leaves show
-    pub shown-are : rebuilt (width d) (λ i. isSplit (b i)) (λ i. nodeShows shows i (b i)) d (first d) (replicate (area d) 0) ≡ shown split show d (first d)
+    pub shown-are : rebuilt (width d) (λ i. isSplit (b i)) (λ i. nodeShows shows i (b i)) d (first d) (replicate (area d) 0) ≡ prunedShown split show d (first d)
     unfolding paintAt
     shown-are =
         let at = at-first d five in
         let m : List ℕ = replicate (area d) 0 in
-        let long : length (shown split show d (first d)) ≡ area d = length-shown (width d) (area d) split show lens d (first d) five (at .0) (at .1) (in-first d five) in
+        let long : length (prunedShown split show d (first d)) ≡ area d = length-shown (width d) (area d) split show lens d (first d) five (at .0) (at .1) (in-first d five) in
         same d (first d) (at .0) (omega arith) root (width d) m
         ∙ rebuilt-is (width d) (area d) split show lens d (first d) m five (at .0) (at .1) (omega arith) (in-first d five)
-        ∙ rw (first-place (width d) d five) (paint-whole (width d) (height d) (shown split show d (first d)) m long (length-replicate (area d) 0))
+        ∙ rw (first-place (width d) d five) (paint-whole (width d) (height d) (prunedShown split show d (first d)) m long (length-replicate (area d) 0))

@@ -17,26 +17,26 @@ use Rattle.book.specs.Level.{width, area}
 use Rattle.book.specs.declared.svq1_vlc.Svq1Half.the-variants.{Inter}
 use Rattle.leaf.specs.Leaf.{sse}
 use Rattle.leaf.specs.LeafBits.{leafBits}
-use Rattle.leaf.specs.LeafBitsLaws.{Allowed, leaf-most}
+use Rattle.leaf.specs.LeafBitsLaws.{AllowedLeaf, leaf-most}
 use Rattle.leaf.specs.LeafCall.{BlockIn, halfAt, blockOk, blockRefusal}
-use Rattle.leaf.specs.LeafLaws.{Sized, vectors-sized, rule-allowed}
+use Rattle.leaf.specs.LeafLaws.{SizedLeaf, vectors-sized, rule-allowed}
 use Rattle.leaf.specs.LeafLaws as leaf-laws
 use Rattle.tree.specs.Blocks.{blockCount, left, right, level, blockOf}
 use Rattle.tree.specs.BlocksLaws.{level-0, level-le, At, at-parts}
 use Rattle.tree.specs.RowsLaws.{bytes-gather}
-use Rattle.tree.specs.GeometryLaws.{In, at-first, in-first, in-parts, first-whole, length-block, error-most, error-is, shown, length-shown, bytes-shown}
+use Rattle.tree.specs.GeometryLaws.{In, at-first, in-first, in-parts, first-whole, length-block, error-most, error-is, prunedShown, length-shown, bytes-shown}
 use Rattle.tree.specs.Plan.{Weight, Planning, total, pruned, root, leafAt, shownAt, weightAt, planWeight, planSplits, prunedCost, planned}
 use Rattle.plan.specs.PlanLaws.{Under, most-bits, most-err, planned-under, optimal, room, own-plan, splits-zero}
 use Rattle.tree.specs.TreeBits.{Split, Ends, planTree, treeBits, readTree, treeShown}
 use Rattle.plan.specs.PlanAnswer.{planningOf}
-use Rattle.tree.specs.TreeLaws.{Stands, tree-read}
+use Rattle.tree.specs.TreeLaws.{TreeStands, tree-read}
 use Rattle.plan.specs.ChoiceLaws.{bits-are, shown-are}
 use Rattle.plan.specs.PlanClaim.{largestLambda, planCost, PlanClaimed}
 
 -- what a plan may assume: tables of its terms' half that read back, vectors of their levels' sizes, a block and a predictor of bytes
 pub record Planned (g : Planning) : Type 0 where
   pub tables : GoodTables (g .tables)
-  pub sized : (d : ℕ) → Sized (g .vectors d) (area d)
+  pub sized : (d : ℕ) → SizedLeaf (g .vectors d) (area d)
   pub same-half : g .tables .half ≡ g .terms .half
   pub few : g .terms .cap ≤ 6
   pub inter : g .terms .skip ≡ true → g .terms .half ≡ Inter
@@ -60,7 +60,7 @@ module _ (g : Planning) (p : Planned g) where
   unfolding planSplits
   low i h = splits-zero (weightAt g) (g .lambda) i (level-0 i h)
 
-  pub allowed : (i : ℕ) → Allowed (g .tables) (level i) (leafAt g i)
+  pub allowed : (i : ℕ) → AllowedLeaf (g .tables) (level i) (leafAt g i)
   unfolding leafAt
   allowed i =
       rule-allowed (g .tables) (g .vectors (level i)) (level i) (g .terms) (blockOf s (level i) i (g .target)) (blockOf s (level i) i (g .predictor)) (p .same-half)
@@ -116,12 +116,12 @@ module _ (g : Planning) (p : Planned g) where
   ok-root : Ok (g .level) (root g)
   ok-root = (at-first (g .level) (p .five), in-first (g .level) (p .five))
 
-  stands : (i : ℕ) (f : Bool) → planSplits g i ≡ f → Stands (g .tables) (level i) (pick f Split (Ends (leafAt g i)))
+  stands : (i : ℕ) (f : Bool) → planSplits g i ≡ f → TreeStands (g .tables) (level i) (pick f Split (Ends (leafAt g i)))
   unfolding planSplits
   stands i false e = (level-le i, allowed i)
   stands i true e = go (level i) refl
     where
-      go : (d : ℕ) → level i ≡ d → Stands (g .tables) d Split
+      go : (d : ℕ) → level i ≡ d → TreeStands (g .tables) d Split
       go zero q = let z : _≡_ {A = ℕ} 0 1 = cc (splits-zero (weightAt g) (g .lambda) i q) in absurd (omega arith)
       go (suc d) q = tt
 
@@ -134,7 +134,7 @@ module _ (g : Planning) (p : Planned g) where
   unfolding planTree
   plan-bits = sym (bits-are (g .level) (p .five) (planSplits g) (leafAt g) low (g .tables) (weightAt g) counts ∙ ap (λ (w : Weight). w .bits) own)
 
-  pub plan-shows : treeShown (g .vectors) (g .level) (g .predictor) (planTree g) ≡ shown (planSplits g) show (g .level) (root g)
+  pub plan-shows : treeShown (g .vectors) (g .level) (g .predictor) (planTree g) ≡ prunedShown (planSplits g) show (g .level) (root g)
   unfolding treeShown planTree
   plan-shows = shown-are (g .level) (p .five) (planSplits g) (leafAt g) low (shownAt (g .vectors) s (g .predictor)) lens
 

@@ -79,19 +79,19 @@ module _ {S : Type 0} (f : ℕ → S → Step S) (n : ℕ) (s₀ : S) (k : ℕ) 
   ends-last h = sym (m .whole) ∙ ended f n k s h
 
 -- ended early or not, the state is the one before the macroblock at which the run ended, and that one did not fit
-pub record Stands {S : Type 0} (c : ℕ) (fits : ℕ → S → Bool) (g : ℕ → S → S) (s : S) (last : ℕ) (u : End S) : Type 0 where
+pub record RunStands {S : Type 0} (c : ℕ) (fits : ℕ → S → Bool) (g : ℕ → S → S) (s : S) (last : ℕ) (u : End S) : Type 0 where
   pub state : u .state ≡ after g s (u .done)
   pub at-most : u .done ≤ last
   pub early : u .done < last → (u .refusal ≡ c) × (fits (u .done) (after g s (u .done)) ≡ false)
 
 one-more : {S : Type 0} (q : Bool) (c : ℕ) (fits : ℕ → S → Bool) (g : ℕ → S → S) (s : S) (k last : ℕ) (f : S → End S) → fits k (after g s k) ≡ q → k < last
-    → Stands c fits g s last (f (g k (after g s k)))
-    → Stands c fits g s last (goOn (pick q (on (g k (after g s k))) (stop c)) f k (after g s k))
+    → RunStands c fits g s last (f (g k (after g s k)))
+    → RunStands c fits g s last (goOn (pick q (on (g k (after g s k))) (stop c)) f k (after g s k))
 one-more true c fits g s k last f e h x = x
 one-more false c fits g s k last f e h x = record { state = refl; at-most = omega arith; early = λ l. (refl, e) }
 
 pub run-stands : {S : Type 0} (c : ℕ) (fits : ℕ → S → Bool) (g : ℕ → S → S) (s : S) (n k : ℕ)
-    → Stands c fits g s (k + n) (run (testing c fits g) n k (after g s k))
+    → RunStands c fits g s (k + n) (run (testing c fits g) n k (after g s k))
 unfolding run after
 run-stands c fits g s zero k = record { state = refl; at-most = omega arith; early = λ l. absurd (omega arith) }
 run-stands c fits g s (suc n) k =

@@ -7,7 +7,7 @@ use mathlib.Core.List.{List}
 use lib.ListN.{length, drop}
 use Rattle.bits.specs.Basics.{All}
 use Rattle.vectors.specs.VectorsLaws.{Inside}
-use Rattle.mv_cache.specs.GridLaws.{Agree, Holds, agree-put, in-owner, put-past}
+use Rattle.mv_cache.specs.GridLaws.{Agree, HoldsBlocks, agree-put, in-owner, put-past}
 use Rattle.mv_cache.specs.NeighboursLaws.{near-same, Ranged, ranged-put}
 use Rattle.macroblock.specs.Macroblock.{Given, cols, rows, Choice, vectorsOf, shown}
 use Rattle.macroblock.specs.Slices.{Slices, BlockSlice, xSlice, ySlice, blocksIn, storedIn, near, laid}
@@ -28,18 +28,18 @@ pub same-held : (g : Given) (u₀ u : Slices) → SameLengths u₀ u → Held g 
 same-held g u₀ u l h = record { recon-whole = l .recon ∙ h .recon-whole; blocks-long = λ b. rw (l .blocks b) (h .blocks-long b) }
 
 -- ---- slices that pass refusal 20, by the plane's macroblocks
-pub record Sized (g : Given) (s : Slices) : Type 0 where
+pub record SizedSlices (g : Given) (s : Slices) : Type 0 where
   pub recon : length (s .recon) ≡ rows g * 16 * (16 * cols g)
   pub blocks : (b : BlockSlice) → 4 * count g ≤ length (blocksIn b s)
 
 module _ (g : Given) (wide : 0 < cols g) where
-  pub holds-recon : (p : Slices) (k : ℕ) → k ≤ count g → Sized g p → Holds 16 (cols g) k (p .recon)
+  pub holds-recon : (p : Slices) (k : ℕ) → k ≤ count g → SizedSlices g p → HoldsBlocks 16 (cols g) k (p .recon)
   holds-recon p k h z j l = rw (z .recon) (in-owner 16 (cols g) (omega arith) wide (rows g) j (omega arith))
 
-  pub holds-blocks : (vs : List ℕ) (k : ℕ) → k ≤ count g → 4 * count g ≤ length vs → Holds 2 (cols g) k vs
+  pub holds-blocks : (vs : List ℕ) (k : ℕ) → k ≤ count g → 4 * count g ≤ length vs → HoldsBlocks 2 (cols g) k vs
   holds-blocks vs k h z j l = omega (arith, in-owner 2 (cols g) (omega arith) wide (rows g) j (omega arith), four-each (rows g) (cols g))
 
-  pub laid-sized : (k : ℕ) (c : Choice) (p : Slices) → Sized g p → Sized g (laid g k c p)
+  pub laid-sized : (k : ℕ) (c : Choice) (p : Slices) → SizedSlices g p → SizedSlices g (laid g k c p)
   laid-sized k c p z = record { recon = recon-kept g k c p ∙ z .recon; blocks = λ b. rw (blocks-kept b g k c p) (z .blocks b) }
 
   -- vectors in -32..31 stay so when those of macroblock k are laid behind them
@@ -53,7 +53,7 @@ module _ (g : Given) (wide : 0 < cols g) where
     pub recon : Agree 16 (cols g) k (p .recon) (q .recon)
     pub blocks : (b : BlockSlice) → Agree 2 (cols g) k (blocksIn b p) (blocksIn b q)
 
-  pub alike-laid : (k : ℕ) (c : Choice) (p q : Slices) → k < count g → Sized g p → Sized g q → Alike k p q
+  pub alike-laid : (k : ℕ) (c : Choice) (p q : Slices) → k < count g → SizedSlices g p → SizedSlices g q → Alike k p q
       → Alike (suc k) (laid g k c p) (laid g k c q)
   alike-laid k c p q h zp zq x = record {
     recon = rw (laid-recon g k c p, laid-recon g k c q)

@@ -16,7 +16,7 @@ use Rattle.book.specs.declared.svq1_vlc.Svq1Half.{Svq1Half}
 use Rattle.book.specs.declared.svq1_vlc.Svq1Half.the-variants.{Intra, Inter}
 use Rattle.leaf.specs.Leaf.{Leaf, skip, coded}
 use Rattle.leaf.specs.LeafBits.{leafBits}
-use Rattle.leaf.specs.LeafBitsLaws.{Allowed, length-leaf}
+use Rattle.leaf.specs.LeafBitsLaws.{AllowedLeaf, length-leaf}
 use Rattle.codebook.specs.Mean.{meanPosition}
 use Rattle.vectors.specs.declared.svq1_motion_predictor.Svq1Mv.{Svq1Mv}
 use Rattle.vectors.specs.Vectors.{placeOf}
@@ -40,7 +40,7 @@ use Rattle.plane_room.specs.LongestLaws.{code-longest, part-longest, goo
 
 -- ---- a leaf: a stage code, and for a coded one a mean and at most six stages
 leaf-few : (T : Tables) (s u d : ℕ) → ((k : ℕ) → length (code (T .stage d) k) ≤ s) → ((k : ℕ) → length (code (T .mean) k) ≤ u)
-    → (l : Leaf) → Allowed T d l → length (leafBits T d l) ≤ s + u + 24
+    → (l : Leaf) → AllowedLeaf T d l → length (leafBits T d l) ≤ s + u + 24
 unfolding leafBits
 leaf-few T s u d hs hu skip a = omega (arith, hs 0)
 leaf-few T s u d hs hu (coded m js) a = omega (arith, length-leaf T d m js, hs (suc (length js)), hu (meanPosition (T .half) m), a .few)

@@ -1,11 +1,12 @@
 -- The main theorems of this repository, of the definitions, each stated by name and proved by one citation. What the functions promise of memory stands in their
 -- contracts; those that hand a theorem on are named beside it. Nothing is assumed: no axiom, no hole.
-use Prim.Native.Nat.{ℕ, _+_, _*_, _%_, _<_}
+use Prim.Native.Nat.{ℕ, _+_, _*_, _%_, _≤_, _<_}
 use mathlib.Core.Path.{_≡_}
 use mathlib.Core.Bool.{true}
 use mathlib.Core.List.{List}
-use lib.ListN.{length, getD, replicate}
-use Rattle.bits.specs.Basics.{All, sum, signedByte}
+use mathlib.Core.Option.{some}
+use lib.ListN.{length, getD}
+use Rattle.bits.specs.Basics.{All, Bytes, sum, signedByte}
 use Rattle.bits.specs.Bits.{bitsOf}
 use Rattle.bits.specs.Calls.{done, Put}
 use Rattle.bits.specs.declared.svq1_enc.Pushed.{Pushed}
@@ -27,16 +28,17 @@ use Rattle.macroblock.specs.Limit.{canSkipRest}
 use Rattle.macroblock.specs.Choice.{Task, withoutLimit}
 use Rattle.macroblock.specs.Slices.{Slices}
 use Rattle.plane.specs.Plane.{writePlane, FirstFits}
+use Rattle.plane.specs.Refusals.{writeRefusal}
 use Rattle.plane.specs.AloneLaws.{as-alone}
 use Rattle.claim.specs.Claim.{InMemory, Claimed}
 use Rattle.claim.specs.ClaimLaws.{claimed}
 use Rattle.plane_room.specs.Room.{anyBits, bookBits, roomBytes, Suffices, OfSize, OfSizeUnder}
 use Rattle.plane_room.specs.RoomLaws.{size-suffices, book-suffices}
 use Rattle.visible_error.specs.Visible.{ShownPlane, squareAt, visibleTotal}
-use Rattle.listing_text.specs.Listing.{outputBytes, noSlices, planeText}
-use Rattle.listing_text.specs.Listed.{Listable}
+use Rattle.listing_job.specs.Job.{Job, jobIn}
+use Rattle.listing_text.specs.Listing.{Files, listing}
 use Rattle.listed_errors.specs.PaddedLaws.{all-samples}
-use Rattle.listed_errors.specs.ListedErrorLaws.{statedText, plane-text-is-stated}
+use Rattle.listed_errors.specs.ListedErrorLaws.{leftPlane, statedTotal, total-at-most, statedListing, listing-as-before}
 use Rattle.starred_cards.specs.Cards.{Holds, cards}
 use Rattle.starred_cards.specs.Proof.{starred}
 
@@ -84,11 +86,14 @@ pub within-an-allowance : (g : Given) (t : Task) → canSkipRest (t .limit) g 0 
     → writePlane g t out start a ≡ writePlane g (withoutLimit t) out start a
 within-an-allowance = as-alone
 
--- Document 02, §1: a plane's visible error has each sample inside width × height once, and a plane of whole macroblocks lists as if by the stated errors. Of memory:
--- `visible_error`, `listing`.
+-- Document 02, §1: a plane's visible error has each sample inside width × height once; of a plane written to its end it is never above the stated total; and a job of
+-- whole macroblocks prints what it printed by the stated errors. Of memory: `visible_error`, `encode_inter_plane`, `listing`.
 pub what-the-panel-shows : (s : ShownPlane) → visibleTotal s ≡ sum (λ y. sum (λ x. squareAt s x y) (s .width)) (s .height)
 what-the-panel-shows = all-samples
 
-pub whole-macroblocks-list-as-before : (g : Given) (t : Task) → Listable g t → InMemory g t (replicate outputBytes 0) 0 (noSlices g) → g .width % 16 ≡ 0 → g .height % 16 ≡ 0
-    → planeText g t ≡ statedText g t (bitsOf (replicate outputBytes 0))
-whole-macroblocks-list-as-before = plane-text-is-stated
+pub never-above-the-stated : (g : Given) (t : Task) (out : List ℕ) (start : ℕ) (a : Slices) → InMemory g t out start a → writeRefusal g t out start a ≡ 0
+    → writePlane g t (bitsOf out) start a .refusal ≡ 0 → visibleTotal (leftPlane g t out start a) ≤ statedTotal g t out start a
+never-above-the-stated = total-at-most
+
+pub whole-macroblocks-as-before : (f : Files) → Bytes (f .source) → Bytes (f .reference) → ((j : Job) → jobIn (f .job) ≡ some j → (j .width % 16 ≡ 0) × (j .height % 16 ≡ 0)) → listing f ≡ statedListing f
+whole-macroblocks-as-before = listing-as-before

@@ -16,7 +16,7 @@ use Rattle.tree.specs.Blocks.{blockCount, left, right, level, first, gat
 use Rattle.tree.specs.BlocksLaws.{suc-level, suc-row, level-part, level-le}
 use Rattle.tree.specs.Plan.{Weight, pruned, jointWeight, flagged}
 use Rattle.leaf.specs.DistanceLaws.{sse-most}
-use Rattle.tree.specs.RowsLaws.{weave, Inside, sse-append, sse-weave, gather-add, gather-weave, length-gather, length-weave, gather-whole, paint-add, paint-weave, bytes-gather, bytes-both, bytes-weave}
+use Rattle.tree.specs.RowsLaws.{weave, RowsInside, sse-append, sse-weave, gather-add, gather-weave, length-gather, length-weave, gather-whole, paint-add, paint-weave, bytes-gather, bytes-both, bytes-weave}
 
 -- the samples of a block from those of its two parts of level d
 abbrev pub join : ℕ → List ℕ → List ℕ → List ℕ
@@ -24,12 +24,12 @@ join d l r = pick (square (suc d)) (l ++ r) (weave (height d) (width d) l r)
 
 -- block i lies in a plane of n samples
 abbrev pub In : ℕ → ℕ → ℕ → ℕ → Type 0
-In s d i n = Inside s (height d) (width d) (place s i) n
+In s d i n = RowsInside s (height d) (width d) (place s i) n
 
 -- what a pruning shows at block i of level d: a leaf's samples, or its two parts together
-unfoldable pub shown : (ℕ → Bool) → (ℕ → List ℕ) → ℕ → ℕ → List ℕ
-shown cut show zero i = show i
-shown cut show (suc d) i = pick (cut i) (join d (shown cut show d (left i)) (shown cut show d (right i))) (show i)
+unfoldable pub prunedShown : (ℕ → Bool) → (ℕ → List ℕ) → ℕ → ℕ → List ℕ
+prunedShown cut show zero i = show i
+prunedShown cut show (suc d) i = pick (cut i) (join d (prunedShown cut show d (left i)) (prunedShown cut show d (right i))) (show i)
 
 -- ---- places
 pub place-left : (s d i : ℕ) → level i ≡ suc d → suc d ≤ 5 → place s (left i) ≡ place s i
@@ -51,8 +51,8 @@ place-right s d i e h =
 
 -- ---- a block and its two parts, of h rows of w samples: one above the other (q true), or side by side
 module _ (s h w at : ℕ) where
-  inside-parts : (q : Bool) (n : ℕ) → Inside s (pick q (h + h) h) (pick q w (w + w)) at n
-      → Inside s h w at n × Inside s h w (at + pick q (s * h) w) n
+  inside-parts : (q : Bool) (n : ℕ) → RowsInside s (pick q (h + h) h) (pick q w (w + w)) at n
+      → RowsInside s h w at n × RowsInside s h w (at + pick q (s * h) w) n
   inside-parts true n i = (
     record { row = λ k l. i .row k (omega arith) },
     record { row = λ k l. omega (arith, i .row (h + k) (omega arith)) },
@@ -62,7 +62,7 @@ module _ (s h w at : ℕ) where
     record { row = λ k l. omega (arith, i .row k l) },
   )
 
-  gather-parts : (q : Bool) (m : List ℕ) → Inside s (pick q (h + h) h) (pick q w (w + w)) at (length m)
+  gather-parts : (q : Bool) (m : List ℕ) → RowsInside s (pick q (h + h) h) (pick q w (w + w)) at (length m)
       → gather s (pick q (h + h) h) (pick q w (w + w)) at m
       ≡ pick q (gather s h w at m ++ gather s h w (at + pick q (s * h) w) m) (weave h w (gather s h w at m) (gather s h w (at + pick q (s * h) w) m))
   gather-parts true m i = gather-add s h h w at m
@@ -130,12 +130,12 @@ bytes-pick : (q : Bool) (x y : List ℕ) → Bytes x → Bytes y → Bytes (pick
 bytes-pick true x y a b = a
 bytes-pick false x y a b = b
 
-pub bytes-shown : (cut : ℕ → Bool) (show : ℕ → List ℕ) → ((i : ℕ) → Bytes (show i)) → (d i : ℕ) → Bytes (shown cut show d i)
-unfolding shown
+pub bytes-shown : (cut : ℕ → Bool) (show : ℕ → List ℕ) → ((i : ℕ) → Bytes (show i)) → (d i : ℕ) → Bytes (prunedShown cut show d i)
+unfolding prunedShown
 bytes-shown cut show b zero i = b i
 bytes-shown cut show b (suc d) i =
-    let l = shown cut show d (left i) in
-    let r = shown cut show d (right i) in
+    let l = prunedShown cut show d (left i) in
+    let r = prunedShown cut show d (right i) in
     let bl = bytes-shown cut show b d (left i) in
     let br = bytes-shown cut show b d (right i) in
     bytes-pick (cut i) (join d l r) (show i)
@@ -143,15 +143,15 @@ bytes-shown cut show b (suc d) i =
 
 -- in a plane of n samples and stride s, where of every block that lies in it as many samples are shown as it has
 module _ (s n : ℕ) (cut : ℕ → Bool) (show : ℕ → List ℕ) (len : (i : ℕ) → i < blockCount → In s (level i) i n → length (show i) ≡ area (level i)) where
-  pub length-shown : (d i : ℕ) → d ≤ 5 → level i ≡ d → i < blockCount → In s d i n → length (shown cut show d i) ≡ area d
-  unfolding shown
+  pub length-shown : (d i : ℕ) → d ≤ 5 → level i ≡ d → i < blockCount → In s d i n → length (prunedShown cut show d i) ≡ area d
+  unfolding prunedShown
   length-shown zero i f e h o = rw e at (len i h (rw e o))
   length-shown (suc d) i f e h o =
       let k : i < 31 = suc-row i d e in
       let below = suc-level i d e in
       let p = in-parts s d i e f n o in
-      let l = shown cut show d (left i) in
-      let r = shown cut show d (right i) in
+      let l = prunedShown cut show d (left i) in
+      let r = prunedShown cut show d (right i) in
       let hl = length-shown d (left i) (omega arith) (below (left i) (omega arith) (omega arith)) (omega arith) (p .0) in
       let hr = length-shown d (right i) (omega arith) (below (right i) (omega arith) (omega arith)) (omega arith) (p .1) in
       pick-length (cut i) (join d l r) (show i) (area (suc d)) (length-parts (square (suc d)) (height d) (width d) l r hl hr) (rw e at (len i h (rw e o)))
@@ -168,8 +168,8 @@ module _ (s n : ℕ) (cut : ℕ → Bool) (show : ℕ → List ℕ) (len : (i : 
   -- the error of a pruning: the sum of its leaves' errors is the squared distance of what it shows
   module _ (t : List ℕ) (long : length t ≡ n) (w : ℕ → Weight)
       (err : (i : ℕ) → i < blockCount → w i .err ≡ sse (blockOf s (level i) i t) (show i)) where
-    pub error-is : (d i : ℕ) → d ≤ 5 → level i ≡ d → i < blockCount → In s d i n → pruned w cut d i .err ≡ sse (blockOf s d i t) (shown cut show d i)
-    unfolding pruned shown
+    pub error-is : (d i : ℕ) → d ≤ 5 → level i ≡ d → i < blockCount → In s d i n → pruned w cut d i .err ≡ sse (blockOf s d i t) (prunedShown cut show d i)
+    unfolding pruned prunedShown
     error-is zero i f e h o = rw e at (err i h)
     error-is (suc d) i f e h o =
         let k : i < 31 = suc-row i d e in
@@ -179,7 +179,7 @@ module _ (s n : ℕ) (cut : ℕ → Bool) (show : ℕ → List ℕ) (len : (i : 
         let er = below (right i) (omega arith) (omega arith) in
         let whole = rw (← long) at o in
         let pt = rw (← long) at p in
-        error-step d (blockOf s (suc d) i t) (show i) (shown cut show d (left i)) (shown cut show d (right i)) (blockOf s d (left i) t) (blockOf s d (right i) t)
+        error-step d (blockOf s (suc d) i t) (show i) (prunedShown cut show d (left i)) (prunedShown cut show d (right i)) (blockOf s d (left i) t) (blockOf s d (right i) t)
         (pruned w cut d (left i)) (pruned w cut d (right i)) (w i) (cut i)
         (length-shown d (left i) (omega arith) el (omega arith) (p .0)) (length-shown d (right i) (omega arith) er (omega arith) (p .1))
         (length-block s d (left i) t (pt .0)) (length-block s d (right i) t (pt .1)) (block-parts s d i e f t whole)
@@ -192,8 +192,8 @@ module _ (s n : ℕ) (cut : ℕ → Bool) (show : ℕ → List ℕ) (len : (i : 
 
   -- the reconstruction: leaf by leaf is the whole block at its place, and nothing else
   pub rebuilt-is : (d i : ℕ) (m : List ℕ) → d ≤ 5 → level i ≡ d → i < blockCount → width d ≤ s → In s d i n
-      → rebuilt s cut show d i m ≡ paintAt s d i (shown cut show d i) m
-  unfolding rebuilt shown
+      → rebuilt s cut show d i m ≡ paintAt s d i (prunedShown cut show d i) m
+  unfolding rebuilt prunedShown
   rebuilt-is zero i m f e h v o = refl
   rebuilt-is (suc d) i m f e h v o =
       let k : i < 31 = suc-row i d e in
@@ -202,8 +202,8 @@ module _ (s n : ℕ) (cut : ℕ → Bool) (show : ℕ → List ℕ) (len : (i : 
       let el = below (left i) (omega arith) (omega arith) in
       let er = below (right i) (omega arith) (omega arith) in
       let u = width-up (square (suc d)) (width d) s v in
-      rw (rebuilt-is d (left i) m (omega arith) el (omega arith) u (p .0), rebuilt-is d (right i) (paintAt s d (left i) (shown cut show d (left i)) m) (omega arith) er (omega arith) u (p .1))
-      (rebuilt-step d i e f v (cut i) (shown cut show d (left i)) (shown cut show d (right i)) (show i) m
+      rw (rebuilt-is d (left i) m (omega arith) el (omega arith) u (p .0), rebuilt-is d (right i) (paintAt s d (left i) (prunedShown cut show d (left i)) m) (omega arith) er (omega arith) u (p .1))
+      (rebuilt-step d i e f v (cut i) (prunedShown cut show d (left i)) (prunedShown cut show d (right i)) (show i) m
       (length-shown d (left i) (omega arith) el (omega arith) (p .0)) (length-shown d (right i) (omega arith) er (omega arith) (p .1)))
 
 pub in-whole : In 16 5 0 256
@@ -249,7 +249,7 @@ first-place s (suc (suc (suc (suc zero)))) h = refl
 first-place s (suc (suc (suc (suc (suc zero))))) h = refl
 first-place s (suc (suc (suc (suc (suc (suc d)))))) h = absurd (omega arith)
 
-inside-first : (d : ℕ) → d ≤ 5 → Inside (width d) (height d) (width d) 0 (area d)
+inside-first : (d : ℕ) → d ≤ 5 → RowsInside (width d) (height d) (width d) 0 (area d)
 inside-first zero h = record { row = λ k l. omega arith }
 inside-first (suc zero) h = record { row = λ k l. omega arith }
 inside-first (suc (suc zero)) h = record { row = λ k l. omega arith }

@@ -18,7 +18,7 @@ weave zero w l r = []
 weave (suc h) w l r = take w l ++ (take w r ++ weave h w (drop w l) (drop w r))
 
 -- the block lies in the plane
-pub record Inside (s h w at n : ℕ) : Type 0 where
+pub record RowsInside (s h w at n : ℕ) : Type 0 where
   pub row : (k : ℕ) → k < h → at + s * k + w ≤ n
 
 -- ---- squared distance
@@ -58,10 +58,10 @@ gather-add s (suc h) k w at m =
     let e : at + s + s * h ≡ at + s * suc h = omega arith in
     rw (suc-add, gather, gather-add s h k w (at + s) m, e, append-assoc)
 
-pub inside-down : (s h w at n : ℕ) → Inside s (suc h) w at n → Inside s h w (at + s) n
+pub inside-down : (s h w at n : ℕ) → RowsInside s (suc h) w at n → RowsInside s h w (at + s) n
 inside-down s h w at n i = record { row = λ k l. omega (arith, i .row (suc k) (omega arith)) }
 
-pub gather-weave : (s h w at : ℕ) (m : List ℕ) → Inside s h (w + w) at (length m)
+pub gather-weave : (s h w at : ℕ) (m : List ℕ) → RowsInside s h (w + w) at (length m)
     → gather s h (w + w) at m ≡ weave h w (gather s h w at m) (gather s h w (at + w) m)
 unfolding gather weave
 gather-weave s zero w at m i = refl
@@ -86,7 +86,7 @@ gather-weave s (suc h) w at m i =
       ← gather-weave s h w (at + s) m (inside-down s h (w + w) at (length m) i),
     )
 
-pub length-gather : (s h w at : ℕ) (m : List ℕ) → Inside s h w at (length m) → length (gather s h w at m) ≡ h * w
+pub length-gather : (s h w at : ℕ) (m : List ℕ) → RowsInside s h w at (length m) → length (gather s h w at m) ≡ h * w
 unfolding gather
 length-gather s zero w at m i = omega arith
 length-gather s (suc h) w at m i =

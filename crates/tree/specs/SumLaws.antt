@@ -14,9 +14,9 @@ twice (suc n) = suc (suc (twice n))
 
 -- the sum over a list of blocks from number i on, where `own` is what a block counts at a level
 module _ {N : Type 0} (own : ℕ → N → ℕ) where
-  abbrev pub flat : (ℕ → ℕ) → ℕ → List N → ℕ
-  flat lev i [] = 0
-  flat lev i (x ∷ t) = own (lev i) x + flat lev (suc i) t
+  abbrev pub listSum : (ℕ → ℕ) → ℕ → List N → ℕ
+  listSum lev i [] = 0
+  listSum lev i (x ∷ t) = own (lev i) x + listSum lev (suc i) t
 
 module _ {N : Type 0} (own : ℕ → N → ℕ) (b : ℕ → N) where
   -- the sum over block i and all below it
@@ -28,7 +28,7 @@ module _ {N : Type 0} (own : ℕ → N → ℕ) (b : ℕ → N) where
   flat-fn lev zero i = 0
   flat-fn lev (suc n) i = own (lev i) (b i) + flat-fn lev n (suc i)
 
-  flat-is : (lev : ℕ → ℕ) (t : List N) (i : ℕ) (z : N) → ((k : ℕ) → b (i + k) ≡ getD t k z) → flat own lev i t ≡ flat-fn lev (length t) i
+  flat-is : (lev : ℕ → ℕ) (t : List N) (i : ℕ) (z : N) → ((k : ℕ) → b (i + k) ≡ getD t k z) → listSum own lev i t ≡ flat-fn lev (length t) i
   unfolding flat-fn
   flat-is lev [] i z h = refl
   flat-is lev (x ∷ t) i z h =
@@ -78,7 +78,7 @@ module _ {N : Type 0} (own : ℕ → N → ℕ) (b : ℕ → N) where
   flat-tree = omega (arith, rows, in-order)
 
 pub flat-is-tree : {N : Type 0} (own : ℕ → N → ℕ) (t : List N) (z : N) → length t ≡ 63
-    → flat own level 0 t ≡ tree-sum own (λ i. getD t i z) 5 0
+    → listSum own level 0 t ≡ tree-sum own (λ i. getD t i z) 5 0
 flat-is-tree own t z h =
     flat-is own (λ i. getD t i z) level t 0 z (λ k. rw zero-add)
     ∙ rw h (flat-tree own (λ i. getD t i z))

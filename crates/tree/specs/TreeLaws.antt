@@ -14,19 +14,19 @@ use Rattle.bits.specs.Basics.{pick}
 use Rattle.code_tables.specs.Codes.{got}
 use Rattle.book.specs.Book.{Tables}
 use Rattle.book.specs.BookLaws.{GoodTables}
-use Rattle.leaf.specs.LeafBitsLaws.{Allowed, read-leaf}
+use Rattle.leaf.specs.LeafBitsLaws.{AllowedLeaf, read-leaf}
 use Rattle.tree.specs.Blocks.{blockCount, level, first}
-use Rattle.tree.specs.SumLaws.{flat}
+use Rattle.tree.specs.SumLaws.{listSum}
 use Rattle.tree.specs.TreeBits.{Node, Off, Split, Ends, isSplit, reached, grow, nodeBits, emit, treeBits, asNode, readNode, readIf, readFrom, readTree}
 
 -- a node that may stand at a block of level d that is reached
-abbrev pub Stands : Tables → ℕ → Node → Type 0
-Stands T d Off = ⊥
-Stands T zero Split = ⊥
-Stands T (suc d) Split = Unit
-Stands T d (Ends l) = (d ≤ 5) × Allowed T d l
+abbrev pub TreeStands : Tables → ℕ → Node → Type 0
+TreeStands T d Off = ⊥
+TreeStands T zero Split = ⊥
+TreeStands T (suc d) Split = Unit
+TreeStands T d (Ends l) = (d ≤ 5) × AllowedLeaf T d l
 
-pub read-node : (T : Tables) → GoodTables T → (d : ℕ) (x : Node) (r : List ℕ) → Stands T d x → readNode T d (nodeBits T d x ++ r) ≡ got x r
+pub read-node : (T : Tables) → GoodTables T → (d : ℕ) (x : Node) (r : List ℕ) → TreeStands T d x → readNode T d (nodeBits T d x ++ r) ≡ got x r
 unfolding nodeBits readNode
 read-node T g d Off r h = absurd h
 read-node T g zero Split r h = absurd h
@@ -76,7 +76,7 @@ module _ (r : ℕ) where
   module _ (T : Tables) (g : GoodTables T) where
     -- a node fits its place: one that is reached may stand there, any other is off
     abbrev Fit : ℕ → Bool → Node → Type 0
-    Fit d true x = Stands T d x
+    Fit d true x = TreeStands T d x
     Fit d false x = x ≡ Off
 
     abbrev Fits : List Node → List Node → Type 0
@@ -103,12 +103,12 @@ module _ (r : ℕ) where
       fits-at (t ++ (x ∷ [])) u (rw append-snoc (λ i a b. h i (omega (arith, simp length-append at a)) b)),
     )
 
-    fit-pick : (l : Bool) (d : ℕ) (x : Node) → Stands T d x → Fit d l (pick l x Off)
+    fit-pick : (l : Bool) (d : ℕ) (x : Node) → TreeStands T d x → Fit d l (pick l x Off)
     fit-pick true d x o = o
     fit-pick false d x o = refl
 
     -- the tree that `choose` makes is read back, whatever bits follow
-    pub grown-read : (choose : ℕ → Node) → ((i : ℕ) → i < blockCount → Stands T (level i) (choose i)) → (rest : List ℕ)
+    pub grown-read : (choose : ℕ → Node) → ((i : ℕ) → i < blockCount → TreeStands T (level i) (choose i)) → (rest : List ℕ)
         → readFrom T r blockCount [] (emit T 0 (grow r choose blockCount) ++ rest) ≡ got (grow r choose blockCount) rest
     grown-read choose good rest =
         let t = grow r choose blockCount in
@@ -117,12 +117,12 @@ module _ (r : ℕ) where
         rw (grown choose blockCount i h) (fit-pick (reached r t i) (level i) (choose i) (good i h))) in
         rw (length-grow choose blockCount) at (round-trip t [] rest f)
 
-pub tree-read : (T : Tables) (d : ℕ) (choose : ℕ → Node) → GoodTables T → ((i : ℕ) → i < blockCount → Stands T (level i) (choose i)) → (rest : List ℕ)
+pub tree-read : (T : Tables) (d : ℕ) (choose : ℕ → Node) → GoodTables T → ((i : ℕ) → i < blockCount → TreeStands T (level i) (choose i)) → (rest : List ℕ)
     → readTree T d (treeBits T (grow (first d) choose blockCount) ++ rest) ≡ got (grow (first d) choose blockCount) rest
 unfolding readTree treeBits
 tree-read T d choose g good rest = grown-read (first d) T g choose good rest
 
-pub length-emit : (T : Tables) (i : ℕ) (t : List Node) → length (emit T i t) ≡ flat (λ d x. length (nodeBits T d x)) level i t
+pub length-emit : (T : Tables) (i : ℕ) (t : List Node) → length (emit T i t) ≡ listSum (λ d x. length (nodeBits T d x)) level i t
 unfolding emit
 length-emit T i [] = refl
 length-emit T i (x ∷ t) = simp length-append (omega (arith, length-emit T (suc i) t))

@@ -4,11 +4,11 @@ use mathlib.Core.List.{List}
 use Prim.Native.Nat.{ℕ, zero, suc, _+_, _*_, _≤_}
 use lib.ListN.{take, drop}
 use lib.Seq.{sets}
-use Rattle.tree.specs.RowsLaws.{Inside}
+use Rattle.tree.specs.RowsLaws.{RowsInside}
 
 -- h rows of w samples that lie in a plane of n samples and stride s from `at` on, and a run of that many samples; all small
 pub record Rows (s h w at n xs : ℕ) : Type 0 where
-  pub inside : Inside s h w at n
+  pub inside : RowsInside s h w at n
   pub run : xs ≡ h * w
   pub small : n ≤ 4096
   pub begins : at ≤ 4096
@@ -23,7 +23,7 @@ moved a b (suc h) w q p m out = moved a b h w (q + a) (p + b) m (sets out q (tak
 
 -- such rows lie in n samples and in k samples
 pub record Moves (a b h w q p n k : ℕ) : Type 0 where
-  pub to : Inside a h w q n
-  pub from : Inside b h w p k
+  pub to : RowsInside a h w q n
+  pub from : RowsInside b h w p k
   pub stride : a ≤ 4096
   pub step : b ≤ 4096

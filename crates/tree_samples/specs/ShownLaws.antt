@@ -13,7 +13,7 @@ use Rattle.book.specs.declared.svq1_vlc.Svq1Half.{Svq1Half}
 use Rattle.leaf.specs.AgreeLaws.{page-agrees, shown-same}
 use Rattle.codebook.specs.Codebook.{vectorAt}
 use Rattle.leaf.specs.Leaf.{Leaf, skip, coded, leafShown, capAt}
-use Rattle.leaf.specs.LeafBitsLaws.{Allowed}
+use Rattle.leaf.specs.LeafBitsLaws.{AllowedLeaf}
 use Rattle.codebook.specs.CodebookForms.{raisedCodebook}
 use Rattle.tree.specs.Blocks.{left, right, level, first, blockOf, rebuilt}
 use Rattle.tree.specs.Plan.{shownAt}
@@ -23,7 +23,7 @@ use Rattle.tree_samples.specs.RebuildNeeds.{raisedVectors, nodeAt, rebui
 use Rattle.tree_samples.specs.RebuildNeedsLaws.{open-stages}
 
 -- a leaf that may stand in a tree of the half's can be written and shown
-pub allowed-sound : (T : Tables) (d : ℕ) (l : Leaf) → Allowed T d l → Sound (T .half) d l
+pub allowed-sound : (T : Tables) (d : ℕ) (l : Leaf) → AllowedLeaf T d l → Sound (T .half) d l
 allowed-sound T d skip a = tt
 allowed-sound T d (coded m js) a = record { place = a .place; back = a .back; few = a .few; bare = a .bare; small = a .small }
 

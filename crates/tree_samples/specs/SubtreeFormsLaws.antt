@@ -12,7 +12,7 @@ use Rattle.bits.specs.BasicsLaws.{both-true, below, below-at}
 use Rattle.book.specs.Level.{width, height, area}
 use Rattle.tree.specs.Blocks.{blockCount, left, right, level, first, placeUnder, place, gather, blockOf}
 use Rattle.tree.specs.BlocksLaws.{level-le}
-use Rattle.tree.specs.RowsLaws.{Inside}
+use Rattle.tree.specs.RowsLaws.{RowsInside}
 use Rattle.tree_samples.specs.RowForms.{Rows}
 use Rattle.tree_samples.specs.SubtreeForms.{inTree, BlockPlaced}
 use Rattle.tree.specs.GeometryLaws.{In, area-most}
@@ -105,7 +105,7 @@ module _ (d i : ℕ) {s h w at : ℕ} where
       let e : height (level i) ≤ 16 = v .1 in
       let a : area d ≤ 256 = area-most d (b .five) in
       let o : area (level i) ≤ 256 = area-most (level i) (level-le i) in
-      let q : Inside (width d) (height (level i)) (width (level i)) (place (width d) i) n = rw (b .plane) (in-plane d i (b .five) (b .block) (b .under)) in
+      let q : RowsInside (width d) (height (level i)) (width (level i)) (place (width d) i) n = rw (b .plane) (in-plane d i (b .five) (b .block) (b .under)) in
       rw (ea, es, eh, ew) (record {
         inside = q;
         run = b .room;

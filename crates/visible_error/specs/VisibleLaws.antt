@@ -1,22 +1,20 @@
 -- Laws of the visible error: where its rows lie in source and canvas, a row as the distance of two runs, its most, and what passes the refusals.
 -- Assumes nothing.
-use Prim.Native.Nat.{ℕ, zero, suc, _+_, _-_, _*_, _/_, _%_, _≤_, _<_, min}
-use mathlib.Core.List.{List}
-use mathlib.Core.Path.{_≡_, refl, sym, ap, _∙_}
+use Prim.Native.Nat.{ℕ, zero, suc, _+_, _*_, _/_, _%_, _≤_, _<_}
+use mathlib.Core.Path.{_≡_, sym, ap, _∙_}
 use native.Mathlib.Nat.{mod-lt, div-lt-iff-lt-mul, mul-le-mul, mul-le-mul-right, suc-mul, mul-comm}
-use native.Mathlib.Numerals.{add-one}
 use native.Mathlib.Omega.{arith}
 use lib.Dec.{eqb}
 use borrow.Author.Tests.{eqb-true, ne-eqb}
-use lib.ListN.{length, take, drop, getD, length-drop}
-use lib.Seq.{length-take-le, getD-take, getD-drop}
+use lib.ListN.{length}
 use Rattle.bits.specs.Basics.{Bytes, sum}
 use Rattle.bits.specs.BasicsLaws.{or-next, unless-none, first-none}
+use Rattle.bits.specs.FillLaws.{runOf, length-run, run-at}
 use Rattle.bits.specs.SumLaws.{sum-same}
 use Rattle.canvas.specs.Canvas.{largestSide, blocksAlong, sizeRefusal, canvasRefusal, sourceLinks}
 use Rattle.canvas.specs.CanvasLaws.{plane-passes}
 use Rattle.leaf.specs.Leaf.{sse}
-use Rattle.leaf.specs.DistanceLaws.{square, sse-sum, gap-most}
+use Rattle.leaf.specs.DistanceLaws.{squareOf, sse-sum, gap-most}
 use Rattle.visible_error.specs.Visible.{ShownPlane, squareAt, visibleTotal, visibleRefusal, visibleAnswer}
 use Rattle.visible_error.specs.declared.VisibleError.{VisibleError}
 use Rattle.visible_error.specs.VisibleNeeds.{shownBlocks, Showable}
@@ -26,18 +24,6 @@ row-fits : (row rows wide b : ℕ) → row < rows → b ≤ wide → row * wide 
 row-fits row rows wide b h l =
     let up : suc row * wide ≤ rows * wide = mul-le-mul-right wide h in
     omega (arith, suc-mul row wide, up)
-
--- n samples from place a on, as the code takes them
-abbrev pub runOf : List ℕ → ℕ → ℕ → List ℕ
-runOf xs a n = take (a + n - a) (drop a xs)
-
-length-run : (xs : List ℕ) (a n : ℕ) → a + n ≤ length xs → length (runOf xs a n) ≡ n
-length-run xs a n h =
-    let e : a + n - a ≡ n = omega arith in
-    rw e (length-take-le n (drop a xs) (rw length-drop (omega arith)))
-
-run-at : (xs : List ℕ) (a n j : ℕ) → j < n → getD (runOf xs a n) j 0 ≡ getD xs (a + j) 0
-run-at xs a n j h = getD-take (a + n - a) (drop a xs) j 0 (omega arith) ∙ getD-drop a xs j 0
 
 module _ (s : ShownPlane) (ok : Showable s) where
   -- ---- where macroblock k begins
@@ -82,7 +68,7 @@ module _ (s : ShownPlane) (ok : Showable s) where
         let la = length-run (s .source) a n source-end in
         let lb = length-run (s .recon .samples) b n recon-end in
         sse-sum (runOf (s .source) a n) (runOf (s .recon .samples) b n) (la ∙ sym lb)
-        ∙ ap (sum (square (runOf (s .source) a n) (runOf (s .recon .samples) b n))) la
+        ∙ ap (sum (squareOf (runOf (s .source) a n) (runOf (s .recon .samples) b n))) la
         ∙ sum-same _ _ n (λ i l.
         let pa : a + i ≡ y * s .width + (x + i) = omega arith in
         let pb : b + i ≡ y * s .recon .stride + (x + i) = omega arith in

@@ -3,7 +3,6 @@ use Prim.Native.Nat.{ℕ, _*_}
 use mathlib.Core.List.{List}
 use mathlib.Core.Path.{_≡_}
 use lib.ListN.{length}
-use Rattle.bits.specs.Basics.{Bytes}
 use Rattle.canvas.specs.Canvas.{blocksAlong}
 use Rattle.canvas.specs.CanvasLaws.{Fitting}
 use Rattle.canvas.specs.declared.svq1_plane.Svq1PlaneCanvas.{Svq1PlaneCanvas}
@@ -13,7 +12,7 @@ use Rattle.visible_error.specs.Visible.{ShownPlane}
 abbrev pub shownBy : Svq1PlaneCanvas → List ℕ → List ℕ → ShownPlane
 shownBy c source recon = record { width = c .width; height = c .height; source = source; recon = record { samples = recon; stride = c .stride; rows = c .rows } }
 
--- its macroblocks
+-- how many macroblocks it has
 abbrev pub shownBlocks : ShownPlane → ℕ
 shownBlocks s = blocksAlong (s .height) * blocksAlong (s .width)
 

@@ -11,20 +11,20 @@ use Rattle.bits.specs.BasicsLaws.{front-size}
 use Rattle.code_tables.specs.Codes.{codesOf, prefixFree}
 use Rattle.code_tables.specs.CodesLaws.{good-take, good-drop}
 use Rattle.book.specs.Book.{codeTableSizes, eachPrefixFree}
-use Rattle.book.specs.BookLaws.{total, total-step, each-step, each-end, size-le}
+use Rattle.book.specs.BookLaws.{sizesSum, total-step, each-step, each-end, size-le}
 use Rattle.book_check.proofs.each_prefix_free_in.Statement.{statement}
 use Rattle.book_check.proofs.each_prefix_free_in.Tie as tie
 
 abbrev Inv-loop : tie.InvT-loop
 Inv-loop book lows₀ highs₀ i₀ before₀ lows highs i before =
-    (i ≤ 16) × (before + total (drop i codeTableSizes) ≡ 932) × (eachPrefixFree codeTableSizes book ≡ eachPrefixFree (drop i codeTableSizes) (drop (3 * before) book))
+    (i ≤ 16) × (before + sizesSum (drop i codeTableSizes) ≡ 932) × (eachPrefixFree codeTableSizes book ≡ eachPrefixFree (drop i codeTableSizes) (drop (3 * before) book))
     × (length lows ≡ length lows₀) × (length highs ≡ length highs₀)
 
 abbrev μ-loop : tie.MeasureT-loop
 μ-loop book lows₀ highs₀ i₀ before₀ lows highs i before = 16 - i
 
 loop-holds : tie.Need-loop-holds Inv-loop μ-loop
-unfolding total
+unfolding sizesSum
 loop-holds c = (omega arith, refl, refl, refl, refl)
 
 code-table-size-requires : tie.Need-code-table-size-requires Inv-loop μ-loop
@@ -36,7 +36,7 @@ mul-from c = omega arith
 -- the tables from here on have the entries that are left
 room : (c : tie.After-code-table-size Inv-loop μ-loop) →
     let u = c .before .before in
-    u .loop .before + (c .code-table-size .result + total (drop (u .loop .i + 1) codeTableSizes)) ≡ 932
+    u .loop .before + (c .code-table-size .result + sizesSum (drop (u .loop .i + 1) codeTableSizes)) ≡ 932
 room c =
     let u = c .before .before in
     ap (λ (n : ℕ). u .loop .before + n) (rw (c .code-table-size .ensures) (sym (total-step codeTableSizes (u .loop .i) (omega arith)))) ∙ u .loop .inv .1

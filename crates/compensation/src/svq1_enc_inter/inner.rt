@@ -189,7 +189,7 @@ fn rows_full(
     }
 }
 
-// Both with the side as a constant in each call, so that each loop has a known length.
+// The two above, each with the side as a constant in each call, so that every loop has a known length.
 pub fn full_error(
     t: &[u8],
     reference: &[u8],
@@ -209,6 +209,7 @@ pub fn full_error(
     rows_full(t, reference, x0, y0, stride, rows, 8, limit)
 }
 
+// Between samples.
 fn between_error(
     t: &[u8],
     reference: &[u8],

@@ -7,7 +7,7 @@ ghost use Rattle.bits.specs.Basics.{gap};
 ghost use Rattle.codebook.specs.Mean.{saturate};
 ghost use Rattle.leaf.specs.Leaf.{coded, sse, plus, samples, seeded, staged, leafShown};
 ghost use Rattle.leaf.specs.LeafForms.{less, Below, plusN, sqd, vectorsIn, leafOf};
-ghost use Rattle.leaf_samples.specs.ShowNeeds.{MeanKnown, Sized, Staging, CodeShows, Adding};
+ghost use Rattle.leaf_samples.specs.ShowNeeds.{MeanKnown, SizedSums, Staging, CodeShows, Adding};
 use bits::inner::put_row;
 use book::svq1_vlc::Svq1Half;
 use leaf::svq1_enc_leaf::LeafCode;
@@ -214,7 +214,7 @@ fn show_coded(
     count: usize,
     stages: [u8; 6],
 )
-    requires { ⌜ (mean ≤ 511) × Sized (now p) (now a) (now out) × Staging (length (now p)) (length (now book)) base count stages ⌝ }
+    requires { ⌜ (mean ≤ 511) × SizedSums (now p) (now a) (now out) × Staging (length (now p)) (length (now book)) base count stages ⌝ }
     ensures { λ _. ⌜ now (out .exit) ≡ leafShown (vectorsIn (now (book .entry)) base (length (now (p .entry)))) (now (p .entry)) (coded (subℕ mean 256) (take count stages)) ⌝ }
 {
     seed(a, p, mean);
@@ -233,7 +233,7 @@ pub fn show_leaf(
     code: LeafCode,
     stages: [u8; 6],
 )
-    requires { ⌜ Sized (now p) (now a) (now out) × CodeShows half (length (now p)) (length (now book)) base code stages ⌝ }
+    requires { ⌜ SizedSums (now p) (now a) (now out) × CodeShows half (length (now p)) (length (now book)) base code stages ⌝ }
     ensures { λ _. ⌜ now (out .exit) ≡ leafShown (vectorsIn (now (book .entry)) base (length (now (p .entry)))) (now (p .entry)) (leafOf code stages) ⌝ }
 {
     match code {

@@ -57,7 +57,7 @@ fn put_macroblock_line(
     put_number(text, d, error, b'\n')
 }
 
-// The lines of `count` macroblocks, `cols` to a row, from three numbers each: the mode's position, the bits, the error.
+// The lines of the first `count` macroblocks of the plane shown: mode and bits from `stated`, three numbers each, the error from the samples.
 pub fn put_lines(
     text: &mut [u8],
     canvas: Svq1PlaneCanvas,

@@ -1,6 +1,6 @@
 -- The parts that are lent are empty slices of the plane's size. Assumes nothing.
 use native.Mathlib.Omega.{arith}
-use mathlib.Core.Path.{_≡_, sym}
+use mathlib.Core.Path.{sym}
 use Prim.Native.Nat.{_*_, _/_, _≤_}
 use lib.ListN.{length}
 use lib.Seq.{length-take-le}

@@ -29,7 +29,7 @@ put-lines-requires c κs =
     (p .fits, p .done, omega (arith, p .done, p .few, p .numbers), omega (arith, p .done, p .few, e .pre .1))
 
 visible-total-requires : tie.Need-visible-total-requires
-visible-total-requires c κs = c .before .before .before .before .before .before .before .before .before .before .before .pre .0 .fits
+visible-total-requires c κs = c .before .before .before .before .before .before .before .before .before .before .pre .0 .fits
 
 put-total-line-requires : tie.Need-put-total-line-requires
 put-total-line-requires c κs =
@@ -46,7 +46,7 @@ returns-2 c =
     let e = c .before .before .before .before .before .before .before .before .before .before .before .before .before .before .before in
     let a = e .args in
     let p = e .pre .0 in
-    put-listed-end (plane e) (a .stated .now) (a .end) (a .text .now) (e .pre .1) _ _ _ _ (c .before .before .before .before .before .before .before .before .before .if1 .left) (omega (arith, p .done, p .few)) (c .before .before .before .before .before .before .before .put-lines .ensures) (rw (c .before .before .before .visible-total .ensures) at (c .before .before .put-total-line .ensures))
+    put-listed-end (plane e) (a .stated .now) (a .end) (a .text .now) (e .pre .1) _ _ _ _ (c .before .before .before .before .before .before .before .before .before .if1 .left) (omega (arith, p .done, p .few)) (c .before .before .before .before .before .before .before .put-lines .ensures) (rw (c .before .before .before .before .visible-total .ensures) at (c .before .before .put-total-line .ensures))
 
 pub put-plane-spec : {M : Type 1} → statement M
 put-plane-spec =

@@ -3,7 +3,8 @@ use Rattle.canvas.specs.Canvas.{Canvas}
 use mathlib.Core.Path.{_≡_, refl, _∙_}
 use Prim.Native.Nat.{_+_, _-_, _*_, _≤_}
 use Rattle.compensation.specs.RowForms.{rowAt, early, ReadIn}
-use Rattle.compensation.specs.RowFormsLaws.{RowIn, row-in, row-full, part-len}
+use Rattle.bits.specs.FillLaws.{length-run}
+use Rattle.compensation.specs.RowFormsLaws.{RowIn, row-in, row-full}
 use Rattle.compensation.specs.EarlyLaws.{begin, turn, stop, end}
 use native.Mathlib.Omega.{arith}
 use borrow.Author.Needs.{needs}
@@ -68,7 +69,7 @@ sad-requires : tie.Need-sad-requires Inv-loop μ-loop
 sad-requires c κs =
     let a = c .before .before .before .before .before .before .args in
     let f = row (c .before .before) in
-    (f .1 .side .most, part-len (a .t .now) _ (a .n) (f .0 .target), part-len (a .reference .now) ((a .y0 + c .before .before .before .loop .i) * a .stride + a .x0) (a .n) (omega (arith, f .0 .canvas)))
+    (f .1 .side .most, length-run (a .t .now) _ (a .n) (f .0 .target), length-run (a .reference .now) ((a .y0 + c .before .before .before .loop .i) * a .stride + a .x0) (a .n) (omega (arith, f .0 .canvas)))
 
 cast-sum : tie.Need-cast-sum Inv-loop μ-loop
 cast-sum c = omega (arith, c .before .before .before .before .before .before .before .pre .side)

@@ -9,7 +9,7 @@ use mir.Syntax.{w32}
 use lib.IntN.{ℤ}
 use Rattle.compensation.specs.MovedForms.{movedPart, down, upEnd}
 use Rattle.compensation.specs.MovedFormsLaws.{cols-some, part-corner}
-use Rattle.compensation.specs.InsideLaws.{Inside, is-inside, in-canvas, inside-moved}
+use Rattle.compensation.specs.InsideLaws.{ReadsInside, is-inside, in-canvas, inside-moved}
 use borrow.Author.Needs.{needs}
 use Rattle.compensation.proofs.svq1_mc.inner.mc_part.Statement.{statement}
 use Rattle.compensation.proofs.svq1_mc.inner.mc_part.Tie as tie
@@ -66,8 +66,8 @@ inside-requires-2 c κs = (places (c .before .before) .1, c .before .before .bef
 
 -- where both tests hold, the part lies in the canvas on both axes
 within : (c : tie.Then2)
-    → Inside (2 * (c .before .before .before .before .before .before .before .before .before .args .x + c .before .before .before .before .before .before .before .before .before .args .q % c .before .before .before .before .before .before .before .before .before .args .cols * c .before .before .before .before .before .before .before .before .before .args .s) + c .before .before .before .before .before .before .lift .result) (c .before .before .before .before .before .before .before .before .before .args .s) (c .before .before .before .before .before .before .before .before .before .args .stride)
-    × Inside (2 * (c .before .before .before .before .before .before .before .before .before .args .y + c .before .before .before .before .before .before .before .before .before .args .q / c .before .before .before .before .before .before .before .before .before .args .cols * c .before .before .before .before .before .before .before .before .before .args .s) + c .before .before .before .before .lift2 .result) (c .before .before .before .before .before .before .before .before .before .args .s) (c .before .before .before .before .before .before .before .before .before .args .rows)
+    → ReadsInside (2 * (c .before .before .before .before .before .before .before .before .before .args .x + c .before .before .before .before .before .before .before .before .before .args .q % c .before .before .before .before .before .before .before .before .before .args .cols * c .before .before .before .before .before .before .before .before .before .args .s) + c .before .before .before .before .before .before .lift .result) (c .before .before .before .before .before .before .before .before .before .args .s) (c .before .before .before .before .before .before .before .before .before .args .stride)
+    × ReadsInside (2 * (c .before .before .before .before .before .before .before .before .before .args .y + c .before .before .before .before .before .before .before .before .before .args .q / c .before .before .before .before .before .before .before .before .before .args .cols * c .before .before .before .before .before .before .before .before .before .args .s) + c .before .before .before .before .lift2 .result) (c .before .before .before .before .before .before .before .before .before .args .s) (c .before .before .before .before .before .before .before .before .before .args .rows)
 within c = (is-inside _ _ _ (sym (c .before .before .before .inside .ensures) ∙ c .before .before .if1 .taken), is-inside _ _ _ (sym (c .before .inside2 .ensures) ∙ c .if2 .taken))
 
 sub-part-inside : tie.Need-sub-part-inside

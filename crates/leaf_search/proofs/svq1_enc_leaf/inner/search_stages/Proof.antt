@@ -4,14 +4,14 @@ use mathlib.Core.Path.{_≡_, refl}
 use Prim.Native.Nat.{_-_}
 use lib.ListN.{length}
 use Rattle.leaf_samples.specs.RaisedLaws.{part-room}
-use Rattle.leaf_search.specs.StagesLaws.{Going, all-taken, stopped, taken}
+use Rattle.leaf_search.specs.StagesLaws.{StagesGoing, all-taken, stopped, taken}
 use borrow.Author.Needs.{needs}
 use Rattle.leaf_search.proofs.svq1_enc_leaf.inner.search_stages.Statement.{statement}
 use Rattle.leaf_search.proofs.svq1_enc_leaf.inner.search_stages.Tie as tie
 
 abbrev Inv-loop : tie.InvT-loop
 Inv-loop t a₀ book base bias cap error n index₀ count₀ at₀ p₀ least₀ a index count at p least =
-    Going (record { target = t; sums = a₀; codebook = book; base = base; bias = bias; cap = cap }) a index count at p least
+    StagesGoing (record { target = t; sums = a₀; codebook = book; base = base; bias = bias; cap = cap }) a index count at p least
 
 abbrev μ-loop : tie.MeasureT-loop
 μ-loop t a₀ book base bias cap error n index₀ count₀ at₀ p₀ least₀ a index count at p least = cap - count

@@ -5,7 +5,7 @@ use mathlib.Core.Path.{_≡_, refl, _∙_}
 use lib.ListN.{length}
 use Rattle.visible_error.specs.Visible.{ShownPlane}
 use Rattle.visible_error.specs.VisibleNeeds.{shownBy}
-use Rattle.listing_text.specs.LineForms.{ListedPut, lineText, linesFrom}
+use Rattle.listing_text.specs.LineForms.{ListedPut, linesFrom}
 use Rattle.listing_text.specs.LineFormsLaws.{no-lines, more-lines}
 use borrow.Author.Needs.{needs}
 use Rattle.listing_text.proofs.inner.lines.put_lines.Statement.{statement}

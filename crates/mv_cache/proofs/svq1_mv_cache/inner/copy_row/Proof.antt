@@ -2,7 +2,7 @@
 use mathlib.Core.Path.{_∙_}
 use native.Mathlib.Omega.{arith}
 use borrow.Author.Needs.{needs}
-use Rattle.bits.specs.FillLaws.{length-part}
+use Rattle.bits.specs.FillLaws.{length-run}
 use Rattle.mv_cache.specs.PutLaws.{row-part}
 use Rattle.mv_cache.proofs.svq1_mv_cache.inner.copy_row.Statement.{statement}
 use Rattle.mv_cache.proofs.svq1_mv_cache.inner.copy_row.Tie as tie
@@ -22,7 +22,7 @@ part-put-row-end c = omega arith
 put-row-requires : tie.Need-put-row-requires
 put-row-requires c κs =
     let s = c .before .before .before .before in
-    omega (arith, length-part (s .args .source .now) (s .args .p) (s .args .n) (s .pre .1))
+    omega (arith, length-run (s .args .source .now) (s .args .p) (s .args .n) (s .pre .1))
 
 same-length : tie.Need-same-length
 same-length c = search needs

@@ -1,7 +1,7 @@
 -- What is moved and what is left to move is the whole. Assumes nothing.
 use mathlib.Core.Path.{_≡_, refl, _∙_}
 use lib.ListN.{length}
-use Rattle.bits.specs.FillLaws.{length-part}
+use Rattle.bits.specs.FillLaws.{length-run}
 use Rattle.tree_samples.specs.RowForms.{Moves, moved}
 use Rattle.tree_samples.specs.RowFormsLaws.{move-room, move-turn, move-end}
 use native.Mathlib.Omega.{arith}
@@ -35,7 +35,7 @@ put-row-requires c κs =
     let s = c .before .before .before .loop in
     let a = c .before .before .before .before .before .before .args in
     let r = move-room _ _ _ _ _ _ _ _ (s .inv .0) (c .before .before .loop-test .taken) in
-    omega (arith, length-part (a .m .now) (s .p) (a .w) (r .1))
+    omega (arith, length-run (a .m .now) (s .p) (a .w) (r .1))
 
 add-p : tie.Need-add-p Inv-loop μ-loop
 add-p c = omega (arith, move-room _ _ _ _ _ _ _ _ (c .before .before .before .before .before .before .loop .inv .0) (c .before .before .before .before .before .loop-test .taken))
