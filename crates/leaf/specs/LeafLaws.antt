@@ -136,10 +136,10 @@ module _ (T : Tables) (vs : Vectors) (d : ℕ) (terms : LeafTerms) (t p : List �
 
 -- ---- as many samples as the block has, all of them bytes
 -- every vector has n samples
-abbrev pub SizedLeaf : Vectors → ℕ → Type 0
-SizedLeaf vs n = (s j : ℕ) → length (vs s j) ≡ n
+abbrev pub SizedVectors : Vectors → ℕ → Type 0
+SizedVectors vs n = (s j : ℕ) → length (vs s j) ≡ n
 
-pub vectors-sized : (codebook : List ℕ) (h : Svq1Half) (d : ℕ) → SizedLeaf (vectorAt codebook h d) (area d)
+pub vectors-sized : (codebook : List ℕ) (h : Svq1Half) (d : ℕ) → SizedVectors (vectorAt codebook h d) (area d)
 unfolding vectorAt
 vectors-sized codebook h d s j = length-values _ (area d) 0
 
@@ -149,7 +149,7 @@ length-plus [] ys e = refl
 length-plus (x ∷ xs) [] e = absurd (omega arith)
 length-plus (x ∷ xs) (y ∷ ys) e = ap suc (length-plus xs ys (omega arith))
 
-pub length-staged : (vs : Vectors) (n s : ℕ) (z : List ℤ) (js : List ℕ) → SizedLeaf vs n → length z ≡ n → length (staged vs s z js) ≡ n
+pub length-staged : (vs : Vectors) (n s : ℕ) (z : List ℤ) (js : List ℕ) → SizedVectors vs n → length z ≡ n → length (staged vs s z js) ≡ n
 unfolding staged
 length-staged vs n s z [] f e = e
 length-staged vs n s z (j ∷ js) f e =
@@ -163,7 +163,7 @@ pub length-seeded : (m : ℤ) (p : List ℕ) → length (seeded m p) ≡ length 
 unfolding seeded
 length-seeded m p = length-map p _
 
-pub length-shown : (vs : Vectors) (p : List ℕ) (l : Leaf) → SizedLeaf vs (length p) → length (leafShown vs p l) ≡ length p
+pub length-shown : (vs : Vectors) (p : List ℕ) (l : Leaf) → SizedVectors vs (length p) → length (leafShown vs p l) ≡ length p
 unfolding leafShown
 length-shown vs p skip f = refl
 length-shown vs p (coded m js) f =

@@ -56,23 +56,23 @@ alike-below (suc n) (suc m) v zero = omega arith
 alike-below (suc n) (suc m) v (suc i) = alike-below n m v i
 
 -- bytes as a vector on sums of 128 show themselves
-pub level-bytes : (m : ℕ) (p : List ℕ) → length p ≤ m → Bytes p → samples (plus (less 0 (take (length p) (replicate m 128))) (less 128 p)) ≡ p
+pub bytes-on-128 : (m : ℕ) (p : List ℕ) → length p ≤ m → Bytes p → samples (plus (less 0 (take (length p) (replicate m 128))) (less 128 p)) ≡ p
 unfolding samples plus less
-level-bytes m [] h b = refl
-level-bytes zero (x ∷ p) h b = absurd (omega arith)
-level-bytes (suc m) (x ∷ p) h b =
+bytes-on-128 m [] h b = refl
+bytes-on-128 zero (x ∷ p) h b = absurd (omega arith)
+bytes-on-128 (suc m) (x ∷ p) h b =
     let k : x < 256 = b 0 in
     let e : saturate (subℕ 128 0 +ℤ subℕ x 128) ≡ x = ap saturate (sub-add 128 0 x 128) ∙ saturate-less (128 + x) 128 ∙ omega arith in
-    rw e (ap (λ (l : List ℕ). x ∷ l) (level-bytes m p (omega arith) (λ i. b (suc i))))
+    rw e (ap (λ (l : List ℕ). x ∷ l) (bytes-on-128 m p (omega arith) (λ i. b (suc i))))
 
 -- a vector of zeros changes no sum
-pub middle-adds : (m b : ℕ) (a : List ℕ) → length a ≤ m → plus (less b a) (less 128 (take (length a) (replicate m 128))) ≡ less b a
+pub zero-vector-adds : (m b : ℕ) (a : List ℕ) → length a ≤ m → plus (less b a) (less 128 (take (length a) (replicate m 128))) ≡ less b a
 unfolding plus less
-middle-adds m b [] h = refl
-middle-adds zero b (x ∷ a) h = absurd (omega arith)
-middle-adds (suc m) b (x ∷ a) h =
+zero-vector-adds m b [] h = refl
+zero-vector-adds zero b (x ∷ a) h = absurd (omega arith)
+zero-vector-adds (suc m) b (x ∷ a) h =
     let e : subℕ x b +ℤ subℕ 128 128 ≡ subℕ x b = sub-add x b 128 128 ∙ sub-eq (x + 128) (b + 128) x b (omega arith) in
-    rw e (ap (λ (l : List ℤ). subℕ x b ∷ l) (middle-adds m b a (omega arith)))
+    rw e (ap (λ (l : List ℤ). subℕ x b ∷ l) (zero-vector-adds m b a (omega arith)))
 
 -- ---- the first place of the least
 

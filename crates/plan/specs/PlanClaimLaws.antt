@@ -19,7 +19,7 @@ use Rattle.leaf.specs.Leaf.{sse}
 use Rattle.leaf.specs.LeafBits.{leafBits}
 use Rattle.leaf.specs.LeafBitsLaws.{AllowedLeaf, leaf-most}
 use Rattle.leaf.specs.LeafCall.{BlockIn, halfAt, blockOk, blockRefusal}
-use Rattle.leaf.specs.LeafLaws.{SizedLeaf, vectors-sized, rule-allowed}
+use Rattle.leaf.specs.LeafLaws.{SizedVectors, vectors-sized, rule-allowed}
 use Rattle.leaf.specs.LeafLaws as leaf-laws
 use Rattle.tree.specs.Blocks.{blockCount, left, right, level, blockOf}
 use Rattle.tree.specs.BlocksLaws.{level-0, level-le, At, at-parts}
@@ -36,7 +36,7 @@ use Rattle.plan.specs.PlanClaim.{largestLambda, planCost, PlanClaimed}
 -- what a plan may assume: tables of its terms' half that read back, vectors of their levels' sizes, a block and a predictor of bytes
 pub record Planned (g : Planning) : Type 0 where
   pub tables : GoodTables (g .tables)
-  pub sized : (d : ℕ) → SizedLeaf (g .vectors d) (area d)
+  pub sized : (d : ℕ) → SizedVectors (g .vectors d) (area d)
   pub same-half : g .tables .half ≡ g .terms .half
   pub few : g .terms .cap ≤ 6
   pub inter : g .terms .skip ≡ true → g .terms .half ≡ Inter

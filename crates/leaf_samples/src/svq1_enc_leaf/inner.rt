@@ -117,7 +117,7 @@ pub fn vector_sse(t: &[u8], a: &[u16], w: &[u8], bias: u16) -> u32
 }
 
 // The vector of zeros, whose samples are kept plus 128.
-const MIDDLE: [u8; 256] = [128; 256];
+const ZERO_VECTOR: [u8; 256] = [128; 256];
 
 // The squared error of the sums `a` as they are, each kept plus `bias`.
 pub fn sums_error(t: &[u8], a: &[u16], bias: u16) -> u32
@@ -125,11 +125,11 @@ pub fn sums_error(t: &[u8], a: &[u16], bias: u16) -> u32
     ensures { λ r. ⌜ r ≡ sse (now (t .entry)) (samples (less bias (now (a .entry)))) ⌝ }
 {
     let n = t.len();
-    vector_sse(t, a, &MIDDLE[..n], bias + 128)
+    vector_sse(t, a, &ZERO_VECTOR[..n], bias + 128)
 }
 
 // Sums to which a block is added as if its samples were a vector's, kept plus 128.
-const LEVEL: [u16; 256] = [128; 256];
+const SUMS_OF_128: [u16; 256] = [128; 256];
 
 // The squared distance of two blocks.
 pub fn distance_of(t: &[u8], p: &[u8]) -> u32
@@ -137,7 +137,7 @@ pub fn distance_of(t: &[u8], p: &[u8]) -> u32
     ensures { λ r. ⌜ r ≡ sse (now (t .entry)) (now (p .entry)) ⌝ }
 {
     let n = t.len();
-    vector_sse(t, &LEVEL[..n], p, 128)
+    vector_sse(t, &SUMS_OF_128[..n], p, 128)
 }
 
 // The samples that the sums show.

@@ -1,10 +1,10 @@
--- A block as a vector on sums of 128 (`level-bytes`). Assumes nothing.
+-- A block as a vector on sums of 128 (`bytes-on-128`). Assumes nothing.
 use mathlib.Core.Path.{sym, ap, _∙_}
 use native.Mathlib.Omega.{arith}
 use lib.ListN.{length, replicate}
 use lib.Seq.{length-take-le}
 use Rattle.leaf.specs.Leaf.{sse}
-use Rattle.leaf_samples.specs.RaisedLaws.{level-bytes, alike-below}
+use Rattle.leaf_samples.specs.RaisedLaws.{bytes-on-128, alike-below}
 use borrow.Author.Needs.{needs}
 use Rattle.leaf_samples.proofs.svq1_enc_leaf.inner.distance_of.Statement.{statement}
 use Rattle.leaf_samples.proofs.svq1_enc_leaf.inner.distance_of.Tie as tie
@@ -24,7 +24,7 @@ returns : tie.Need-returns
 returns c =
     let k = c .before .before in
     let s = k .before .before in
-    c .vector-sse .ensures ∙ ap (sse (s .args .t .now)) (rw (s .pre .1) at (level-bytes 256 (s .args .p .now) (omega arith) (λ i. omega (arith, k .shared-slice-known2 .given i))))
+    c .vector-sse .ensures ∙ ap (sse (s .args .t .now)) (rw (s .pre .1) at (bytes-on-128 256 (s .args .p .now) (omega arith) (λ i. omega (arith, k .shared-slice-known2 .given i))))
 
 pub distance-of-spec : {M : Type 1} → statement M
 distance-of-spec =
