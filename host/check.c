@@ -95,7 +95,7 @@ const struct tables *tables(void)
     at = plain_table(made.plain, at, 512, 9);
     for (int level = 0; level < 12; level++)
         at = plain_table(made.plain, at, 8, 3);
-    CHECK(at == 932);
+    CHECK(at == BOOK_ENTRIES);
     ready = 1;
     return &made;
 }
@@ -104,15 +104,33 @@ const struct book_table BOOK_TABLES[BOOK_TABLE_COUNT] = {
     {"mode", 4}, {"vector", 64}, {"intramean", 256}, {"intermean", 512}, {"intrastage", 48}, {"interstage", 48},
 };
 
-size_t book_file_of(char *file, const uint8_t *book, int backwards, size_t odd, unsigned length, unsigned value)
+struct book_lines book_lines_in_order(void)
+{
+    struct book_lines lines;
+    memset(&lines, 0, sizeof lines);
+    lines.count = lines.odd = BOOK_ENTRIES;
+    for (size_t k = 0; k < BOOK_ENTRIES; k++)
+        lines.entry[k] = k;
+    return lines;
+}
+
+size_t book_text_of(char *text, const uint8_t *book, const struct book_lines *lines)
 {
     size_t n = 0;
-    for (size_t k = 0; k < 932; k++) {
-        size_t at = backwards ? 931 - k : k, t = 0, p = at;
+    for (size_t k = 0; k < lines->count; k++) {
+        size_t at = lines->entry[k], t = 0, p = at;
         while (p >= BOOK_TABLES[t].entries)
             p -= BOOK_TABLES[t++].entries;
         const uint8_t *e = book + 3 * at;
-        n += (size_t)snprintf(file + n, BOOK_FILE_MOST - n, "%s,%zu,%u,%u\n", BOOK_TABLES[t].name, p, at == odd ? length : e[2], at == odd ? value : e[0] * 256u + e[1]);
+        int odd = at == lines->odd;
+        unsigned length = odd ? lines->length : e[2], value = odd ? lines->value : e[0] * 256u + e[1];
+        n += (size_t)snprintf(text + n, BOOK_FILE_MOST - n, "%s,%zu,%u,%u\n", BOOK_TABLES[t].name, p, length, value);
     }
     return n;
+}
+
+size_t book_file_of(char *file, const uint8_t *book)
+{
+    struct book_lines lines = book_lines_in_order();
+    return book_text_of(file, book, &lines);
 }

@@ -33,11 +33,20 @@ struct tables { uint8_t book[CABUNLIS_BOOK_BYTES], plain[CABUNLIS_BOOK_BYTES], c
 const struct tables *tables(void);
 
 /* The tables of a book file, in the book's order. */
-enum { BOOK_TABLE_COUNT = 6, BOOK_FILE_MOST = 40000 };
+enum { BOOK_TABLE_COUNT = 6, BOOK_ENTRIES = 932, BOOK_FILE_MOST = 40000 };
 extern const struct book_table { const char *name; unsigned entries; } BOOK_TABLES[BOOK_TABLE_COUNT];
 
-/* A book as a file of at most BOOK_FILE_MOST bytes, its lines backwards if asked; entry `odd` gets another length and value. Answers its length. */
-size_t book_file_of(char *file, const uint8_t *book, int backwards, size_t odd, unsigned length, unsigned value);
+/* The lines of a book file: the entry that each speaks of. Entry `odd` gets another length and value; BOOK_ENTRIES means none. */
+struct book_lines { size_t entry[BOOK_ENTRIES + 1], count, odd; unsigned length, value; };
+
+/* Each entry once, in the order of the file. */
+struct book_lines book_lines_in_order(void);
+
+/* Lines of a book as text, at most BOOK_FILE_MOST bytes. Answers its length. */
+size_t book_text_of(char *text, const uint8_t *book, const struct book_lines *lines);
+
+/* A book as its file. */
+size_t book_file_of(char *file, const uint8_t *book);
 
 void test_cards(void);
 void test_refusals(void);

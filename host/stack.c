@@ -60,10 +60,17 @@ static void *room(void *lent)
     return NULL;
 }
 
-static void *book_file(void *lent)
+static void *read_file(void *lent)
 {
     struct lent *l = lent;
     cabunlis_read_book_file((const uint8_t *)l->file, l->file_length, l->book, sizeof l->book);
+    return NULL;
+}
+
+static void *write_file(void *lent)
+{
+    struct lent *l = lent;
+    cabunlis_write_book_file(tables()->book, CABUNLIS_BOOK_BYTES, (uint8_t *)l->file, sizeof l->file);
     return NULL;
 }
 
@@ -99,14 +106,15 @@ static size_t touched(void *(*work)(void *), struct lent *l)
 int main(void)
 {
     static const struct { const char *name; void *(*work)(void *); } CALLS[] = {
-        {"encode_inter_plane", encode}, {"decode_inter_plane", decode}, {"visible_error", visible}, {"plane_room", room}, {"read_book_file", book_file}, {"house", house},
+        {"encode_inter_plane", encode}, {"decode_inter_plane", decode}, {"visible_error", visible}, {"plane_room", room}, {"read_book_file", read_file},
+        {"write_book_file", write_file}, {"house", house},
     };
     uint64_t state = 9;
     struct lent *l = host_memory(sizeof *l);
     l->p = plane_of(SIDE, SIDE);
     for (size_t k = 0; k < SIDE * SIDE; k++)
         l->p.source[k] = l->p.reference[(k + 3) % (SIDE * SIDE)] = (uint8_t)(random_next(&state) % 128);
-    l->file_length = book_file_of(l->file, tables()->book, 0, 932, 0, 0);
+    l->file_length = book_file_of(l->file, tables()->book);
     size_t thread_alone = touched(nothing, l);
     for (size_t k = 0; k < sizeof CALLS / sizeof *CALLS; k++) {
         size_t whole = touched(CALLS[k].work, l);

@@ -101,7 +101,7 @@
  * same arguments and structs, PATCH with the rest.
  */
 #define CABUNLIS_VERSION_MAJOR 1
-#define CABUNLIS_VERSION_MINOR 1
+#define CABUNLIS_VERSION_MINOR 2
 #define CABUNLIS_VERSION_PATCH 0
 
 /* One number that grows with the version, for #if (1.2.3 is 1002003), and text, as "1.2.3". */
@@ -122,6 +122,7 @@
 #define cabunlis_plane_room CABUNLIS_ENTRY(plane_room)
 #define cabunlis_plane_room_under CABUNLIS_ENTRY(plane_room_under)
 #define cabunlis_read_book_file CABUNLIS_ENTRY(read_book_file)
+#define cabunlis_write_book_file CABUNLIS_ENTRY(write_book_file)
 #define cabunlis_house_book CABUNLIS_ENTRY(house_book)
 #define cabunlis_house_codebook CABUNLIS_ENTRY(house_codebook)
 
@@ -152,8 +153,8 @@ extern "C" {
 /* The longest bit string, in bytes. */
 #define CABUNLIS_MOST_BYTES ((size_t)1 << 28)
 
-/* Stack that a call may take, in bytes. Measured: writer 44,768, reader 44,096, a book file 8,104, a room under a book 4,296, the
- * visible error 664, the others next to nothing. */
+/* Stack that a call may take, in bytes. Measured: writer 44,768, reader 44,096, a book file read 8,104 and written 4,488, a room
+ * under a book 4,296, the visible error 664, the others next to nothing. */
 #define CABUNLIS_STACK_BYTES 49152
 
 /* The refusals that a C host can meet; no other number comes. */
@@ -177,14 +178,17 @@ enum cabunlis_refusal {
     CABUNLIS_ERR_NO_CODE = 10,
     /* reader: an intra leaf that skips, or stages at level 4 or 5 */
     CABUNLIS_ERR_LEAF = 11,
-    /* vx or vy shorter than four entries a macroblock (longer is fine, the rest stays), or recon length not stride x rows */
+    /* vx or vy shorter than four entries a macroblock, or the slice for a book's file shorter than the file (longer is fine, the
+     * rest stays); or recon length not stride x rows */
     CABUNLIS_ERR_RESULTS = 20,
     /* bit string longer than CABUNLIS_MOST_BYTES, or start bit beyond its end: above 8 x its length */
     CABUNLIS_ERR_BITS = 21,
     /* writer: the next macroblock does not fit */
     CABUNLIS_ERR_FULL = 22,
     /* reader: the bits end before the last macroblock is whole */
-    CABUNLIS_ERR_CUT = 24
+    CABUNLIS_ERR_CUT = 24,
+    /* a book file that has every line once, and not in the order of the book; tested behind 5 and before 6 */
+    CABUNLIS_ERR_ORDER = 30
 };
 
 /*
@@ -319,12 +323,44 @@ struct cabunlis_room cabunlis_plane_room(size_t width, size_t height);
 struct cabunlis_room cabunlis_plane_room_under(size_t width, size_t height, const uint8_t *book, size_t book_length);
 
 /*
- * Reads a book file into `book`, which is written whole, or not at all where the file is refused. The file has 932 lines
- * `table,position,length,code`, each ended by a line feed, in any order, each entry once: table is mode, vector, intramean,
- * intermean, intrastage or interstage, position the entry's place in it from 0 on, all numbers decimal and without leading zeros,
- * as in `mode,3,1,1`. Answers 0 or a refusal: 5 (also where `book` has another length), 6, 7.
+ * A book file is a book as text: a line `table,position,length,code` for each of its 932 entries, ended by a line feed, in the
+ * order of the book. The tables are mode, vector, intramean, intermean, intrastage and interstage, one behind the other, and in
+ * each the positions rise from 0 on. All numbers are decimal and without leading zeros. So a book has one file, and two books are
+ * the same exactly where their files are. The built-in book's begins
+ *
+ *     mode,0,3,2
+ *     mode,1,3,3
+ *     mode,2,5,4
+ *     mode,3,1,1
+ *     vector,0,13,65
+ */
+
+/* The longest file of a book that 5, 6 and 7 do not refuse, in bytes; no file that is read without a refusal is longer. */
+#define CABUNLIS_MOST_BOOK_FILE_BYTES 20902
+
+/*
+ * Reads a book file into `book`, which is written whole, or not at all where the file is refused. Answers 0 or a refusal.
+ *
+ * Refusals, tested in this order: 5 (also where `book` has another length), 30, 6, 7. Each is judged on the whole file: where a
+ * line is malformed, missing or doubled, 5 comes before 30 wherever they stand, and a file in another order is 30 whatever its
+ * codes are.
  */
 uint32_t cabunlis_read_book_file(const uint8_t *file, size_t file_length, uint8_t *book, size_t book_length);
+
+/* What writing a book's file answers: 0 and how many bytes the file has, or a refusal and 0. */
+struct cabunlis_written {
+    uint32_t refusal;
+    size_t bytes;
+};
+
+/*
+ * Writes the file of `book` to the front of `out`; CABUNLIS_MOST_BOOK_FILE_BYTES are room for any. Leaves in `out` the file, and
+ * what lies behind it as it was; where the call is refused, every byte. `book` is only read. The first `bytes` bytes of `out` are
+ * the file: reading them gives the same book back, while with anything behind the last line feed they are no file (5).
+ *
+ * Refusals, tested in this order: 5, 6 and 7 of the book, then 20 where `out` is shorter than the file; as long is enough.
+ */
+struct cabunlis_written cabunlis_write_book_file(const uint8_t *book, size_t book_length, uint8_t *out, size_t out_length);
 
 /* Fill `book` and `codebook` with the built-in ones. Answer 0, or 5 where the slice has another length. */
 uint32_t cabunlis_house_book(uint8_t *book, size_t book_length);

@@ -115,29 +115,32 @@ impl Book {
         Self { entries }
     }
 
-    /// The book file's lines in table order.
-    pub fn lines(&self) -> Vec<String> {
-        let mut lines = Vec::with_capacity(BOOK_ENTRIES);
+    /// The book's one file: tables in their order, positions rising
+    /// (document 02, §2).
+    pub fn file(&self) -> String {
+        let mut file = String::new();
         for table in TABLES {
             for (position, (value, length)) in self.table(table).iter().enumerate() {
-                lines.push(format!("{},{position},{length},{value}\n", table.name()));
+                file += &format!("{},{position},{length},{value}\n", table.name());
             }
         }
-        lines
+        file
     }
 
-    /// Reads a book file. Document 01's refusals are not the oracle's
-    /// business: a file that is not in order is an error with a message.
+    /// Reads a book file in that order; lines in another are an error with a
+    /// message. The refusals are not the oracle's business.
     pub fn parse(text: &str) -> Result<Self, String> {
-        let mut entries = vec![None; BOOK_ENTRIES];
+        let mut entries = Vec::with_capacity(BOOK_ENTRIES);
         for line in text.lines() {
             let (place, entry) = parse_line(line).ok_or(format!("bad book line: {line}"))?;
-            if entries[place].replace(entry).is_some() {
-                return Err(format!("doubled book line: {line}"));
+            if place != entries.len() {
+                return Err(format!("book line at another place than its own: {line}"));
             }
+            entries.push(entry);
         }
-        let entries: Option<Vec<_>> = entries.into_iter().collect();
-        let entries = entries.ok_or("a book line is missing")?;
+        if entries.len() != BOOK_ENTRIES {
+            return Err("a book line is missing".into());
+        }
         Ok(Self { entries })
     }
 

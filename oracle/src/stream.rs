@@ -40,12 +40,12 @@ pub fn load_files(folder: &Path) -> Result<Job, String> {
 
 /// Writes the house book and codebook as files.
 pub fn house(folder: &Path) -> Result<(), String> {
-    write_tables(folder, &Book::house().lines(), &house_codebook())
+    write_tables(folder, &Book::house(), &house_codebook())
 }
 
-fn write_tables(folder: &Path, lines: &[String], codebook: &[i8]) -> Result<(), String> {
+fn write_tables(folder: &Path, book: &Book, codebook: &[i8]) -> Result<(), String> {
     fs::create_dir_all(folder).map_err(|error| error.to_string())?;
-    write(&folder.join("book.txt"), lines.concat().as_bytes())?;
+    write(&folder.join("book.txt"), book.file().as_bytes())?;
     write(&folder.join("codebook.bin"), &unsigned(codebook))
 }
 
@@ -56,10 +56,8 @@ pub fn gen_files(seed: u64, count: u64, folder: &Path) -> Result<(), String> {
         let book = any_book(&mut random);
         let codebook = any_codebook(&mut random);
         let job = any_job(&mut random);
-        let mut lines = book.lines();
-        random.shuffle(&mut lines);
         let place = folder.join(index.to_string());
-        write_tables(&place, &lines, &codebook)?;
+        write_tables(&place, &book, &codebook)?;
         job.write_files(&place)?;
     }
     Ok(())

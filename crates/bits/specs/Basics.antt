@@ -44,7 +44,7 @@ unfoldable pub valuesFrom : {A : Type 0} → (ℕ → A) → ℕ → ℕ → Lis
 valuesFrom f zero j = []
 valuesFrom f (suc n) j = f j ∷ valuesFrom f n (suc j)
 
--- refusals (document 01, "Refused for what came in"): the first of two that is one, 0 being none. Calls list theirs lowest number first
+-- refusals (document 01, "Refused for what came in"): the first of two that is one, 0 being none. Calls list theirs lowest number first, but for those that document 02 places otherwise
 abbrev pub orElse : ℕ → ℕ → ℕ
 orElse a b = pick (eqb a 0) b a
 

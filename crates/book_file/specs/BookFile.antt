@@ -1,13 +1,14 @@
--- A book file: its lines, what refuses it and the book that it holds (document 01, "The book", refusals 5, 6, 7).
+-- A book file: its text, its lines, what refuses it and the book that it holds (document 01, "The book", refusals 5, 6, 7; document 02, §2, refusals 20, 30).
 use Prim.Native.Nat.{ℕ, zero, suc, _+_, _/_, _%_}
 use mathlib.Core.Bool.{Bool, true, _&&_}
-use mathlib.Core.List.{List, [], _∷_}
+use mathlib.Core.List.{List, [], _∷_, _++_}
 use mathlib.Core.Option.{Option, none, some}
 use lib.Dec.{eqb, ltb}
-use Rattle.bits.specs.Basics.{pick, every, orElse, unless}
-use Rattle.code_tables.specs.Codes.{goodEntry}
-use Rattle.text.specs.Text.{ascii, numberUpTo, linesOf, fieldsOf, same}
-use Rattle.book.specs.Book.{bookEntries, codeTableSizes, eachPrefixFree}
+use Rattle.bits.specs.Basics.{pick, firstOf, unless}
+use Rattle.code_tables.specs.Codes.{codeLen, codeVal}
+use Rattle.text.specs.Text.{ascii, decimal, numberUpTo, lineOf, linesOf, fieldsOf, same}
+use Rattle.text.specs.WritingForms.{textRefusal}
+use Rattle.book.specs.Book.{bookEntries, codesRefusal, bookRefusal}
 
 -- a table as a file names it, its first entry in a book and its entries
 pub record Table : Type 0 where
@@ -15,7 +16,7 @@ pub record Table : Type 0 where
   pub from : ℕ
   pub size : ℕ
 
--- the six tables in a book's order
+-- the six tables in a book's order, which is the file's
 abbrev pub fileTables : List Table
 fileTables =
     record { name = ascii "mode"; from = 0; size = 4 }
@@ -26,6 +27,30 @@ fileTables =
     ∷ record { name = ascii "interstage"; from = 884; size = 48 }
     ∷ []
 
+-- ---- the file of a book
+-- the line at position p of a table: table, position, length, code
+unfoldable pub tableLine : List ℕ → Table → ℕ → List ℕ
+tableLine book t p = lineOf (t .name ∷ decimal p ∷ decimal (codeLen book (t .from + p)) ∷ decimal (codeVal book (t .from + p)) ∷ [])
+
+-- the lines of a table's first n positions, rising
+unfoldable pub tableLines : List ℕ → Table → ℕ → List ℕ
+tableLines book t zero = []
+tableLines book t (suc n) = tableLines book t n ++ tableLine book t n
+
+-- tables one behind the other
+unfoldable pub tablesText : List ℕ → List Table → List ℕ
+tablesText book [] = []
+tablesText book (t ∷ ts) = tableLines book t (t .size) ++ tablesText book ts
+
+-- the one file of a book
+unfoldable pub bookFile : List ℕ → List ℕ
+bookFile book = tablesText book fileTables
+
+-- 5, 6 or 7 of a book to be filed, then 20: the slice lent for its file is shorter than the file
+unfoldable pub writeFileRefusal : List ℕ → ℕ → ℕ
+writeFileRefusal book room = firstOf (bookRefusal book ∷ textRefusal (bookFile book) room ∷ [])
+
+-- ---- the lines of a file
 -- what a line says: the code's length and value at an entry of the book
 pub record Line : Type 0 where
   pub entry : ℕ
@@ -88,26 +113,19 @@ unfoldable pub onceEach : ℕ → ℕ → List Line → Bool
 onceEach zero e ls = true
 onceEach (suc n) e ls = eqb (mentions e ls) 1 && onceEach n (suc e) ls
 
--- the three bytes of entry e: its code's high byte, its low byte, its length
-unfoldable pub bytesAt : ℕ → List Line → List ℕ → List ℕ
-bytesAt e [] rest = rest
-bytesAt e (l ∷ ls) rest = pick (eqb (l .entry) e) (l .value / 256 ∷ l .value % 256 ∷ l .long ∷ rest) (bytesAt e ls rest)
+-- the lines follow a book's order: entry after entry from e on
+unfoldable pub inOrder : ℕ → List Line → Bool
+inOrder e [] = true
+inOrder e (l ∷ ls) = eqb (l .entry) e && inOrder (suc e) ls
 
--- n entries from e on
-unfoldable pub bytesFrom : ℕ → ℕ → List Line → List ℕ
-bytesFrom zero e ls = []
-bytesFrom (suc n) e ls = bytesAt e ls (bytesFrom n (suc e) ls)
-
--- the book that lines hold
+-- the book of lines in order, three bytes each: the code's high byte, its low byte, its length. A length that no byte holds is refused by 6
 unfoldable pub bookOf : List Line → List ℕ
-bookOf ls = bytesFrom bookEntries 0 ls
+bookOf [] = []
+bookOf (l ∷ ls) = l .value / 256 ∷ l .value % 256 ∷ l .long ∷ bookOf ls
 
--- 5: a line malformed, missing or doubled. 6 and 7 as for a lent book
+-- 5: a line malformed, missing or doubled. 30: all lines are there, in another order. 6 and 7 as for a lent book
 unfoldable pub linesRefusal : List Line → ℕ
-linesRefusal ls =
-    orElse (unless (onceEach bookEntries 0 ls) 5)
-    (orElse (unless (every (λ l. goodEntry (l .value) (l .long)) ls) 6)
-    (unless (eachPrefixFree codeTableSizes (bookOf ls)) 7))
+linesRefusal ls = firstOf (unless (onceEach bookEntries 0 ls) 5 ∷ unless (inOrder 0 ls) 30 ∷ codesRefusal (bookOf ls) ∷ [])
 
 abbrev pub refusalRead : Option (List Line) → ℕ
 refusalRead none = 5

@@ -1,5 +1,5 @@
--- Forms of the definitions of BookFile that reading line after line follows; ScanLaws ties each to its definition (document 01, "The book", refusals 5, 6, 7).
-use Prim.Native.Nat.{ℕ, _+_, _*_, _/_, _%_}
+-- Forms of the definitions of BookFile that reading line after line follows (document 01, "The book", refusals 5, 6, 7; document 02, §2, refusal 30).
+use Prim.Native.Nat.{ℕ, suc, _*_, _/_, _%_, min}
 use mathlib.Core.Path.{_≡_}
 use mathlib.Core.Bool.{Bool, true, _&&_}
 use mathlib.Core.List.{List, [], _∷_}
@@ -7,7 +7,7 @@ use mathlib.Core.Option.{Option, none, some}
 use lib.Dec.{eqb}
 use lib.ListN.{length, getD, set}
 use Rattle.bits.specs.Basics.{pick, every, orElse, unless}
-use Rattle.code_tables.specs.Codes.{goodEntry}
+use Rattle.text.specs.WritingForms.{putText}
 use Rattle.book.specs.Book.{bookEntries, bookBytes}
 use Rattle.book_file.specs.BookFile.{Line, lineNumber, lineAt, entryField, fileRefusal, fileBook}
 use Rattle.book_file.specs.declared.EntryRead.{EntryRead}
@@ -41,40 +41,45 @@ placeAt t [] = none
 placeAt t (p ∷ fs) = fileCodeAt (entryField t (lineNumber p)) fs
 
 -- ---- the lines one after the other
--- what the lines read so far leave: a book's bytes, for each entry whether a line has spoken of it, and whether every code was good
+-- what the lines read so far leave: a book's bytes, for each entry whether a line has spoken of it, and whether the lines followed a book's order
 pub record BookHeld : Type 0 where
   pub book : List ℕ
   pub met : List ℕ
-  pub good : Bool
+  pub ordered : Bool
 
 -- before the first line: a book's bytes as they are, and the marks
 abbrev pub begun : List ℕ → List ℕ → BookHeld
-begun book met = record { book = book; met = met; good = true }
+begun book met = record { book = book; met = met; ordered = true }
 
--- the three bytes of an entry put into a book, the length's low byte standing for the length
-unfoldable pub withEntry : List ℕ → ℕ → ℕ → ℕ → List ℕ
-withEntry book e n v = set (set (set book (3 * e) (v / 256)) (3 * e + 1) (v % 256)) (3 * e + 2) (n % 256)
+-- the three bytes of a line, 255 standing for a length that no byte holds
+abbrev pub entryHeld : ℕ → ℕ → List ℕ
+entryHeld n v = v / 256 ∷ v % 256 ∷ min n 255 ∷ []
 
-unfoldable pub kept : Line → BookHeld → BookHeld
-kept l s =
+-- an entry's bytes put into a book
+abbrev pub withEntry : List ℕ → ℕ → ℕ → ℕ → List ℕ
+withEntry book e n v = putText book (3 * e) (entryHeld n v)
+
+-- what is left by a line that has k others before it
+unfoldable pub kept : ℕ → Line → BookHeld → BookHeld
+kept k l s =
     record {
       book = withEntry (s .book) (l .entry) (l .long) (l .value);
       met = set (s .met) (l .entry) 1;
-      good = s .good && goodEntry (l .value) (l .long);
+      ordered = s .ordered && eqb (l .entry) k;
     }
 
--- what the lines leave; none at the first that speaks of an entry a second time
-unfoldable pub scanLines : List Line → BookHeld → Option BookHeld
-scanLines [] s = some s
-scanLines (l ∷ ls) s = pick (eqb (getD (s .met) (l .entry) 0) 0) (scanLines ls (kept l s)) none
+-- what is left by lines that have k others before them; none at the first that speaks of an entry a second time
+unfoldable pub scanLines : ℕ → List Line → BookHeld → Option BookHeld
+scanLines k [] s = some s
+scanLines k (l ∷ ls) s = pick (eqb (getD (s .met) (l .entry) 0) 0) (scanLines (suc k) ls (kept k l s)) none
 
-abbrev pub scanned : Option (List Line) → BookHeld → Option BookHeld
-scanned none s = none
-scanned (some ls) s = scanLines ls s
+abbrev pub scanned : ℕ → Option (List Line) → BookHeld → Option BookHeld
+scanned k none s = none
+scanned k (some ls) s = scanLines k ls s
 
 -- what the answer of reading all lines says, with the bytes and marks at exit
 abbrev pub heldTold : LinesRead → List ℕ → List ℕ → Option BookHeld
-heldTold (Whole good) book met = some (record { book = book; met = met; good = good })
+heldTold (Whole ordered) book met = some (record { book = book; met = met; ordered = ordered })
 heldTold Refused book met = none
 
 -- a mark for each entry, none of them set

@@ -1,5 +1,5 @@
 -- Laws of reading a book file line after line. Assumes nothing.
-use Prim.Native.Nat.{ℕ, _+_, _≤_, _<_}
+use Prim.Native.Nat.{ℕ, suc, _+_, _≤_, _<_}
 use mathlib.Core.Path.{_≡_, refl, sym, _∙_}
 use mathlib.Core.Bool.{Bool, true, false, _&&_}
 use mathlib.Core.List.{List, [], _∷_}
@@ -12,7 +12,6 @@ use lib.Seq.{drop-cons, drop-drop}
 use borrow.Author.Tests.{ltb-true}
 use Rattle.bits.specs.Basics.{pick, every, All}
 use Rattle.bits.specs.BasicsLaws.{partFrom, part-from}
-use Rattle.code_tables.specs.Codes.{goodEntry}
 use Rattle.text.specs.Text.{comma, lineFeed, fieldsOf, linesOf, same}
 use Rattle.text.specs.ReadingForms.{countBefore, lineBefore}
 use Rattle.text.specs.TextLaws.{none-some, number-le, count-le, some-piece, pieces-last, pieces-next, lines-none, lines-open, lines-next}
@@ -145,6 +144,26 @@ line-fits (t ∷ (p ∷ (n ∷ (v ∷ [])))) l q =
     (λ m e. number-le 65535 m v e) q
 line-fits (t ∷ (p ∷ (n ∷ (v ∷ (x ∷ xs))))) l q = none-some q
 
+-- of every line of a file
+onto-fits : (a : Option Line) (b : Option (List Line)) (ls : List Line) → ((l : Line) → a ≡ some l → LineFits l) → ((ms : List Line) → b ≡ some ms → All LineFits ms)
+    → ontoLines a b ≡ some ls → All LineFits ls
+onto-fits none b ls f g q = none-some q
+onto-fits (some l) none ls f g q = none-some q
+onto-fits (some l) (some ms) ls f g q = let w : l ∷ ms ≡ ls = cc in rw (← w) (f l refl, g ms refl)
+
+lines-fit : (ts : List (List ℕ)) (ls : List Line) → linesRead ts ≡ some ls → All LineFits ls
+unfolding linesRead
+lines-fit [] ls q = let w : [] ≡ ls = cc in rw (← w) tt
+lines-fit (t ∷ ts) ls q = onto-fits (lineRead (fieldsOf t)) (linesRead ts) ls (λ l e. line-fits (fieldsOf t) l e) (λ ms e. lines-fit ts ms e) q
+
+pub file-fits : (file : List ℕ) (ls : List Line) → fileLines file ≡ some ls → All LineFits ls
+unfolding fileLines
+file-fits file ls = go (linesOf file)
+  where
+    go : (o : Option (List (List ℕ))) → ofLines o ≡ some ls → All LineFits ls
+    go none q = none-some q
+    go (some ts) q = lines-fit ts ls q
+
 -- ---- a file's lines from the front
 onto-none : (o : Option Line) → ontoLines o none ≡ none
 onto-none none = refl
@@ -187,15 +206,15 @@ module _ (file : List ℕ) (at n : ℕ) (e : n ≡ countBefore lineFeed (partFro
   file-line l q = file-step ∙ rw q
 
 -- ---- the lines one after the other
-pub scan-step : (l : Line) (o : Option (List Line)) (s : BookHeld)
-    → scanned (ontoLines (some l) o) s ≡ pick (eqb (getD (s .met) (l .entry) 0) 0) (scanned o (kept l s)) none
+pub scan-step : (k : ℕ) (l : Line) (o : Option (List Line)) (s : BookHeld)
+    → scanned k (ontoLines (some l) o) s ≡ pick (eqb (getD (s .met) (l .entry) 0) 0) (scanned (suc k) o (kept k l s)) none
 unfolding scanLines
-scan-step l none s = go (eqb (getD (s .met) (l .entry) 0) 0)
+scan-step k l none s = go (eqb (getD (s .met) (l .entry) 0) 0)
   where
     go : (b : Bool) → _≡_ {A = Option BookHeld} none (pick b none none)
     go true = refl
     go false = refl
-scan-step l (some ls) s = refl
+scan-step k l (some ls) s = refl
 
 -- ---- every element of a list, one after the other
 pub every-step : (f : ℕ → Bool) (t : List ℕ) (i : ℕ) → i < length t → every f (drop i t) ≡ pick (f (getD t i 0)) (every f (drop (i + 1) t)) false
@@ -207,7 +226,7 @@ unfolding every
 every-end f t i h = rw (drop-of-length-le t h)
 
 -- what a line leaves, from what is put and tested for it
-pub kept-is : (l : Line) (s : BookHeld) (book : List ℕ) (good fine : Bool) → book ≡ withEntry (s .book) (l .entry) (l .long) (l .value)
-    → good ≡ (s .good && fine) → fine ≡ goodEntry (l .value) (l .long) → record { book = book; met = set (s .met) (l .entry) 1; good = good } ≡ kept l s
+pub kept-is : (k : ℕ) (l : Line) (s : BookHeld) (book : List ℕ) (ordered : Bool) → book ≡ withEntry (s .book) (l .entry) (l .long) (l .value)
+    → ordered ≡ (s .ordered && eqb (l .entry) k) → record { book = book; met = set (s .met) (l .entry) 1; ordered = ordered } ≡ kept k l s
 unfolding kept
-kept-is l s book good fine hb hg hf = rw (hb, hg, hf)
+kept-is k l s book ordered hb ho = rw (hb, ho)

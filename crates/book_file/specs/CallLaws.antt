@@ -1,36 +1,56 @@
 -- Laws of a whole book file: what a scan leaves decides the refusals, and holds the book. Assumes nothing.
-use Prim.Native.Nat.{ℕ, zero, suc, _+_, _*_, _<_}
+use Prim.Native.Nat.{ℕ, zero, suc, _+_, _<_}
 use mathlib.Core.Path.{_≡_, refl, sym, ap, _∙_}
 use mathlib.Core.Bool.{Bool, true, false}
-use mathlib.Core.List.{List}
+use mathlib.Core.List.{List, [], _∷_}
 use mathlib.Core.Option.{Option, none, some}
 use native.Mathlib.Omega.{arith}
+use lib.Dec.{eqb}
 use lib.ListN.{length, getD, replicate, length-replicate}
 use borrow.Author.Tests.{eq-eqb, ne-eqb}
-use Rattle.bits.specs.Basics.{every, orElse, unless}
-use Rattle.code_tables.specs.Codes.{goodTable}
+use Rattle.bits.specs.Basics.{All, unless}
+use Rattle.bits.specs.BasicsLaws.{or-next, first-met, first-passed, first-last}
 use Rattle.text.specs.TextLaws.{none-some}
-use Rattle.book.specs.Book.{bookEntries, bookBytes, codeTableSizes, eachPrefixFree, codesRefusal, bookRefusal}
-use Rattle.book_file.specs.BookFile.{Line, mentions, onceEach, bookOf, linesRefusal, refusalRead, bookRead, fileLines, fileRefusal, fileBook}
-use Rattle.book_file.specs.BookFileForms.{BookHeld, Unmet, begun, BookFileRead, readFileRefusal, readFileBook, scanLines, scanned, allMet}
-use Rattle.book_file.specs.HeldLaws.{goodLine, scan-good, scan-lengths, scan-met, Doubled, scan-doubled, once-at, once-is}
-use Rattle.book_file.specs.BytesLaws.{scan-bytes, bytes-are, table-good}
+use Rattle.text.specs.PutLaws.{put-over}
+use Rattle.book.specs.Book.{bookEntries, bookBytes, codesRefusal, bookRefusal}
+use Rattle.book_file.specs.BookFile.{Line, onceEach, inOrder, bookOf, linesRefusal, refusalRead, fileLines, fileRefusal, fileBook}
+use Rattle.book_file.specs.BookFileForms.{BookHeld, Unmet, begun, FileHeld, BookFileRead, readFileRefusal, readFileBook, scanLines, scanned, allMet}
+use Rattle.book_file.specs.BookFileFormsLaws.{LineFits, file-fits}
+use Rattle.book_file.specs.HeldLaws.{heldOf, scan-ordered, scan-length, scan-bytes, scan-met, Doubled, scan-doubled, once-is}
+use Rattle.book_file.specs.OrderLaws.{one-line, order-length, codes-good, held-length, held-book, held-codes}
 
--- of lines that speak of each entry once
-module _ (ls : List Line) (once : onceEach bookEntries 0 ls ≡ true) where
-  pub one-line : (k : ℕ) → k < bookEntries → mentions k ls ≡ 1
-  one-line k h = let z : 0 + k ≡ k = omega arith in rw z at (once-at bookEntries 0 k ls once h)
+-- ---- the refusals of lines in their order
+module _ (ls : List Line) where
+  -- 5
+  pub lines-missed : onceEach bookEntries 0 ls ≡ false → linesRefusal ls ≡ 5
+  unfolding linesRefusal
+  lines-missed e = sym (first-met 5 _ _ (rw e) (λ z. omega arith))
 
-  pub book-good : every goodLine ls ≡ true → goodTable (bookOf ls) ≡ true
-  unfolding bookOf
-  book-good g = table-good bookEntries 0 ls g (λ k i j. omega (arith, one-line k (omega arith)))
+  module _ (once : onceEach bookEntries 0 ls ≡ true) where
+    -- 30
+    pub lines-moved : inOrder 0 ls ≡ false → linesRefusal ls ≡ 30
+    unfolding linesRefusal
+    lines-moved e = sym (first-passed 30 _ _ (rw once) (first-met 30 _ _ (rw e) (λ z. omega arith)))
 
-  -- good lines are refused as the book that they hold is
-  pub lines-book : every goodLine ls ≡ true → length (bookOf ls) ≡ bookBytes → linesRefusal ls ≡ bookRefusal (bookOf ls)
-  unfolding linesRefusal bookRefusal codesRefusal
-  lines-book g h = rw (once, g, h, book-good g)
+    -- 6 and 7
+    pub lines-codes : inOrder 0 ls ≡ true → linesRefusal ls ≡ codesRefusal (bookOf ls)
+    unfolding linesRefusal
+    lines-codes e = sym (first-passed _ _ _ (rw once) (first-passed _ _ _ (rw e) (first-last _ _ refl)))
 
--- ---- what a scan from the start says of a file
+-- codes of a book of the right size are refused as it is
+pub book-codes : (book : List ℕ) → length book ≡ bookBytes → bookRefusal book ≡ codesRefusal book
+unfolding bookRefusal
+book-codes book h = or-next (unless (eqb (length book) bookBytes) 5) (codesRefusal book) (rw (eq-eqb (length book) bookBytes h))
+
+pub entries-below : (ls : List Line) → All LineFits ls → All (λ l. l .entry < bookEntries) ls
+entries-below [] fit = tt
+entries-below (l ∷ ls) fit = (fit .0 .entry-below, entries-below ls (fit .1))
+
+-- a book's lines in order are as many as its entries
+pub whole-length : (ls : List Line) → All LineFits ls → onceEach bookEntries 0 ls ≡ true → inOrder 0 ls ≡ true → length ls ≡ bookEntries
+whole-length ls fit once o = order-length ls once o (entries-below ls fit)
+
+-- ---- what a scan from the start says of lines
 zeros-at : (n k : ℕ) → _≡_ {A = ℕ} (getD (replicate n 0) k 0) 0
 zeros-at zero k = refl
 zeros-at (suc n) zero = refl
@@ -41,91 +61,92 @@ unmet-at-first met e = record { size = rw e (length-replicate {A = ℕ} bookEntr
 
 module _ (ls : List Line) (book met : List ℕ) (fresh : Unmet met) where
   -- a line doubled
-  stopped : scanLines ls (begun book met) ≡ none → linesRefusal ls ≡ 5
-  unfolding linesRefusal
+  stopped : scanLines 0 ls (begun book met) ≡ none → linesRefusal ls ≡ 5
   stopped q = go (onceEach bookEntries 0 ls) refl
     where
       d : Doubled met ls
-      d = scan-doubled ls (begun book met) q
+      d = scan-doubled 0 ls (begun book met) q
 
-      go : (b : Bool) → onceEach bookEntries 0 ls ≡ b
-          → orElse (unless b 5) (orElse (unless (every goodLine ls) 6) (unless (eachPrefixFree codeTableSizes (bookOf ls)) 7)) ≡ 5
+      go : (b : Bool) → onceEach bookEntries 0 ls ≡ b → linesRefusal ls ≡ 5
       go true e = absurd (omega (arith, d .twice, d .below, fresh .size, fresh .zeros (d .entry), one-line ls e (d .entry) (omega (arith, d .below, fresh .size))))
-      go false e = refl
+      go false e = lines-missed ls e
 
-  -- each entry has one line where each is marked at the end
-  scan-once : (t : BookHeld) → scanLines ls (begun book met) ≡ some t → onceEach bookEntries 0 ls ≡ allMet (t .met)
-  scan-once t q =
-      once-is (t .met) bookEntries 0 ls (scan-lengths ls (begun book met) t q .0 ∙ fresh .size)
-      (λ k h. let z : 0 + k ≡ k = omega arith in rw z (scan-met ls (begun book met) t k q (omega (arith, fresh .size)) ∙ omega (arith, fresh .zeros k)))
+  module _ (t : BookHeld) (q : scanLines 0 ls (begun book met) ≡ some t) where
+    -- each entry has one line where each is marked at the end
+    scan-once : onceEach bookEntries 0 ls ≡ allMet (t .met)
+    scan-once =
+        once-is (t .met) bookEntries 0 ls (scan-length 0 ls (begun book met) t q ∙ fresh .size)
+        (λ k h. let z : 0 + k ≡ k = omega arith in rw z (scan-met 0 ls (begun book met) t k q (omega (arith, fresh .size)) ∙ omega (arith, fresh .zeros k)))
 
-  -- the book at the end
-  scan-book : (t : BookHeld) → scanLines ls (begun book met) ≡ some t → length book ≡ bookBytes → allMet (t .met) ≡ true → every goodLine ls ≡ true → bookOf ls ≡ t .book
-  unfolding bookOf
-  scan-book t q h m g =
-      let once : onceEach bookEntries 0 ls ≡ true = scan-once t q ∙ m in
-      let size : length (t .book) ≡ 3 * (0 + bookEntries) = scan-lengths ls (begun book met) t q .1 ∙ h in
-      bytes-are bookEntries 0 ls (t .book) size
-      (λ k i j r. scan-bytes ls (begun book met) t k r q (one-line ls once k (omega arith)) (omega arith) g)
+    module _ (met-all : allMet (t .met) ≡ true) where
+      once : onceEach bookEntries 0 ls ≡ true
+      once = scan-once ∙ met-all
 
-module _ (o : Option (List Line)) (book met : List ℕ) (fresh : Unmet met) where
-  -- a line malformed or doubled
-  read-stopped : scanned o (begun book met) ≡ none → refusalRead o ≡ 5
-  read-stopped = go o
-    where
-      go : (p : Option (List Line)) → scanned p (begun book met) ≡ none → refusalRead p ≡ 5
-      go none q = refl
-      go (some ls) q = stopped ls book met fresh q
+      order : inOrder 0 ls ≡ t .ordered
+      order = sym (scan-ordered 0 ls (begun book met) t q)
 
-  -- a line missing
-  read-missing : (t : BookHeld) → scanned o (begun book met) ≡ some t → allMet (t .met) ≡ false → refusalRead o ≡ 5
-  unfolding linesRefusal
-  read-missing t q m = go o q
-    where
-      go : (p : Option (List Line)) → scanned p (begun book met) ≡ some t → refusalRead p ≡ 5
-      go none q = refl
-      go (some ls) q = rw (scan-once ls book met fresh t q, m)
+      module _ (fit : All LineFits ls) (size : length book ≡ bookBytes) (ordered : t .ordered ≡ true) where
+        many : length ls ≡ bookEntries
+        many = whole-length ls fit once (order ∙ ordered)
 
-  -- a bad code
-  read-bad : (t : BookHeld) → scanned o (begun book met) ≡ some t → allMet (t .met) ≡ true → t .good ≡ false → refusalRead o ≡ 6
-  unfolding linesRefusal
-  read-bad t q m g = go o q
-    where
-      go : (p : Option (List Line)) → scanned p (begun book met) ≡ some t → refusalRead p ≡ 6
-      go none q = none-some q
-      go (some ls) q = rw (scan-once ls book met fresh t q, m, sym (scan-good ls (begun book met) t q) ∙ g)
+        -- the book at the end
+        held : t .book ≡ heldOf ls
+        held =
+            scan-bytes 0 ls (begun book met) t q (order ∙ ordered) (omega (arith, many, size))
+            ∙ put-over book (heldOf ls) (omega (arith, held-length ls, many, size))
 
-  -- the book that the lines hold, refused as a lent one is
-  read-whole : (t : BookHeld) → scanned o (begun book met) ≡ some t → length book ≡ bookBytes → allMet (t .met) ≡ true → t .good ≡ true
-      → (refusalRead o ≡ bookRefusal (t .book)) × (bookRead o ≡ t .book)
-  read-whole t q h m g = go o q
-    where
-      go : (p : Option (List Line)) → scanned p (begun book met) ≡ some t → (refusalRead p ≡ bookRefusal (t .book)) × (bookRead p ≡ t .book)
-      go none q = none-some q
-      go (some ls) q =
-          let good : every goodLine ls ≡ true = sym (scan-good ls (begun book met) t q) ∙ g in
-          let is : bookOf ls ≡ t .book = scan-book ls book met fresh t q h m good in
-          let size : length (bookOf ls) ≡ bookBytes = ap length is ∙ scan-lengths ls (begun book met) t q .1 ∙ h in
-          (lines-book ls (scan-once ls book met fresh t q ∙ m) good size ∙ ap bookRefusal is, is)
+        held-size : length (t .book) ≡ bookBytes
+        held-size = ap length held ∙ omega (arith, held-length ls, many)
+
+        -- it is refused as the lines are
+        scan-refused : linesRefusal ls ≡ bookRefusal (t .book)
+        scan-refused = lines-codes ls once (order ∙ ordered) ∙ sym (book-codes (t .book) held-size ∙ ap codesRefusal held ∙ held-codes ls)
+
+        -- and where they pass it is theirs
+        scan-book : linesRefusal ls ≡ 0 → t .book ≡ bookOf ls
+        scan-book z = held ∙ held-book ls (codes-good (bookOf ls) (sym (lines-codes ls once (order ∙ ordered)) ∙ z))
 
 -- ---- of a file
 module _ (file book met : List ℕ) (fresh : Unmet met) where
-  pub file-stopped : scanned (fileLines file) (begun book met) ≡ none → fileRefusal file ≡ 5
+  -- a line malformed or doubled
+  pub file-stopped : scanned 0 (fileLines file) (begun book met) ≡ none → fileRefusal file ≡ 5
   unfolding fileRefusal
-  file-stopped q = read-stopped (fileLines file) book met fresh q
+  file-stopped = go (fileLines file)
+    where
+      go : (o : Option (List Line)) → scanned 0 o (begun book met) ≡ none → refusalRead o ≡ 5
+      go none q = refl
+      go (some ls) q = stopped ls book met fresh q
 
-  pub file-missing : (t : BookHeld) → scanned (fileLines file) (begun book met) ≡ some t → allMet (t .met) ≡ false → fileRefusal file ≡ 5
-  unfolding fileRefusal
-  file-missing t q m = read-missing (fileLines file) book met fresh t q m
+  module _ (t : BookHeld) (q : scanned 0 (fileLines file) (begun book met) ≡ some t) where
+    -- a line missing
+    pub file-missing : allMet (t .met) ≡ false → fileRefusal file ≡ 5
+    unfolding fileRefusal
+    file-missing m = go (fileLines file) q
+      where
+        go : (o : Option (List Line)) → scanned 0 o (begun book met) ≡ some t → refusalRead o ≡ 5
+        go none p = refl
+        go (some ls) p = lines-missed ls (scan-once ls book met fresh t p ∙ m)
 
-  pub file-bad-code : (t : BookHeld) → scanned (fileLines file) (begun book met) ≡ some t → allMet (t .met) ≡ true → t .good ≡ false → fileRefusal file ≡ 6
-  unfolding fileRefusal
-  file-bad-code t q m g = read-bad (fileLines file) book met fresh t q m g
+    -- another order
+    pub file-moved : allMet (t .met) ≡ true → t .ordered ≡ false → fileRefusal file ≡ 30
+    unfolding fileRefusal
+    file-moved m o = go (fileLines file) q
+      where
+        go : (p : Option (List Line)) → scanned 0 p (begun book met) ≡ some t → refusalRead p ≡ 30
+        go none p = none-some p
+        go (some ls) p = lines-moved ls (once ls book met fresh t p m) (order ls book met fresh t p m ∙ o)
 
-  pub file-whole : (t : BookHeld) → scanned (fileLines file) (begun book met) ≡ some t → length book ≡ bookBytes → allMet (t .met) ≡ true → t .good ≡ true
-      → (fileRefusal file ≡ bookRefusal (t .book)) × (fileBook file ≡ t .book)
-  unfolding fileRefusal fileBook
-  file-whole t q h m g = read-whole (fileLines file) book met fresh t q h m g
+    -- the book that the lines hold, refused as a lent one is
+    pub file-whole : length book ≡ bookBytes → allMet (t .met) ≡ true → t .ordered ≡ true → FileHeld file (bookRefusal (t .book)) (t .book)
+    unfolding fileRefusal fileBook
+    file-whole h m o = go (fileLines file) refl q
+      where
+        go : (p : Option (List Line)) → fileLines file ≡ p → scanned 0 p (begun book met) ≡ some t → FileHeld file (bookRefusal (t .book)) (t .book)
+        go none e p = none-some p
+        go (some ls) e p =
+            let fit = file-fits file ls e in
+            let is : linesRefusal ls ≡ bookRefusal (t .book) = scan-refused ls book met fresh t p m fit h o in
+            record { refusal = rw e (sym is); held = λ z. rw e (scan-book ls book met fresh t p m fit h o (is ∙ z)) }
 
 -- ---- the call
 -- a lent book of another size

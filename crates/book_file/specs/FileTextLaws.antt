@@ -1,19 +1,21 @@
--- Laws of a book file as text: the lines of a file are those that it was made of. Assumes nothing.
-use Prim.Native.Nat.{ℕ, _+_, _-_, _≤_, _<_}
-use mathlib.Core.Path.{_≡_, refl, ap, _∙_}
+-- Laws of a book file as text: the lines of a file are those that it was made of, and a book's file is the text of its lines. Assumes nothing.
+use Prim.Native.Nat.{ℕ, zero, suc, _+_, _-_, _≤_, _<_}
+use mathlib.Core.Path.{_≡_, refl, sym, ap, _∙_}
 use mathlib.Core.Bool.{Bool, true, false}
-use mathlib.Core.List.{List, [], _∷_, _++_, append-assoc}
+use mathlib.Core.List.{List, [], _∷_, _++_, append-assoc, append-nil}
 use mathlib.Core.Option.{Option, none, some}
+use native.Mathlib.Nat.{le-refl}
 use native.Mathlib.Omega.{arith}
 use lib.Dec.{T, leb, ltb, lit≤}
-use borrow.Author.Tests.{ltb-true, ltb-false, lt-ltb}
-use Rattle.bits.specs.Basics.{pick, every, All}
+use borrow.Author.Tests.{ltb-true, ltb-false, lt-ltb, le-ltb}
+use Rattle.bits.specs.Basics.{pick, every, All, valuesFrom}
+use Rattle.bits.specs.BasicsLaws.{values-more}
 use Rattle.text.specs.Text.{comma, lineFeed, decimal, joined, lineOf, fieldsOf, linesOf, same}
 use Rattle.text.specs.ReadingForms.{without}
 use Rattle.text.specs.WritingFormsLaws.{decimal-digits, decimal-back, digits-without, fields-joined, joined-without, lines-joined}
 use Rattle.book.specs.Book.{bookEntries}
-use Rattle.book_file.specs.BookFile.{Table, Line, fileTables, entryNamed, lineNumber, lineRead, ontoLines, ofLines, fileLines}
-use Rattle.book_file.specs.FileText.{placeFields, fieldsFor, fileOf}
+use Rattle.book_file.specs.BookFile.{Table, Line, fileTables, tableLine, tableLines, tablesText, bookFile, entryNamed, lineNumber, lineRead, ontoLines, ofLines, fileLines}
+use Rattle.book_file.specs.FileText.{lineFor, bookLines, placeFields, fieldsFor, fileOf}
 use Rattle.book_file.specs.BookFileFormsLaws.{LineFits, onto-before, file-end}
 
 -- ---- an entry's name and position
@@ -122,3 +124,79 @@ pub file-back : (ls : List Line) → All LineFits ls → fileLines (fileOf ls) �
 unfolding fileOf
 file-back [] f = file-end [] 0 (omega arith)
 file-back (l ∷ ls) f = file-front l (fileOf ls) (f .0) ∙ rw (file-back ls (f .1))
+
+-- ---- a book's file is the text of its lines
+file-append : (ls ms : List Line) → fileOf (ls ++ ms) ≡ fileOf ls ++ fileOf ms
+unfolding fileOf
+file-append [] ms = refl
+file-append (l ∷ ls) ms = rw (file-append ls ms) (sym (append-assoc (lineOf (fieldsFor l)) (fileOf ls) (fileOf ms)))
+
+one-text : (l : Line) → fileOf (l ∷ []) ≡ lineOf (fieldsFor l)
+unfolding fileOf
+one-text l = append-nil (lineOf (fieldsFor l))
+
+no-text : (book : List ℕ) (j : ℕ) → fileOf (valuesFrom (lineFor book) 0 j) ≡ []
+unfolding fileOf valuesFrom
+no-text book j = refl
+
+-- from entry s on, an entry's name and position are found in the tables ts
+abbrev From : ℕ → List Table → Type 0
+From s ts = (e : ℕ) → s ≤ e → placeFields fileTables e ≡ placeFields ts e
+
+module _ (book : List ℕ) (t : Table) (ts : List Table) (from : From (t .from) (t ∷ ts)) where
+  -- a line of a table
+  table-line : (p : ℕ) → p < t .size → tableLine book t p ≡ lineOf (fieldsFor (lineFor book (t .from + p)))
+  unfolding tableLine fieldsFor placeFields
+  table-line p h =
+      let back : t .from + p - t .from ≡ p = omega arith in
+      let place : placeFields fileTables (t .from + p) ≡ t .name ∷ decimal p ∷ [] =
+      from (t .from + p) (omega arith) ∙ rw (lt-ltb (t .from + p) (t .from + t .size) (omega arith), back) in
+      rw place
+
+  -- the lines of its first n positions
+  table-lines : (n : ℕ) → n ≤ t .size → tableLines book t n ≡ fileOf (valuesFrom (lineFor book) n (t .from))
+  unfolding tableLines
+  table-lines zero h = sym (no-text book (t .from))
+  table-lines (suc n) h =
+      ap (λ (x : List ℕ). x ++ tableLine book t n) (table-lines n (omega arith))
+      ∙ ap (λ (x : List ℕ). fileOf (valuesFrom (lineFor book) n (t .from)) ++ x) (table-line n (omega arith) ∙ sym (one-text (lineFor book (t .from + n))))
+      ∙ sym (file-append (valuesFrom (lineFor book) n (t .from)) (lineFor book (t .from + n) ∷ []))
+      ∙ ap fileOf (sym (values-more (lineFor book) n (t .from)))
+
+  -- behind it the others
+  from-next : From (t .from + t .size) ts
+  unfolding placeFields
+  from-next e h = from e (omega arith) ∙ rw (le-ltb e (t .from + t .size) h)
+
+follow-le : (ts : List Table) (s : ℕ) → Follow s ts → s ≤ bookEntries
+follow-le [] s f = omega arith
+follow-le (t ∷ ts) s f = omega (arith, f .0, follow-le ts (t .from + t .size) (f .1))
+
+values-append : {A : Type 0} (f : ℕ → A) (n m j : ℕ) → valuesFrom f (n + m) j ≡ valuesFrom f n j ++ valuesFrom f m (j + n)
+unfolding valuesFrom
+values-append f zero m j = let z : j + 0 ≡ j = omega arith in let y : 0 + m ≡ m = omega arith in rw (y, z)
+values-append f (suc n) m j =
+    let z : j + suc n ≡ suc j + n = omega arith in
+    let y : suc n + m ≡ suc (n + m) = omega arith in
+    rw (z, y) (ap (_∷_ (f j)) (values-append f n m (suc j)))
+
+tables-lines : (book : List ℕ) (ts : List Table) (s m : ℕ) → Follow s ts → From s ts → s + m ≡ bookEntries → tablesText book ts ≡ fileOf (valuesFrom (lineFor book) m s)
+unfolding tablesText
+tables-lines book [] s m f from h = let z : m ≡ 0 = omega arith in rw z (sym (no-text book s))
+tables-lines book (t ∷ ts) s m f from h =
+    let end = follow-le ts (t .from + t .size) (f .1) in
+    let here : From (t .from) (t ∷ ts) = λ e i. from e (omega (arith, f .0)) in
+    let r : ℕ = m - t .size in
+    let more : m ≡ t .size + r = omega (arith, f .0, end) in
+    let rest : tablesText book ts ≡ fileOf (valuesFrom (lineFor book) r (t .from + t .size)) =
+    tables-lines book ts (t .from + t .size) r (f .1) (from-next book t ts here) (omega (arith, f .0, end)) in
+    ap (λ (x : List ℕ). x ++ tablesText book ts) (table-lines book t ts here (t .size) (le-refl (t .size)))
+    ∙ ap (λ (x : List ℕ). fileOf (valuesFrom (lineFor book) (t .size) (t .from)) ++ x) rest
+    ∙ sym (file-append (valuesFrom (lineFor book) (t .size) (t .from)) (valuesFrom (lineFor book) r (t .from + t .size)))
+    ∙ ap fileOf (sym (values-append (lineFor book) (t .size) r (t .from)))
+    ∙ ap (λ (n : ℕ). fileOf (valuesFrom (lineFor book) n (t .from))) (sym more)
+    ∙ ap (λ (j : ℕ). fileOf (valuesFrom (lineFor book) m j)) (f .0)
+
+pub file-lines : (book : List ℕ) → bookFile book ≡ fileOf (bookLines book)
+unfolding bookFile
+file-lines book = tables-lines book fileTables 0 bookEntries tables-follow (λ e h. refl) refl

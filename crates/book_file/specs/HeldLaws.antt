@@ -1,8 +1,9 @@
--- Laws of what a scan of lines leaves: the marks count the lines of each entry, and a scan that stops met an entry twice. Assumes nothing.
-use Prim.Native.Nat.{ℕ, zero, suc, _+_, _≤_, _<_}
+-- Laws of what a scan of lines leaves: the marks count the lines of each entry, a scan that stops met an entry twice, and of lines in order the book's bytes
+-- follow each other. Assumes nothing.
+use Prim.Native.Nat.{ℕ, zero, suc, _+_, _*_, _≤_, _<_}
 use mathlib.Core.Path.{_≡_, refl, sym, ap, _∙_}
 use mathlib.Core.Bool.{Bool, true, false, _&&_}
-use mathlib.Core.List.{List, [], _∷_}
+use mathlib.Core.List.{List, [], _∷_, _++_}
 use mathlib.Core.Option.{none, some}
 use native.Mathlib.Omega.{arith}
 use lib.Dec.{eqb, ltb}
@@ -10,54 +11,66 @@ use lib.ListN.{length, getD, set, length-set, List·getD-eq-default}
 use lib.Seq.{getD-set-same, getD-set-other}
 use borrow.Author.Tests.{eqb-true, eqb-false, eq-eqb, ltb-true, ltb-false}
 use Rattle.bits.specs.Basics.{pick, every}
-use Rattle.code_tables.specs.Codes.{goodEntry}
 use Rattle.bits.specs.BasicsLaws.{both-true}
 use Rattle.text.specs.TextLaws.{none-some}
-use Rattle.book_file.specs.BookFile.{Line, mentions, onceEach}
-use Rattle.book_file.specs.BookFileForms.{BookHeld, withEntry, kept, scanLines, allMet}
-
-abbrev pub goodLine : Line → Bool
-goodLine l = goodEntry (l .value) (l .long)
+use Rattle.text.specs.WritingForms.{putText}
+use Rattle.text.specs.PutLaws.{append-put, put-length, put-empty}
+use Rattle.book_file.specs.BookFile.{Line, mentions, onceEach, inOrder}
+use Rattle.book_file.specs.BookFileForms.{BookHeld, entryHeld, kept, scanLines, allMet}
 
 -- ---- a scan that goes through
-pub scan-split : (l : Line) (ls : List Line) (s t : BookHeld) → scanLines (l ∷ ls) s ≡ some t → (getD (s .met) (l .entry) 0 ≡ 0) × (scanLines ls (kept l s) ≡ some t)
+scan-split : (k : ℕ) (l : Line) (ls : List Line) (s t : BookHeld) → scanLines k (l ∷ ls) s ≡ some t
+    → (getD (s .met) (l .entry) 0 ≡ 0) × (scanLines (suc k) ls (kept k l s) ≡ some t)
 unfolding scanLines
-scan-split l ls s t q = go (eqb (getD (s .met) (l .entry) 0) 0) refl q
+scan-split k l ls s t q = go (eqb (getD (s .met) (l .entry) 0) 0) refl q
   where
-    go : (b : Bool) → eqb (getD (s .met) (l .entry) 0) 0 ≡ b → pick b (scanLines ls (kept l s)) none ≡ some t
-        → (getD (s .met) (l .entry) 0 ≡ 0) × (scanLines ls (kept l s) ≡ some t)
+    go : (b : Bool) → eqb (getD (s .met) (l .entry) 0) 0 ≡ b → pick b (scanLines (suc k) ls (kept k l s)) none ≡ some t
+        → (getD (s .met) (l .entry) 0 ≡ 0) × (scanLines (suc k) ls (kept k l s) ≡ some t)
     go true e h = (eqb-true (getD (s .met) (l .entry) 0) 0 e, h)
     go false e h = none-some h
 
-pub scan-last : (s t : BookHeld) → scanLines [] s ≡ some t → s ≡ t
+scan-last : (k : ℕ) (s t : BookHeld) → scanLines k [] s ≡ some t → s ≡ t
 unfolding scanLines
-scan-last s t q = cc
+scan-last k s t q = cc
 
 and-true : (a : Bool) → (a && true) ≡ a
 and-true true = refl
 and-true false = refl
 
-and-and : (a b c : Bool) → ((a && b) && c) ≡ (a && pick b c false)
-and-and true true c = refl
-and-and true false c = refl
+and-and : (a b c : Bool) → ((a && b) && c) ≡ (a && (b && c))
+and-and true b c = refl
 and-and false b c = refl
 
--- every code was good
-pub scan-good : (ls : List Line) (s t : BookHeld) → scanLines ls s ≡ some t → t .good ≡ (s .good && every goodLine ls)
-unfolding every kept
-scan-good [] s t q = ap (λ (h : BookHeld). h .good) (sym (scan-last s t q)) ∙ sym (and-true (s .good))
-scan-good (l ∷ ls) s t q = scan-good ls (kept l s) t (scan-split l ls s t q .1) ∙ and-and (s .good) (goodLine l) (every goodLine ls)
+-- the lines followed a book's order
+pub scan-ordered : (k : ℕ) (ls : List Line) (s t : BookHeld) → scanLines k ls s ≡ some t → t .ordered ≡ (s .ordered && inOrder k ls)
+unfolding inOrder kept
+scan-ordered k [] s t q = ap (λ (h : BookHeld). h .ordered) (sym (scan-last k s t q)) ∙ sym (and-true (s .ordered))
+scan-ordered k (l ∷ ls) s t q = scan-ordered (suc k) ls (kept k l s) t (scan-split k l ls s t q .1) ∙ and-and (s .ordered) (eqb (l .entry) k) (inOrder (suc k) ls)
 
-pub length-with : (b : List ℕ) (e n v : ℕ) → length (withEntry b e n v) ≡ length b
-unfolding withEntry
-length-with b e n v = simp length-set
-
-pub scan-lengths : (ls : List Line) (s t : BookHeld) → scanLines ls s ≡ some t → (length (t .met) ≡ length (s .met)) × (length (t .book) ≡ length (s .book))
+pub scan-length : (k : ℕ) (ls : List Line) (s t : BookHeld) → scanLines k ls s ≡ some t → length (t .met) ≡ length (s .met)
 unfolding kept
-scan-lengths [] s t q = let e = scan-last s t q in (rw e, rw e)
-scan-lengths (l ∷ ls) s t q =
-    let next = scan-lengths ls (kept l s) t (scan-split l ls s t q .1) in
-    (next .0 ∙ length-set (s .met) (l .entry) 1, next .1 ∙ length-with (s .book) (l .entry) (l .long) (l .value))
+scan-length k [] s t q = rw (scan-last k s t q)
+scan-length k (l ∷ ls) s t q = scan-length (suc k) ls (kept k l s) t (scan-split k l ls s t q .1) ∙ length-set (s .met) (l .entry) 1
+
+-- the bytes of lines as they are held
+unfoldable pub heldOf : List Line → List ℕ
+heldOf [] = []
+heldOf (l ∷ ls) = entryHeld (l .long) (l .value) ++ heldOf ls
+
+-- lines in order leave their bytes one behind the other
+pub scan-bytes : (k : ℕ) (ls : List Line) (s t : BookHeld) → scanLines k ls s ≡ some t → inOrder k ls ≡ true → 3 * (k + length ls) ≤ length (s .book)
+    → t .book ≡ putText (s .book) (3 * k) (heldOf ls)
+unfolding inOrder kept heldOf
+scan-bytes k [] s t q o h = ap (λ (x : BookHeld). x .book) (sym (scan-last k s t q)) ∙ sym (put-empty (s .book) (3 * k))
+scan-bytes k (l ∷ ls) s t q o h =
+    let two = both-true (eqb (l .entry) k) (inOrder (suc k) ls) o in
+    let e : l .entry ≡ k = eqb-true (l .entry) k (two .0) in
+    let z : 3 * suc k ≡ 3 * k + 3 = omega arith in
+    let b : List ℕ = entryHeld (l .long) (l .value) in
+    let put : List ℕ = putText (s .book) (3 * l .entry) b in
+    let size : length put ≡ length (s .book) = put-length (s .book) (3 * l .entry) b (omega arith) in
+    let next : t .book ≡ putText put (3 * suc k) (heldOf ls) = scan-bytes (suc k) ls (kept k l s) t (scan-split k l ls s t q .1) (two .1) (omega (arith, size)) in
+    next ∙ rw (e, z) (append-put (s .book) (3 * k) b (heldOf ls) (omega arith))
 
 met-step : (m : List ℕ) (i e : ℕ) → getD m i 0 ≡ 0 → e < length m → getD (set m i 1) e 0 ≡ getD m e 0 + pick (eqb i e) 1 0
 met-step m i e z h = go (eqb i e) refl
@@ -67,13 +80,13 @@ met-step m i e z h = go (eqb i e) refl
     go false q = getD-set-other m i e 1 0 (λ p. eqb-false i e q (sym p)) ∙ omega arith
 
 -- the marks count the lines of each entry
-pub scan-met : (ls : List Line) (s t : BookHeld) (e : ℕ) → scanLines ls s ≡ some t → e < length (s .met) → getD (t .met) e 0 ≡ getD (s .met) e 0 + mentions e ls
+pub scan-met : (k : ℕ) (ls : List Line) (s t : BookHeld) (e : ℕ) → scanLines k ls s ≡ some t → e < length (s .met) → getD (t .met) e 0 ≡ getD (s .met) e 0 + mentions e ls
 unfolding kept mentions
-scan-met [] s t e q h = rw (scan-last s t q) (omega arith)
-scan-met (l ∷ ls) s t e q h =
-    let two = scan-split l ls s t q in
+scan-met k [] s t e q h = rw (scan-last k s t q) (omega arith)
+scan-met k (l ∷ ls) s t e q h =
+    let two = scan-split k l ls s t q in
     let step = met-step (s .met) (l .entry) e (two .0) h in
-    let next = scan-met ls (kept l s) t e (two .1) (rw (length-set (s .met) (l .entry) 1) h) in
+    let next = scan-met (suc k) ls (kept k l s) t e (two .1) (rw (length-set (s .met) (l .entry) 1) h) in
     next ∙ rw step (omega arith)
 
 -- ---- a scan that stops
@@ -83,7 +96,7 @@ pub record Doubled (met : List ℕ) (ls : List Line) : Type 0 where
   pub below : entry < length met
   pub twice : 2 ≤ getD met entry 0 + mentions entry ls
 
-pub marked : (m : List ℕ) (i : ℕ) → (getD m i 0 ≡ 0 → ⊥) → i < length m
+marked : (m : List ℕ) (i : ℕ) → (getD m i 0 ≡ 0 → ⊥) → i < length m
 marked m i n = go (ltb i (length m)) refl
   where
     go : (b : Bool) → ltb i (length m) ≡ b → i < length m
@@ -101,20 +114,20 @@ met-most m i e h = go (eqb i e) refl
     go true q = rw (eqb-true i e q) (rw (getD-set-same m e 1 0 h) (omega arith))
     go false q = omega (arith, getD-set-other m i e 1 0 (λ p. eqb-false i e q (sym p)))
 
-doubled-before : (l : Line) (ls : List Line) (s : BookHeld) → Doubled (kept l s .met) ls → Doubled (s .met) (l ∷ ls)
+doubled-before : (k : ℕ) (l : Line) (ls : List Line) (s : BookHeld) → Doubled (kept k l s .met) ls → Doubled (s .met) (l ∷ ls)
 unfolding mentions kept
-doubled-before l ls s d =
+doubled-before k l ls s d =
     let h : d .entry < length (s .met) = rw (length-set (s .met) (l .entry) 1) at (d .below) in
     record { entry = d .entry; below = h; twice = omega (arith, d .twice, met-most (s .met) (l .entry) (d .entry) h) }
 
-pub scan-doubled : (ls : List Line) (s : BookHeld) → scanLines ls s ≡ none → Doubled (s .met) ls
+pub scan-doubled : (k : ℕ) (ls : List Line) (s : BookHeld) → scanLines k ls s ≡ none → Doubled (s .met) ls
 unfolding scanLines
-scan-doubled [] s q = none-some (sym q)
-scan-doubled (l ∷ ls) s q = go (eqb (getD (s .met) (l .entry) 0) 0) refl q (scan-doubled ls (kept l s))
+scan-doubled k [] s q = none-some (sym q)
+scan-doubled k (l ∷ ls) s q = go (eqb (getD (s .met) (l .entry) 0) 0) refl q (scan-doubled (suc k) ls (kept k l s))
   where
-    go : (b : Bool) → eqb (getD (s .met) (l .entry) 0) 0 ≡ b → pick b (scanLines ls (kept l s)) none ≡ none
-        → (scanLines ls (kept l s) ≡ none → Doubled (kept l s .met) ls) → Doubled (s .met) (l ∷ ls)
-    go true e h next = doubled-before l ls s (next h)
+    go : (b : Bool) → eqb (getD (s .met) (l .entry) 0) 0 ≡ b → pick b (scanLines (suc k) ls (kept k l s)) none ≡ none
+        → (scanLines (suc k) ls (kept k l s) ≡ none → Doubled (kept k l s .met) ls) → Doubled (s .met) (l ∷ ls)
+    go true e h next = doubled-before k l ls s (next h)
     go false e h next = doubled-now l ls (s .met) (eqb-false (getD (s .met) (l .entry) 0) 0 e)
 
 -- ---- each entry once

@@ -3,9 +3,11 @@ pub mod BookFile
 pub mod BookFileForms
 pub mod BookFileFormsLaws
 pub mod HeldLaws
-pub mod BytesLaws
-pub mod CallLaws
 pub mod FileText
+pub mod OrderLaws
+pub mod CallLaws
 pub mod FileTextLaws
+pub mod FileLength
+pub mod FileLengthLaws
 pub mod OneFileLaws
 pub mod BookFileLaws

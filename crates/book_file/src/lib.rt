@@ -1,8 +1,8 @@
-// Book files: the text form of a book of code tables.
+// Book files read: the text form of a book of code tables, its lines in one order.
 ghost use mathlib.Core.Path.{_≡_};
 ghost use mathlib.Core.Bool.{_&&_};
 ghost use mathlib.Core.Option.{some, none};
-ghost use Prim.Native.Nat.{_+_, _*_, _≤_, _<_};
+ghost use Prim.Native.Nat.{_+_, _*_, _≤_, _<_, min};
 ghost use lib.Dec.{ltb};
 ghost use lib.ListN.{length};
 ghost use Rattle.bits.specs.Basics.{pick};
@@ -12,7 +12,6 @@ ghost use Rattle.book_file.specs.BookFile.{fileTables, entryNamed, lineR
 ghost use Rattle.book_file.specs.BookFileForms.{Unmet, begun, FileHeld, BookFileRead, entryTold, lineTold, heldTold, fileCodeAt, withEntry, scanned, allMet};
 use book::inner::BOOK_BYTES;
 use book::inner::BOOK_ENTRIES;
-use code_tables::inner;
 use text::NumberRead;
 
 // Where a table's position stands in a book.
@@ -27,7 +26,7 @@ enum LineRead {
     Malformed,
 }
 
-// What all lines leave: whether every code was good; or a line malformed or doubled.
+// What all lines leave: whether they followed a book's order; or a line malformed or doubled.
 enum LinesRead {
     Whole(bool),
     Refused,
@@ -116,16 +115,20 @@ fn read_line(t: &[u8]) -> LineRead
     read_code(&rest[last..], e)
 }
 
-// An entry's three bytes put into a book: the code's high byte, its low byte, its length. Of a length above 255 the low byte is put; refusal 6 is
-// told from the length itself.
+// A code's length as a byte. 255 stands for one that no byte holds, and is refused by 6 as that is.
+fn length_byte(long: u64) -> u8
+    ensures { λ r. ⌜ r ≡ min long 255 ⌝ }
+{
+    if long < 255 { long as u8 } else { 255 }
+}
+
+// An entry's three bytes put into a book: the code's high byte, its low byte, its length.
 fn put_entry(book: &mut [u8], e: usize, long: u64, value: u64)
-    requires { ⌜ (3 * e + 2 < length (now book)) × (value ≤ 65535) ⌝ }
+    requires { ⌜ (3 * e + 3 ≤ length (now book)) × (value ≤ 65535) ⌝ }
     ensures { λ _. ⌜ now (book .exit) ≡ withEntry (now (book .entry)) e long value ⌝ }
 {
-    let at = 3 * e;
-    book[at] = (value / 256) as u8;
-    book[at + 1] = (value % 256) as u8;
-    book[at + 2] = (long % 256) as u8;
+    let entry = [(value / 256) as u8, (value % 256) as u8, length_byte(long)];
+    text::put_text(book, 3 * e, &entry);
 }
 
 // Whether both hold.
@@ -135,13 +138,14 @@ fn both(a: bool, b: bool) -> bool
     if a { b } else { false }
 }
 
-// Every line of a file: its entry put into the book and marked as met.
+// Every line of a file: its entry put into the book and marked as met. The lines are in order where each speaks of the next entry.
 fn read_lines(file: &[u8], book: &mut [u8], met: &mut [u8]) -> LinesRead
     requires { ⌜ (length (now book) ≡ bookBytes) × (length (now met) ≡ bookEntries) ⌝ }
-    ensures { λ r. ⌜ heldTold r (now (book .exit)) (now (met .exit)) ≡ scanned (fileLines (now (file .entry))) (begun (now (book .entry)) (now (met .entry))) ⌝ }
+    ensures { λ r. ⌜ heldTold r (now (book .exit)) (now (met .exit)) ≡ scanned 0 (fileLines (now (file .entry))) (begun (now (book .entry)) (now (met .entry))) ⌝ }
 {
     let mut at = 0;
-    let mut good = true;
+    let mut next = 0;
+    let mut ordered = true;
     while at < file.len() {
         let rest = &file[at..];
         let n = text::find(rest, b'\n');
@@ -156,10 +160,11 @@ fn read_lines(file: &[u8], book: &mut [u8], met: &mut [u8]) -> LinesRead
         }
         met[e] = 1;
         put_entry(book, e, long, value);
-        good = both(good, inner::good_entry(value, long as u32));
+        ordered = both(ordered, e == next);
+        next += 1;
         at += n + 1;
     }
-    LinesRead::Whole(good)
+    LinesRead::Whole(ordered)
 }
 
 // Whether every entry was met.
@@ -181,14 +186,14 @@ fn read_into(file: &[u8], book: &mut [u8], met: &mut [u8]) -> u8
     requires { ⌜ (length (now book) ≡ bookBytes) × Unmet (now met) ⌝ }
     ensures { λ r. ⌜ FileHeld (now (file .entry)) r (now (book .exit)) ⌝ }
 {
-    let LinesRead::Whole(good) = read_lines(file, book, met) else {
+    let LinesRead::Whole(ordered) = read_lines(file, book, met) else {
         return 5;
     };
     if all_met(met) {
-        if good {
+        if ordered {
             return book_check::book_refusal(book);
         }
-        return 6;
+        return 30;
     }
     5
 }

@@ -1,8 +1,9 @@
--- What the C host's calls answer, and every byte that they leave (document 01, "Refused for the state met": a C program calls the writer and reader with numbers and byte slices; document 02, §1).
+-- What the C host's calls answer, and every byte that they leave (document 01, "Refused for the state met": a C program calls the writer and reader with numbers and byte slices; document 02, §1, §2).
 use Prim.Native.Nat.{ℕ}
 use mathlib.Core.List.{List}
 use mathlib.Core.Path.{_≡_}
 use Rattle.bits.specs.Basics.{pick}
+use Rattle.text.specs.declared.Written.{Written}
 use Rattle.macroblock.specs.Macroblock.{Given}
 use Rattle.macroblock.specs.Choice.{Task}
 use Rattle.macroblock.specs.Slices.{Slices, Lent}
@@ -11,6 +12,7 @@ use Rattle.plane.specs.Calls.{PlaneAnswer, writeAnswer, PlaneWritten, readPlane
 use Rattle.plane_enc.specs.Stated.{PlaneStated}
 use Rattle.plane_room.specs.declared.Room.{Room}
 use Rattle.visible_error.specs.declared.VisibleError.{VisibleError}
+use Rattle.cabunlis.specs.declared.books.HostFile.{HostFile}
 use Rattle.cabunlis.specs.declared.errors.HostVisible.{HostVisible}
 use Rattle.cabunlis.specs.declared.planes.HostAnswer.{HostAnswer}
 use Rattle.cabunlis.specs.declared.rooms.HostRoom.{HostRoom}
@@ -42,3 +44,7 @@ roomOf r = record { refused = r .refusal; bytes = r .bytes }
 -- an error over what the panel shows, as a C struct
 abbrev pub hostVisible : VisibleError → HostVisible
 hostVisible v = record { refusal = v .refused; error = v .error }
+
+-- a file written, as a C struct stands for it
+abbrev pub fileWritten : HostFile → Written
+fileWritten r = record { refused = r .refusal; bytes = r .bytes }

@@ -10,12 +10,11 @@ use lib.IntN.{subℕ}
 use lib.ListN.{length, take, drop, getD}
 use borrow.Author.Tests.{eqb-true, lt-ltb, le-ltb}
 use Rattle.bits.specs.BasicsLaws.{both-true, length-values, value-at}
-use Rattle.bits.specs.Bits.{msb}
 use Rattle.code_tables.specs.Codes.{codeVal, codeLen, codesOf, goodTable}
 use Rattle.book.specs.Book.{bookEntries, bookBytes, codebookBytes, codeTableSizes, eachPrefixFree, codesRefusal, bookRefusal}
-use Rattle.house.specs.House.{logUnder, signedRank, rank, houseValue, houseLength, houseFrom, houseBook, HouseBook, houseSample, houseCodebook}
+use Rattle.house.specs.House.{houseValue, houseLength, houseFrom, houseBook, HouseBook, houseSample, houseCodebook}
 use Rattle.bits.specs.Basics.{signedByte}
-use Rattle.house.specs.TrieForms.{none, free, enter, allFree, free-is}
+use Rattle.house.specs.TrieForms.{none, allFree, free-is}
 
 -- ---- the rule, entry by entry
 length-house : (n p : ℕ) → length (houseFrom n p) ≡ 3 * n
@@ -66,7 +65,7 @@ ruled-is p (suc n) (a ∷ b ∷ m ∷ t) e h =
     rw (eqb-true a (houseValue p / 256) (high .0), eqb-true b (houseValue p % 256) (rest .0), eqb-true m (houseLength p) (rest .1))
     (ap (λ (l : List ℕ). houseValue p / 256 ∷ houseValue p % 256 ∷ houseLength p ∷ l) (ruled-is (suc p) n t (two .1) (omega arith)))
 
-each-free : (ns t : List ℕ) → eachFree ns t ≡ true → eachPrefixFree ns t ≡ true
+pub each-free : (ns t : List ℕ) → eachFree ns t ≡ true → eachPrefixFree ns t ≡ true
 unfolding eachFree eachPrefixFree
 each-free [] t e = refl
 each-free (n ∷ ns) t e =

@@ -1,6 +1,6 @@
 // Prints what the listing program prints for jobs and files of all kinds: for each case its name and the text. Where a case says nothing else, the files are those of
 // the first bench card.
-ghost use Prim.Native.Nat.{_+_, _≤_, _<_};
+ghost use Prim.Native.Nat.{_≤_};
 ghost use lib.ListN.{length};
 use libc::STDOUT_FILENO;
 use listing_text::listing::listing;
@@ -14,73 +14,6 @@ fn part(s: &[u8], a: usize, e: usize) -> &[u8] {
         return &s[..0];
     }
     &s[a..e]
-}
-
-// ---- the house book as a book file
-fn wide(x: u8) -> u64
-    ensures { λ r. ⌜ r < 256 ⌝ }
-{
-    x as u64
-}
-
-// Byte i of s; 0 where there is none.
-fn byte(s: &[u8], i: usize) -> u64
-    ensures { λ r. ⌜ r < 256 ⌝ }
-{
-    if i < s.len() {
-        return wide(s[i]);
-    }
-    0
-}
-
-// A line: the table's name with its comma, position, length, code.
-fn put_line(file: &mut [u8], at: usize, name: &[u8], position: u64, long: u64, code: u64) -> usize {
-    let a = text::put_text(file, at, name);
-    let b = text::put_decimal(file, a, position);
-    let c = text::put_text(file, b, b",");
-    let d = text::put_decimal(file, c, long);
-    let e = text::put_text(file, d, b",");
-    let f = text::put_decimal(file, e, code);
-    text::put_text(file, f, b"\n")
-}
-
-// The lines of the table that begins at entry `from`.
-fn put_table(file: &mut [u8], at: usize, name: &[u8], from: usize, size: usize) -> usize
-    requires { ⌜ from + size ≤ 932 ⌝ }
-{
-    let book = house::house_book();
-    let mut next = at;
-    let mut p = 0;
-    while p < size {
-        let e = 3 * (from + p);
-        next = put_line(
-            file,
-            next,
-            name,
-            p as u64,
-            byte(&book, e + 2),
-            256 * byte(&book, e) + byte(&book, e + 1),
-        );
-        p += 1;
-    }
-    next
-}
-
-fn put_means(file: &mut [u8], at: usize) -> usize {
-    let next = put_table(file, at, b"intramean,", 68, 256);
-    put_table(file, next, b"intermean,", 324, 512)
-}
-
-fn put_stages(file: &mut [u8], at: usize) -> usize {
-    let next = put_table(file, at, b"intrastage,", 836, 48);
-    put_table(file, next, b"interstage,", 884, 48)
-}
-
-fn put_house(file: &mut [u8]) -> usize {
-    let vectors = put_table(file, 0, b"mode,", 0, 4);
-    let means = put_table(file, vectors, b"vector,", 4, 64);
-    let stages = put_means(file, means);
-    put_stages(file, stages)
 }
 
 // ---- cases
@@ -97,12 +30,20 @@ fn card(name: &[u8], book: &[u8], codebook: &[u8], source: &[u8], reference: &[u
     show(name, book, codebook, source, reference, b"16,16,32,8,1\n");
 }
 
+// The place of the next b from `at` on, or the end.
+fn next(s: &[u8], at: usize, b: u8) -> usize
+    requires { ⌜ at ≤ length (now s) ⌝ }
+    ensures { λ r. ⌜ (at ≤ r) × (r ≤ length (now (s .entry))) ⌝ }
+{
+    at + text::find(&s[at..], b)
+}
+
 // The place of the next bar from `at` on, or the end.
 fn bar(s: &[u8], at: usize) -> usize
     requires { ⌜ at ≤ length (now s) ⌝ }
     ensures { λ r. ⌜ (at ≤ r) × (r ≤ length (now (s .entry))) ⌝ }
 {
-    at + text::find(&s[at..], b'|')
+    next(s, at, b'|')
 }
 
 // Job files: each case is a name and the bytes, with a bar behind each.
@@ -130,35 +71,85 @@ fn jobs(cases: &[u8], book: &[u8], codebook: &[u8], source: &[u8], reference: &[
     }
 }
 
-// Book files: each case is a name and the bytes that stand behind the house book in place of its first line, `mode,0,3,2`.
-fn books(
-    cases: &[u8],
-    file: &mut [u8],
-    n: usize,
+// Where line k of a file begins; the end where there is none.
+fn line(file: &[u8], k: usize) -> usize {
+    let mut at = 0;
+    let mut i = 0;
+    while i < k {
+        let end = next(file, at, b'\n');
+        if end == file.len() {
+            return end;
+        }
+        at = end + 1;
+        i += 1;
+    }
+    at
+}
+
+// Lines that are taken out of the house book's file: a up to b, and c up to d, b and d themselves staying.
+struct Gaps {
+    a: usize,
+    b: usize,
+    c: usize,
+    d: usize,
+}
+
+// The house book's file with x in the first gap and y in the second.
+fn fill(made: &mut [u8], house: &[u8], gaps: Gaps, x: &[u8], y: &[u8]) -> usize {
+    let before = text::put_text(made, 0, part(house, 0, line(house, gaps.a)));
+    let first = text::put_text(made, before, x);
+    let between = part(house, line(house, gaps.b), line(house, gaps.c));
+    let second = text::put_text(made, first, between);
+    let behind = text::put_text(made, second, y);
+    let rest = part(house, line(house, gaps.d), house.len());
+    text::put_text(made, behind, rest)
+}
+
+// The first card under that file.
+fn filled(
+    name: &[u8],
+    house: &[u8],
+    gaps: Gaps,
+    x: &[u8],
+    y: &[u8],
     codebook: &[u8],
     source: &[u8],
     reference: &[u8],
 ) {
+    let mut made = [0u8; 24576];
+    let n = fill(&mut made, house, gaps, x, y);
+    card(name, part(&made, 0, n), codebook, source, reference);
+}
+
+// Book files: each case is a name and the bytes that stand in the two gaps, with a bar behind each.
+fn books(cases: &[u8], house: &[u8], gaps: Gaps, codebook: &[u8], source: &[u8], reference: &[u8]) {
     let mut at = 0;
     while at < cases.len() {
         let named = bar(cases, at);
         if named == cases.len() {
             return;
         }
-        let from = named + 1;
-        let to = bar(cases, from);
-        if to == cases.len() {
+        let x = named + 1;
+        let x_end = bar(cases, x);
+        if x_end == cases.len() {
             return;
         }
-        let end = text::put_text(file, n, part(cases, from, to));
-        card(
+        let y = x_end + 1;
+        let y_end = bar(cases, y);
+        if y_end == cases.len() {
+            return;
+        }
+        filled(
             part(cases, at, named),
-            part(file, 11, end),
+            house,
+            gaps,
+            part(cases, x, x_end),
+            part(cases, y, y_end),
             codebook,
             source,
             reference,
         );
-        at = to + 1;
+        at = y_end + 1;
     }
 }
 
@@ -215,34 +206,166 @@ fn job_cases(book: &[u8], codebook: &[u8], source: &[u8], reference: &[u8]) {
     );
 }
 
-fn book_cases(file: &mut [u8], n: usize, codebook: &[u8], source: &[u8], reference: &[u8]) {
+// The first line, `mode,0,3,2`, in its place or behind the last one.
+fn first_line(house: &[u8], codebook: &[u8], source: &[u8], reference: &[u8]) {
+    let gaps = Gaps {
+        a: 0,
+        b: 1,
+        c: 932,
+        d: 932,
+    };
     books(
-        b"line moved|mode,0,3,2\n|\
-        line missing||\
-        line doubled|mode,0,3,2\nmode,0,3,2\n|\
-        line not ended|mode,0,3,2|\
-        three fields|mode,0,3\n|\
-        unknown table|modes,0,3,2\n|\
-        position past its table|mode,4,3,2\n|\
-        code 65536|mode,0,3,65536\n|\
-        length 0|mode,0,0,0\n|\
-        length 33|mode,0,33,2\n|\
-        value 2^length|mode,0,1,2\n|\
-        equal codes|mode,0,3,3\n|\
-        code that begins another|mode,0,2,1\n|\
-        5 and 6|mode,0,33,2\nmode,0,3,2\n|\
-        6 and 7|mode,0,1,3\n|",
-        file,
-        n,
+        b"line in its place|mode,0,3,2\n||\
+        line moved||mode,0,3,2\n|\
+        line missing|||\
+        line doubled|mode,0,3,2\nmode,0,3,2\n||\
+        line doubled at the end|mode,0,3,2\n|mode,0,3,2\n|\
+        line not ended|mode,0,3,2||\
+        empty line|\nmode,0,3,2\n||\
+        empty line behind|mode,0,3,2\n|\n|\
+        three fields|mode,0,3\n||\
+        five fields|mode,0,3,2,0\n||\
+        a blank in a line|mode, 0,3,2\n||\
+        position with a leading zero|mode,00,3,2\n||\
+        line with a carriage return|mode,0,3,2\r\n||\
+        unknown table|modes,0,3,2\n||\
+        position past its table|mode,4,3,2\n||\
+        code 65536|mode,0,3,65536\n||\
+        length 65536|mode,0,65536,2\n||\
+        length 65535|mode,0,65535,2\n||\
+        length 0|mode,0,0,0\n||\
+        length 33|mode,0,33,2\n||\
+        value 2^length|mode,0,1,2\n||\
+        equal codes|mode,0,3,3\n||\
+        code that begins another|mode,0,2,1\n||\
+        5 and 6|mode,0,33,2\nmode,0,3,2\n||\
+        6 and 7|mode,0,1,3\n||\
+        moved and not ended||mode,0,3,2|\
+        moved and an empty line||mode,0,3,2\n\n|\
+        moved and malformed||mode,0,3\n|\
+        moved and code 65536||mode,0,3,65536\n|\
+        moved and doubled||mode,0,3,2\nmode,0,3,2\n|\
+        moved and length 33||mode,0,33,2\n|\
+        moved and value 2^length||mode,0,1,2\n|\
+        moved and equal codes||mode,0,3,3\n|\
+        moved and code that begins another||mode,0,2,1\n|",
+        house,
+        gaps,
         codebook,
         source,
         reference,
     );
     books(
-        b"5 of the codebook and 6|mode,0,33,2\n|",
-        file,
-        n,
+        b"5 of the codebook and 6|mode,0,33,2\n||\
+        5 of the codebook and 30||mode,0,3,2\n|",
+        house,
+        gaps,
         b"",
+        source,
+        reference,
+    );
+    books(
+        b"4 and 30||mode,0,3,2\n|",
+        house,
+        gaps,
+        codebook,
+        source,
+        b"",
+    );
+}
+
+// The first two lines.
+fn first_lines(house: &[u8], codebook: &[u8], source: &[u8], reference: &[u8]) {
+    let gaps = Gaps {
+        a: 0,
+        b: 2,
+        c: 932,
+        d: 932,
+    };
+    books(
+        b"first two lines change places|mode,1,3,3\nmode,0,3,2\n||\
+        moved and a line missing||mode,1,3,3\n|\
+        one line doubled, one missing|mode,1,3,3\nmode,1,3,3\n||\
+        malformed before the line moved|mode,0,3\n|mode,1,3,3\n|\
+        length 33 before the line moved|mode,0,33,2\n|mode,1,3,3\n|",
+        house,
+        gaps,
+        codebook,
+        source,
+        reference,
+    );
+}
+
+// Two lines of the middle, `intermean,176,15,161` and `intermean,177,15,159`.
+fn middle_lines(house: &[u8], codebook: &[u8], source: &[u8], reference: &[u8]) {
+    let gaps = Gaps {
+        a: 500,
+        b: 502,
+        c: 932,
+        d: 932,
+    };
+    books(
+        b"middle lines change places|intermean,177,15,159\nintermean,176,15,161\n||\
+        middle line moved to the end|intermean,177,15,159\n|intermean,176,15,161\n|\
+        middle line missing, another moved||intermean,176,15,161\n|\
+        middle line of length 33|intermean,176,33,161\nintermean,177,15,159\n||\
+        middle codes equal|intermean,176,15,159\nintermean,177,15,159\n||",
+        house,
+        gaps,
+        codebook,
+        source,
+        reference,
+    );
+    let ahead = Gaps {
+        a: 0,
+        b: 0,
+        c: 500,
+        d: 501,
+    };
+    books(
+        b"middle line moved to the front|intermean,176,15,161\n||",
+        house,
+        ahead,
+        codebook,
+        source,
+        reference,
+    );
+}
+
+// The last line, `interstage,47,7,8`, in its place or before the first one; the last two.
+fn last_lines(house: &[u8], codebook: &[u8], source: &[u8], reference: &[u8]) {
+    let gaps = Gaps {
+        a: 0,
+        b: 0,
+        c: 931,
+        d: 932,
+    };
+    books(
+        b"last line moved to the front|interstage,47,7,8\n||\
+        last line missing|||\
+        last line not ended||interstage,47,7,8|\
+        last line of length 33||interstage,47,33,8\n|\
+        last codes equal||interstage,47,5,7\n|\
+        last line at the front, malformed|interstage,48,7,8\n||\
+        last line at the front, of length 33|interstage,47,33,8\n||\
+        last line at the front, its code equal|interstage,47,5,7\n||",
+        house,
+        gaps,
+        codebook,
+        source,
+        reference,
+    );
+    let both = Gaps {
+        a: 0,
+        b: 0,
+        c: 930,
+        d: 932,
+    };
+    books(
+        b"last two lines change places||interstage,47,7,8\ninterstage,46,5,7\n|",
+        house,
+        both,
+        codebook,
         source,
         reference,
     );
@@ -307,27 +430,23 @@ fn put_codebook(codebook: &mut [u8]) {
     text::put_text(codebook, 0, &house);
 }
 
-fn run(file: &mut [u8], codebook: &[u8], source: &[u8], reference: &[u8]) {
-    let n = put_house(file);
+fn run(house: &[u8], codebook: &[u8], source: &[u8], reference: &[u8]) {
     let c = part(codebook, 0, 23040);
     let s = part(source, 0, 256);
     let r = part(reference, 0, 256);
-    job_cases(part(file, 0, n), c, s, r);
-    lengths(part(file, 0, n), codebook, source, reference);
-    book_cases(file, n, c, s, r);
+    job_cases(house, c, s, r);
+    lengths(house, codebook, source, reference);
+    first_line(house, c, s, r);
+    first_lines(house, c, s, r);
+    middle_lines(house, c, s, r);
+    last_lines(house, c, s, r);
 }
 
 // The planes that are cut, under the house book.
-fn run_cut(file: &mut [u8], codebook: &[u8]) {
-    let n = put_house(file);
+fn run_cut(house: &[u8], codebook: &[u8]) {
     let source = [100u8; 25200];
     let reference = [0u8; 25344];
-    cut_planes(
-        part(file, 0, n),
-        part(codebook, 0, 23040),
-        &source,
-        &reference,
-    );
+    cut_planes(house, part(codebook, 0, 23040), &source, &reference);
 }
 
 fn main() {
@@ -335,7 +454,10 @@ fn main() {
     let mut codebook = [0u8; 23041];
     let source = [100u8; 257];
     let reference = [0u8; 257];
+    let book = house::house_book();
+    let written = book_file_writer::write_book_file(&book, &mut file);
+    let house = part(&file, 0, written.bytes);
     put_codebook(&mut codebook);
-    run(&mut file, &codebook, &source, &reference);
-    run_cut(&mut file, &codebook);
+    run(house, &codebook, &source, &reference);
+    run_cut(house, &codebook);
 }

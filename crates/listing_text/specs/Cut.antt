@@ -9,7 +9,7 @@ use Rattle.listing_text.specs.Listing.{Files}
 abbrev pub longestJob : ℕ
 longestJob = 35
 
--- every entry once, its length and its code of five digits
+-- the longest book file that 5 does not refuse: every entry once, its length and its code of five digits. One that is accepted is shorter (`longestBookFile`)
 abbrev pub longestBook : ℕ
 longestBook = 23698
 

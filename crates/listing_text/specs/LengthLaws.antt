@@ -1,65 +1,29 @@
 -- Laws of how long a job line and a book file can be. Assumes nothing.
-use Prim.Native.Nat.{ℕ, zero, suc, _+_, _-_, _*_, _/_, _%_, _^_, _≤_, _<_}
+use Prim.Native.Nat.{ℕ, zero, suc, _+_, _-_, _*_, _^_, _≤_, _<_}
 use mathlib.Core.Path.{_≡_, refl, sym, ap}
 use mathlib.Core.Bool.{Bool, true, false}
 use mathlib.Core.List.{List, [], _∷_, _++_}
 use mathlib.Core.Option.{Option, none, some}
 use native.Mathlib.Nat.{zero-add, add-mul, pow-le-pow-right, lt-of-le-of-lt, lt-of-lt-of-le}
 use native.Mathlib.Omega.{arith}
-use lib.Dec.{eqb, ltb, lit<, lit≤}
+use lib.Dec.{eqb, lit<, lit≤}
 use lib.ListN.{length, length-append}
-use borrow.Author.Tests.{ne-eqb, eqb-true, eqb-false, ltb-false}
-use Rattle.bits.specs.Basics.{pick, All, every, sum, orElse, unless}
-use Rattle.code_tables.specs.Codes.{goodEntry}
+use borrow.Author.Tests.{ne-eqb, eqb-true, eqb-false}
+use Rattle.bits.specs.Basics.{pick, All, sum}
 use Rattle.text.specs.Text.{numberUpTo, linesOf, fieldsOf, digitsBefore, decimal, joined, lineOf}
 use Rattle.text.specs.TextLaws.{none-some, number-le}
-use Rattle.text.specs.WritingFormsLaws.{tenth-below}
+use Rattle.text.specs.LengthLaws.{decimal-few, fieldsSize, line-size, append-size}
 use Rattle.text.specs.OneTextLaws.{number-decimal, joined-fields, ended, lines-ended}
-use Rattle.book.specs.Book.{bookEntries, codeTableSizes, eachPrefixFree}
-use Rattle.book_file.specs.BookFile.{Line, fileTables, fileLines, mentions, onceEach, bookOf, linesRefusal, refusalRead, fileRefusal}
+use Rattle.book.specs.Book.{bookEntries}
+use Rattle.book_file.specs.BookFile.{Line, fileTables, fileLines, mentions, onceEach, linesRefusal, refusalRead, fileRefusal}
 use Rattle.book_file.specs.FileText.{placeFields, fieldsFor, fileOf}
-use Rattle.book_file.specs.BookFileFormsLaws.{LineFits}
-use Rattle.book_file.specs.CallLaws.{one-line}
+use Rattle.book_file.specs.BookFileFormsLaws.{LineFits, file-fits}
+use Rattle.book_file.specs.OrderLaws.{one-line}
+use Rattle.book_file.specs.CallLaws.{entries-below, lines-missed}
 use Rattle.book_file.specs.OneFileLaws.{file-text}
-use Rattle.book_file.specs.BookFileLaws.{file-fits}
 use Rattle.bits.specs.SumLaws.{sum-same}
 use Rattle.listing_text.specs.Cut.{longestJob, longestBook}
 use Rattle.listing_job.specs.Job.{Job, mostWidth, mostHeight, jobOf, jobRead, oneLine, jobIn}
-
--- ---- a number below 10^k has at most k digits
-digits-few : (g f n : ℕ) (t : List ℕ) → n < 10 ^ f → 1 ≤ f → length (digitsBefore g n t) ≤ f + length t
-unfolding digitsBefore
-digits-few zero f n t h k = omega arith
-digits-few (suc g) zero n t h k = absurd (omega arith)
-digits-few (suc g) (suc f) n t h k = go (ltb n 10) refl (digits-few g f (n / 10) ((48 + n % 10) ∷ t) (tenth-below f n h))
-  where
-    some-left : (f : ℕ) → 10 ≤ n → n < 10 ^ suc f → 1 ≤ f
-    some-left zero a b = absurd (omega arith)
-    some-left (suc f) a b = omega arith
-
-    go : (b : Bool) → ltb n 10 ≡ b → (1 ≤ f → length (digitsBefore g (n / 10) ((48 + n % 10) ∷ t)) ≤ f + suc (length t))
-        → length (pick b ((48 + n) ∷ t) (digitsBefore g (n / 10) ((48 + n % 10) ∷ t))) ≤ suc f + length t
-    go true q next = omega arith
-    go false q next = let i = next (some-left f (ltb-false n 10 q) h) in omega (arith, i)
-
-decimal-few : (k n : ℕ) → n < 10 ^ k → 1 ≤ k → length (decimal n) ≤ k
-unfolding decimal
-decimal-few k n h l = omega (arith, digits-few 20 k n [] h l)
-
--- ---- a line's length is that of its fields and one byte behind each
-unfoldable fieldsSize : List (List ℕ) → ℕ
-fieldsSize [] = 0
-fieldsSize (f ∷ fs) = length f + 1 + fieldsSize fs
-
-line-size : (f : List ℕ) (fs : List (List ℕ)) → length (lineOf (f ∷ fs)) ≡ fieldsSize (f ∷ fs)
-unfolding lineOf joined fieldsSize
-line-size f [] = simp length-append (omega arith)
-line-size f (g ∷ gs) = simp length-append (omega (arith, length-append (joined (g ∷ gs)) (10 ∷ []), line-size g gs))
-
-append-size : (xs ys : List (List ℕ)) → fieldsSize (xs ++ ys) ≡ fieldsSize xs + fieldsSize ys
-unfolding fieldsSize
-append-size [] ys = omega arith
-append-size (x ∷ xs) ys = omega (arith, append-size xs ys)
 
 -- ---- a book file
 -- the longest line of an entry: its name and position, and two numbers of five digits
@@ -131,10 +95,6 @@ all-lines : sum lineMost bookEntries ≡ longestBook
 unfolding sum fieldsSize placeFields decimal digitsBefore
 all-lines = refl
 
-entries-below : (ls : List Line) → All LineFits ls → All (λ l. l .entry < bookEntries) ls
-entries-below [] fit = tt
-entries-below (l ∷ ls) fit = (fit .0 .entry-below, entries-below ls (fit .1))
-
 lines-short : (ls : List Line) → All LineFits ls → onceEach bookEntries 0 ls ≡ true → length (fileOf ls) ≤ longestBook
 lines-short ls fit once =
     let counted = each-counted lineMost ls bookEntries (entries-below ls fit) in
@@ -144,15 +104,15 @@ lines-short ls fit once =
 
 -- a file that is longer is refused by 5
 pub book-short : (file : List ℕ) → (fileRefusal file ≡ 5 → ⊥) → length file ≤ longestBook
-unfolding fileRefusal linesRefusal
+unfolding fileRefusal
 book-short file h = go (fileLines file) refl h
   where
     once : (ls : List Line) → (linesRefusal ls ≡ 5 → ⊥) → onceEach bookEntries 0 ls ≡ true
-    once ls k = two (onceEach bookEntries 0 ls) k
+    once ls k = two (onceEach bookEntries 0 ls) refl
       where
-        two : (b : Bool) → (orElse (unless b 5) (orElse (unless (every (λ l. goodEntry (l .value) (l .long)) ls) 6) (unless (eachPrefixFree codeTableSizes (bookOf ls)) 7)) ≡ 5 → ⊥) → b ≡ true
-        two true k = refl
-        two false k = absurd (k refl)
+        two : (b : Bool) → onceEach bookEntries 0 ls ≡ b → onceEach bookEntries 0 ls ≡ true
+        two true q = q
+        two false q = absurd (k (lines-missed ls q))
 
     go : (o : Option (List Line)) → fileLines file ≡ o → (refusalRead o ≡ 5 → ⊥) → length file ≤ longestBook
     go none q k = absurd (k refl)

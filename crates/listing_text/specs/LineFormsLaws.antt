@@ -1,35 +1,17 @@
 -- Laws of lines written one behind the other. Assumes nothing.
-use Prim.Native.Nat.{ℕ, zero, suc, _+_, _*_, _/_, _%_, _≤_, _<_}
-use mathlib.Core.Path.{_≡_, refl, sym, ap, _∙_}
-use mathlib.Core.Bool.{Bool, true, false}
+use Prim.Native.Nat.{ℕ, _+_, _*_, _≤_}
+use mathlib.Core.Path.{_≡_, refl, _∙_}
 use mathlib.Core.List.{List, [], _∷_, _++_, append-assoc}
 use native.Mathlib.Numerals.{add-one}
 use native.Mathlib.Omega.{arith}
-use lib.Dec.{ltb}
-use lib.ListN.{length, take, drop, set, length-append, length-drop}
-use lib.Seq.{length-take-le, take-at, drop-append-add, drop-drop, set-split}
+use lib.ListN.{length, length-append}
 use borrow.Author.Tests.{le-leb}
-use Rattle.bits.specs.Basics.{pick}
-use Rattle.text.specs.Text.{ascii, comma, lineFeed, digitsBefore, decimal, joined, lineOf}
+use Rattle.text.specs.Text.{ascii, comma, lineFeed, decimal, joined, lineOf}
 use Rattle.text.specs.WritingForms.{putText, TextPut}
+use Rattle.text.specs.PutLaws.{append-put}
 use Rattle.visible_error.specs.Visible.{ShownPlane}
 use Rattle.listing_text.specs.LineForms.{ListedPut, nameAt, lineText, listingLineAt, linesFrom}
 use Rattle.listing_text.specs.Listing.{totalLine, refusedText}
-
--- a written number has at most twenty digits
-digits-most : (f n : ℕ) (t : List ℕ) → length (digitsBefore f n t) ≤ f + length t
-unfolding digitsBefore
-digits-most zero n t = omega arith
-digits-most (suc f) n t = go (ltb n 10) (digits-most f (n / 10) ((48 + n % 10) ∷ t))
-  where
-    go : (b : Bool) → length (digitsBefore f (n / 10) ((48 + n % 10) ∷ t)) ≤ f + suc (length t)
-        → length (pick b ((48 + n) ∷ t) (digitsBefore f (n / 10) ((48 + n % 10) ∷ t))) ≤ suc f + length t
-    go true next = omega arith
-    go false next = omega arith
-
-pub decimal-most : (n : ℕ) → length (decimal n) ≤ 20
-unfolding decimal
-decimal-most n = digits-most 20 n []
 
 -- a text put where there is room
 pub put-room : (most : ℕ) (bytes : List ℕ) (at : ℕ) (t : List ℕ) (r : ℕ) (after : List ℕ) → TextPut bytes at t r after → length t ≤ most → at + most ≤ length bytes
@@ -37,25 +19,6 @@ pub put-room : (most : ℕ) (bytes : List ℕ) (at : ℕ) (t : List ℕ) (r : �
 put-room most bytes at t r after p h room =
     let e = le-leb (at + length t) (length bytes) (omega arith) in
     record { next = rw e at (p .next); short = h; bytes-after = rw e at (p .bytes-after) }
-
--- two texts, one behind the other
-append-put : (bytes : List ℕ) (at : ℕ) (s t : List ℕ) → at + length s ≤ length bytes → putText (putText bytes at s) (at + length s) t ≡ putText bytes at (s ++ t)
-unfolding putText
-append-put bytes at s t room =
-    let head : List ℕ = take at bytes ++ s in
-    let rest : List ℕ = drop (at + length s) bytes in
-    let long : length head ≡ at + length s = length-append (take at bytes) s ∙ ap (λ (n : ℕ). n + length s) (length-take-le at bytes (omega arith)) in
-    let first : take (at + length s) (take at bytes ++ (s ++ rest)) ≡ head = rw (← append-assoc (take at bytes) s rest) (take-at head rest (at + length s) long) in
-    let sum : at + length s + length t ≡ at + length (s ++ t) = omega (arith, length-append s t) in
-    let last : drop (at + length s + length t) (take at bytes ++ (s ++ rest)) ≡ drop (at + length (s ++ t)) bytes =
-    rw (← append-assoc (take at bytes) s rest) (ap (λ (n : ℕ). drop (n + length t) (head ++ rest)) (sym long) ∙ drop-append-add head rest (length t) ∙ drop-drop (length t) (at + length s) bytes ∙ ap (λ (n : ℕ). drop n bytes) sum) in
-    rw (first, last) (simp append-assoc)
-
-put-length : (bytes : List ℕ) (at : ℕ) (t : List ℕ) → at + length t ≤ length bytes → length (putText bytes at t) ≡ length bytes
-unfolding putText
-put-length bytes at t room =
-    let front : length (take at bytes) ≡ at = length-take-le at bytes (omega arith) in
-    length-append (take at bytes) (t ++ drop (at + length t) bytes) ∙ omega (arith, front, length-append t (drop (at + length t) bytes), length-drop (at + length t) bytes)
 
 module _ (most : ℕ) (bytes : List ℕ) (at : ℕ) (s : List ℕ) (x : ℕ) (mid : List ℕ) (p : ListedPut most bytes at s x mid) (room : at + most ≤ length bytes) where
   inside : at + length s ≤ length bytes
@@ -69,15 +32,6 @@ module _ (most : ℕ) (bytes : List ℕ) (at : ℕ) (s : List ℕ) (x : ℕ) (mi
         short = omega (arith, q .short, p .short, long);
         bytes-after = q .bytes-after ∙ rw (p .bytes-after, p .next) (append-put bytes at s t inside);
       }
-
-  -- a byte behind a text
-  pub put-byte : (b : ℕ) → at + most < length bytes → ListedPut (most + 1) bytes at (s ++ (b ∷ [])) (x + 1) (set mid x b)
-  unfolding putText
-  put-byte b h =
-      let one : suc x ≡ x + 1 = omega arith in
-      let room-left : x < length mid = omega (arith, p .next, p .short, ap length (p .bytes-after), put-length bytes at s inside) in
-      put-two 1 (b ∷ []) (x + 1) (set mid x b)
-      (record { next = refl; short = omega arith; bytes-after = set-split mid x b room-left ∙ ap (λ (n : ℕ). take x mid ++ (b ∷ drop n mid)) one })
 
 -- ---- lines of fields
 -- a number and the comma behind it

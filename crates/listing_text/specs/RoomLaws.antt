@@ -10,6 +10,7 @@ use lib.ListN.{length, drop, length-append}
 use lib.Seq.{length-take-le}
 use borrow.Author.Tests.{le-leb, lt-leb}
 use Rattle.bits.specs.Basics.{pick}
+use Rattle.text.specs.LengthLaws.{decimal-most}
 use Rattle.text.specs.Text.{joined, lineOf}
 use Rattle.text.specs.WritingForms.{putText}
 use Rattle.macroblock.specs.declared.svq1_enc_inter.Svq1MbMode.{Svq1MbMode}
@@ -22,7 +23,6 @@ use Rattle.listing_job.specs.Job.{Job, mostWidth, mostHeight, jobIn}
 use Rattle.listing_job.specs.JobLaws.{job-small}
 use Rattle.listing_text.specs.Listing.{Files, givenOf, taskOf, filesRefusal, modeName, listedState, listedEnd, macroblockLine, linesTo, totalLine, refusedText, textWith, textInto, planeText, jobText, listing}
 use Rattle.listing_text.specs.LineForms.{ListedPut}
-use Rattle.listing_text.specs.LineFormsLaws.{decimal-most}
 use Rattle.listing_text.specs.Listed.{listingRoom, mostBlocks, Listed}
 use Rattle.listing_text.specs.FilesLaws.{count-small}
 

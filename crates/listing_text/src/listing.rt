@@ -42,7 +42,7 @@ fn canvas_of(width: usize, height: usize) -> Svq1PlaneCanvas
     }
 }
 
-// The refusals of the files, lowest number first; 0 for none, and then the file's book is in `book`. Source and codebook are given by their lengths.
+// The refusals of the files, lowest number first but 30 before 6; 0 for none, and then the file's book is in `book`. Source and codebook are given by their lengths.
 fn files_refusal(
     canvas: Svq1PlaneCanvas,
     source: usize,

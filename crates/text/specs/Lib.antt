@@ -5,4 +5,5 @@ pub mod WritingForms
 pub mod TextLaws
 pub mod WritingFormsLaws
 pub mod PutLaws
+pub mod LengthLaws
 pub mod OneTextLaws

@@ -6,12 +6,12 @@ use mathlib.Core.List.{List, [], _∷_, _++_, append-assoc, append-nil}
 use native.Mathlib.Nat.{le-refl}
 use native.Mathlib.Omega.{arith}
 use lib.Dec.{ltb}
-use lib.ListN.{length, take, drop, set, length-append, length-set, take-append-drop, drop-of-length-le}
-use lib.Seq.{take-take, take-set-le, drop-cons, drop-set-lt, getD-set-same, sets, sets-eq}
-use borrow.Author.Tests.{le-leb, lt-leb, lt-ltb, le-ltb, ltb-true}
+use lib.ListN.{length, take, drop, set, length-append, length-drop, length-set, take-append-drop, drop-of-length-le}
+use lib.Seq.{length-take-le, take-at, drop-append-add, drop-drop, take-take, take-set-le, drop-cons, drop-set-lt, getD-set-same, set-split, sets, sets-eq}
+use borrow.Author.Tests.{ne-eqb, le-leb, lt-leb, lt-ltb, le-ltb, ltb-true}
 use Rattle.bits.specs.Basics.{pick}
 use Rattle.text.specs.Text.{digitsBefore, decimal}
-use Rattle.text.specs.WritingForms.{putText, TextPut, digitCount, lastDigits}
+use Rattle.text.specs.WritingForms.{putText, TextPut, PutInRoom, TextWritten, digitCount, lastDigits}
 use Rattle.text.specs.WritingFormsLaws.{tenth-below}
 
 -- ---- a text
@@ -29,12 +29,90 @@ module _ (out : List ℕ) (at : ℕ) (t : List ℕ) (room : at + length t ≤ le
   put-end after h = put-whole after (h ∙ sets-eq t out at room ∙ append-assoc (take at out) t (drop (at + length t) out))
 
 -- a text of the slice's length takes its place
-pub put-all : (out t : List ℕ) (r : ℕ) (after : List ℕ) → length t ≡ length out → TextPut out 0 t r after → after ≡ t
+pub put-over : (out t : List ℕ) → length t ≡ length out → putText out 0 t ≡ t
 unfolding putText
+put-over out t h = let past : length out ≤ 0 + length t = omega arith in rw (drop-of-length-le out past) (append-nil t)
+
+pub put-all : (out t : List ℕ) (r : ℕ) (after : List ℕ) → length t ≡ length out → TextPut out 0 t r after → after ≡ t
 put-all out t r after h p =
     let room : 0 + length t ≤ length out = omega arith in
-    let past : length out ≤ 0 + length t = omega arith in
-    p .bytes-after ∙ rw (le-leb (0 + length t) (length out) room, drop-of-length-le out past) (append-nil t)
+    p .bytes-after ∙ rw (le-leb (0 + length t) (length out) room) (put-over out t h)
+
+-- no text
+pub put-empty : (bytes : List ℕ) (at : ℕ) → putText bytes at [] ≡ bytes
+unfolding putText
+put-empty bytes at = let z : at + 0 ≡ at = omega arith in rw z (take-append-drop at bytes)
+
+-- two texts, one behind the other
+pub append-put : (bytes : List ℕ) (at : ℕ) (s t : List ℕ) → at + length s ≤ length bytes → putText (putText bytes at s) (at + length s) t ≡ putText bytes at (s ++ t)
+unfolding putText
+append-put bytes at s t room =
+    let head : List ℕ = take at bytes ++ s in
+    let rest : List ℕ = drop (at + length s) bytes in
+    let long : length head ≡ at + length s = length-append (take at bytes) s ∙ ap (λ (n : ℕ). n + length s) (length-take-le at bytes (omega arith)) in
+    let first : take (at + length s) (take at bytes ++ (s ++ rest)) ≡ head = rw (← append-assoc (take at bytes) s rest) (take-at head rest (at + length s) long) in
+    let sum : at + length s + length t ≡ at + length (s ++ t) = omega (arith, length-append s t) in
+    let last : drop (at + length s + length t) (take at bytes ++ (s ++ rest)) ≡ drop (at + length (s ++ t)) bytes =
+    rw (← append-assoc (take at bytes) s rest) (ap (λ (n : ℕ). drop (n + length t) (head ++ rest)) (sym long) ∙ drop-append-add head rest (length t) ∙ drop-drop (length t) (at + length s) bytes ∙ ap (λ (n : ℕ). drop n bytes) sum) in
+    rw (first, last) (simp append-assoc)
+
+pub put-length : (bytes : List ℕ) (at : ℕ) (t : List ℕ) → at + length t ≤ length bytes → length (putText bytes at t) ≡ length bytes
+unfolding putText
+put-length bytes at t room =
+    let front : length (take at bytes) ≡ at = length-take-le at bytes (omega arith) in
+    length-append (take at bytes) (t ++ drop (at + length t) bytes) ∙ omega (arith, front, length-append t (drop (at + length t) bytes), length-drop (at + length t) bytes)
+
+-- ---- a byte behind a text that was put
+module _ {out : List ℕ} {at : ℕ} {t : List ℕ} {x : ℕ} {mid : List ℕ} (p : TextPut out at t x mid) (room : at + length t < length out) where
+  put-next : x ≡ at + length t
+  put-next = rw (le-leb (at + length t) (length out) (omega arith)) at (p .next)
+
+  put-mid : mid ≡ putText out at t
+  put-mid = rw (le-leb (at + length t) (length out) (omega arith)) at (p .bytes-after)
+
+  pub put-inside : x < length mid
+  put-inside = omega (arith, put-next, ap length put-mid, put-length out at t (omega arith))
+
+  pub put-byte : (b : ℕ) → TextPut out at (t ++ (b ∷ [])) (x + 1) (set mid x b)
+  unfolding putText
+  put-byte b =
+      let long : at + length (t ++ (b ∷ [])) ≡ x + 1 = omega (arith, put-next, length-append t (b ∷ [])) in
+      let e = le-leb (at + length (t ++ (b ∷ []))) (length out) (omega (arith, put-next, long)) in
+      let one : suc x ≡ x + 1 = omega arith in
+      let byte : set mid x b ≡ putText mid x (b ∷ []) = set-split mid x b put-inside ∙ ap (λ (n : ℕ). take x mid ++ (b ∷ drop n mid)) one in
+      record { next = rw e (sym long); bytes-after = rw e (byte ∙ rw (put-mid, put-next) (append-put out at t (b ∷ []) (omega arith))) }
+
+-- ---- texts one behind the other, where there is room for all of them
+pub in-room : {bytes : List ℕ} {at : ℕ} {t : List ℕ} {r : ℕ} {after : List ℕ} → TextPut bytes at t r after → PutInRoom bytes at t r after
+in-room {bytes} {at} {t} p =
+    record { next = λ h. rw (le-leb (at + length t) (length bytes) h) at (p .next); bytes-after = λ h. rw (le-leb (at + length t) (length bytes) h) at (p .bytes-after) }
+
+pub put-nothing : (bytes : List ℕ) (at : ℕ) → PutInRoom bytes at [] at bytes
+put-nothing bytes at = record { next = λ h. omega arith; bytes-after = λ h. sym (put-empty bytes at) }
+
+pub put-behind : {bytes : List ℕ} {at : ℕ} {s : List ℕ} {x : ℕ} {mid t : List ℕ} {r : ℕ} {after : List ℕ}
+    → PutInRoom bytes at s x mid → PutInRoom mid x t r after → PutInRoom bytes at (s ++ t) r after
+put-behind {bytes} {at} {s} {x} {mid} {t} {r} {after} p q = record { next = λ h. ends h .0; bytes-after = λ h. ends h .1 }
+  where
+    ends : at + length (s ++ t) ≤ length bytes → (r ≡ at + length (s ++ t)) × (after ≡ putText bytes at (s ++ t))
+    ends h =
+        let long = length-append s t in
+        let first : at + length s ≤ length bytes = omega (arith, h, long) in
+        let place : x ≡ at + length s = p .next first in
+        let bytes-then : mid ≡ putText bytes at s = p .bytes-after first in
+        let last : x + length t ≤ length mid = omega (arith, h, long, place, ap length bytes-then, put-length bytes at s first) in
+        (omega (arith, q .next last, place, long), q .bytes-after last ∙ rw (bytes-then, place) (append-put bytes at s t first))
+
+-- ---- a call that writes a text to the front of a lent slice
+pub text-refused : (refusal n : ℕ) (t out : List ℕ) → n ≡ refusal → (n ≡ 0 → ⊥) → TextWritten refusal t out (record { refused = n; bytes = 0 }) out
+text-refused refusal n t out e h = let z = ne-eqb refusal 0 (λ q. h (e ∙ q)) in record { answer = rw (e, z); left = rw z }
+
+pub text-written : {t out : List ℕ} {r : ℕ} {after : List ℕ} (refusal : ℕ) → refusal ≡ 0 → length t ≤ length out → PutInRoom out 0 t r after
+    → TextWritten refusal t out (record { refused = 0; bytes = r }) after
+text-written {t} {out} {r} refusal e room p =
+    let front : 0 + length t ≤ length out = omega arith in
+    let size : r ≡ length t = omega (arith, p .next front) in
+    record { answer = rw (e, size); left = rw e (p .bytes-after front) }
 
 -- ---- digits
 -- digits before a text are the digits and the text

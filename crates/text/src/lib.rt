@@ -1,5 +1,6 @@
 // Text in lent byte slices: decimal numbers, fields and lines.
 ghost use mathlib.Core.Path.{_≡_};
+ghost use mathlib.Core.List.{[], _∷_, _++_};
 ghost use Rattle.text.specs.Text.{numberUpTo, decimal, same as sameText};
 ghost use Rattle.text.specs.ReadingForms.{TextFound, digitOf, digitsFrom, numberOf};
 ghost use Rattle.text.specs.WritingForms.{TextPut, DigitsCounted};
@@ -9,6 +10,12 @@ use bits::inner::put_row;
 pub enum NumberRead {
     Number(u64),
     NoNumber,
+}
+
+// What a call that writes a text to the front of a lent slice answers: the number of a refusal and no bytes, or 0 and how many it wrote.
+pub struct Written {
+    pub refused: u8,
+    pub bytes: usize,
 }
 
 // How many bytes stand before the first b; all of them where there is none.
@@ -109,7 +116,7 @@ pub fn put_text(out: &mut [u8], at: usize, t: &[u8]) -> usize
 }
 
 // How many decimal digits a number has.
-fn digit_count(n: u64) -> usize
+pub fn digit_count(n: u64) -> usize
     ensures { λ r. ⌜ DigitsCounted n r ⌝ }
 {
     let mut k = 1;
@@ -140,4 +147,20 @@ pub fn put_decimal(out: &mut [u8], at: usize, n: u64) -> usize
         m /= 10;
     }
     at + k
+}
+
+// A number and the byte behind it, written at a place; the answer is as for a text.
+pub fn put_field(out: &mut [u8], at: usize, n: u64, behind: u8) -> usize
+    ensures { λ r. ⌜ TextPut (now (out .entry)) at (decimal n ++ (behind ∷ [])) r (now (out .exit)) ⌝ }
+{
+    let size = digit_count(n) + 1;
+    if out.len() < at {
+        return at;
+    }
+    if out.len() - at < size {
+        return at;
+    }
+    let next = put_decimal(out, at, n);
+    out[next] = behind;
+    next + 1
 }

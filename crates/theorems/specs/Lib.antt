@@ -1,2 +1,4 @@
 -- The main theorems of this repository.
+pub mod LongestFile
+pub mod BookFiles
 pub mod Main

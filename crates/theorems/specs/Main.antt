@@ -13,12 +13,9 @@ use Rattle.bits.specs.declared.svq1_enc.Pushed.{Pushed}
 use Rattle.code_tables.specs.Codes.{code, codesOf}
 use Rattle.code_tables.specs.Calls.{codeRefusal, codeAt}
 use Rattle.code_tables.specs.CallsLaws.{pushed-read}
-use Rattle.book.specs.Book.{codebookBytes, bookRefusal}
+use Rattle.book.specs.Book.{codebookBytes}
 use Rattle.house.specs.House.{HouseBook, houseSample, houseCodebook}
 use Rattle.house.specs.HouseLaws.{houseTest, by-test, house-sample-at}
-use Rattle.book_file.specs.BookFile.{Line, fileRefusal, fileBook}
-use Rattle.book_file.specs.FileText.{fileOf, LinesOf}
-use Rattle.book_file.specs.BookFileLaws.{file-accepted}
 use Rattle.leaf.specs.LeafCall.{BlockIn}
 use Rattle.plan.specs.PlanClaim.{PlanClaimed}
 use Rattle.plan.specs.PlanClaimLaws.{plan-claimed}
@@ -39,6 +36,7 @@ use Rattle.listing_job.specs.Job.{Job, jobIn}
 use Rattle.listing_text.specs.Listing.{Files, listing}
 use Rattle.listed_errors.specs.PaddedLaws.{all-samples}
 use Rattle.listed_errors.specs.ListedErrorLaws.{leftPlane, statedTotal, total-at-most, statedListing, listing-as-before}
+use Rattle.theorems.specs.BookFiles.{BookFiles, book-files}
 use Rattle.starred_cards.specs.Cards.{Holds, cards}
 use Rattle.starred_cards.specs.Proof.{starred}
 
@@ -75,10 +73,10 @@ pub a-code-written-and-read : (s : List ℕ) (at : ℕ) (t : List ℕ) (k : ℕ)
     → codeAt left at t ≡ done (record { value = k; next = at + length (code (codesOf t) k) })
 a-code-written-and-read = pushed-read
 
--- A file that has a line for each entry of a book that passes, in any order, is read as that book.
-pub a-book-filed-and-read : (book : List ℕ) (ls : List Line) → All (λ x. x < 256) book → bookRefusal book ≡ 0 → LinesOf book ls
-    → (fileRefusal (fileOf ls) ≡ 0) × (fileBook (fileOf ls) ≡ book)
-a-book-filed-and-read = file-accepted
+-- Document 02, §2: a book has one file, which is refused and read as the book is; the sentences are the fields of `BookFiles` (theorems/BookFiles).
+-- Of memory: `read_book_file`, `write_book_file`.
+pub a-book-filed-and-read : BookFiles
+a-book-filed-and-read = book-files
 
 -- Where an allowance holds a SKIP code for each macroblock, and each mode that is written without a limit on bits fits it, the plane within it is the plane
 -- without one (document 02, §5; nothing calls it yet).

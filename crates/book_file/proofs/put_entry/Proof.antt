@@ -1,57 +1,49 @@
--- `book_file::put_entry` meets its contract: three stores. Assumes nothing.
-use native.Mathlib.Omega.{arith}
+-- `book_file::put_entry` meets its contract: the three bytes go in where the entry stands. Assumes nothing.
+use Prim.Native.Nat.{_+_, _*_}
+use mathlib.Core.Path.{_∙_}
 use borrow.Author.Needs.{needs}
-use lib.ListN.{length-set}
-use Rattle.book_file.specs.BookFileForms.{withEntry}
+use borrow.Author.Tests.{le-leb}
+use denote.Ref.{now}
+use lib.ListN.{length}
 use Rattle.book_file.proofs.put_entry.Statement.{statement}
 use Rattle.book_file.proofs.put_entry.Tie as tie
 
-mul-at : tie.Need-mul-at
-mul-at c = search needs
+cast-t7 : tie.Need-cast-t7
+cast-t7 c = search needs
 
-cast-book : tie.Need-cast-book
-cast-book c = search needs
+cast-t9 : tie.Need-cast-t9
+cast-t9 c = search needs
 
-slice-write-book : tie.Need-slice-write-book
-slice-write-book c = search needs
+length-byte-requires : tie.Need-length-byte-requires
+length-byte-requires c κs = search needs
 
-cast-book-2 : tie.Need-cast-book-2
-cast-book-2 c = search needs
+mul-put-text : tie.Need-mul-put-text
+mul-put-text c = search needs
 
-add-book : tie.Need-add-book
-add-book c = search needs
+slice-aggregate-put-text : tie.Need-slice-aggregate-put-text
+slice-aggregate-put-text c = search needs
 
-slice-write-book-2 : tie.Need-slice-write-book-2
-slice-write-book-2 c = simp length-set (omega arith)
-
-cast-book-3 : tie.Need-cast-book-3
-cast-book-3 c = search needs
-
-add-book-2 : tie.Need-add-book-2
-add-book-2 c = search needs
-
-slice-write-book-3 : tie.Need-slice-write-book-3
-slice-write-book-3 c = search needs
+put-text-requires : tie.Need-put-text-requires
+put-text-requires c κs = search needs
 
 same-length : tie.Need-same-length
 same-length c = search needs
 
 returns : tie.Need-returns
-unfolding withEntry
-returns c = search needs
+returns c =
+    let s = c .before .before .before .before .before .before .before in
+    c .before .before .put-text .ensures .bytes-after
+    ∙ rw (le-leb (3 * s .args .e + 3) (length (now (s .args .book))) (s .pre .0), c .before .before .before .before .before .length-byte .ensures)
 
 pub put-entry-spec : {M : Type 1} → statement M
 put-entry-spec =
     tie.close
     (tie.spec
-    mul-at
-    cast-book
-    slice-write-book
-    cast-book-2
-    add-book
-    slice-write-book-2
-    cast-book-3
-    add-book-2
-    slice-write-book-3
+    cast-t7
+    cast-t9
+    length-byte-requires
+    mul-put-text
+    slice-aggregate-put-text
+    put-text-requires
     same-length
     returns)

@@ -6,7 +6,7 @@ use borrow.Author.Needs.{needs}
 use denote.Ref.{now}
 use Rattle.book_file.specs.BookFile.{fileLines}
 use Rattle.book_file.specs.BookFileForms.{BookHeld, begun, heldTold, scanned}
-use Rattle.book_file.specs.CallLaws.{file-stopped, file-missing, file-bad-code, file-whole}
+use Rattle.book_file.specs.CallLaws.{file-stopped, file-missing, file-moved, file-whole}
 use Rattle.book_file.specs.declared.LinesRead.{LinesRead}
 use Rattle.book_file.proofs.read_into.Statement.{statement}
 use Rattle.book_file.proofs.read_into.Tie as tie
@@ -14,8 +14,8 @@ use Rattle.book_file.proofs.read_into.Tie as tie
 read-lines-requires : tie.Need-read-lines-requires
 read-lines-requires c κs = (c .before .before .before .before .before .pre .0, c .before .before .before .before .before .pre .1 .size)
 
-enum-known-good : tie.Need-enum-known-good
-enum-known-good c = search needs
+enum-known-ordered : tie.Need-enum-known-ordered
+enum-known-ordered c = search needs
 
 enum-told : tie.Need-enum-told
 enum-told c = search needs
@@ -28,17 +28,17 @@ same-length-2 c = search needs
 
 -- what the lines leave
 abbrev left : tie.After-known-told → BookHeld
-left d = record { book = d .before .before .before .before .before .before .before .read-lines .last .1 .0; met = d .before .before .before .before .before .before .before .read-lines .last .1 .1 .0; good = d .before .good2 .given .0 .0 }
+left d = record { book = d .before .before .before .before .before .before .before .read-lines .last .1 .0; met = d .before .before .before .before .before .before .before .read-lines .last .1 .1 .0; ordered = d .before .ordered .given .0 .0 }
 
 abbrev entry : tie.After-known-told → tie.Start
 entry d = d .before .before .before .before .before .before .before .before .before .before .before .before .before
 
 whole : (d : tie.After-known-told) →
     let s = entry d in
-    scanned (fileLines (now (s .args .file))) (begun (now (s .args .book)) (now (s .args .met))) ≡ some (left d)
+    scanned 0 (fileLines (now (s .args .file))) (begun (now (s .args .book)) (now (s .args .met))) ≡ some (left d)
 whole d =
     let r = d .before .before .before .before .before .before .before .read-lines in
-    sym (r .ensures) ∙ ap (λ (a : LinesRead). heldTold a (r .last .1 .0) (r .last .1 .1 .0)) (d .before .good2 .given .1)
+    sym (r .ensures) ∙ ap (λ (a : LinesRead). heldTold a (r .last .1 .0) (r .last .1 .1 .0)) (d .before .ordered .given .1)
 
 returns : tie.Need-returns
 returns c =
@@ -67,11 +67,10 @@ returns-2 : tie.Need-returns-2
 returns-2 c =
     let d = c .before .before .before .before .before .before in
     let s = entry d in
-    let good = c .before .before .if2 .taken in
     let both =
     file-whole (now (s .args .file)) (now (s .args .book)) (now (s .args .met)) (s .pre .1) (left d) (whole d) (s .pre .0)
-    (sym (c .before .before .before .before .all-met .ensures) ∙ c .before .before .before .if1 .taken) good in
-    record { refusal = c .book-refusal .ensures ∙ sym (both .0); held = λ q. sym (both .1) }
+    (sym (c .before .before .before .before .all-met .ensures) ∙ c .before .before .before .if1 .taken) (c .before .before .if2 .taken) in
+    record { refusal = c .book-refusal .ensures ∙ both .refusal; held = λ q. both .held (sym (c .book-refusal .ensures) ∙ q) }
 
 same-length-5 : tie.Need-same-length-5
 same-length-5 c = search needs
@@ -85,7 +84,7 @@ returns-3 c =
     let s = entry d in
     record {
       refusal =
-          sym (file-bad-code (now (s .args .file)) (now (s .args .book)) (now (s .args .met)) (s .pre .1) (left d) (whole d)
+          sym (file-moved (now (s .args .file)) (now (s .args .book)) (now (s .args .met)) (s .pre .1) (left d) (whole d)
           (sym (c .before .before .all-met .ensures) ∙ c .before .if1 .taken) (c .if2 .left));
       held = λ q. absurd (omega arith);
     }
@@ -112,7 +111,7 @@ read-into-spec =
     tie.close
     (tie.spec
     read-lines-requires
-    enum-known-good
+    enum-known-ordered
     enum-told
     same-length
     same-length-2

@@ -1,8 +1,9 @@
 -- `book_file::read_lines` meets its contract: what the lines read so far leave, with the lines left, makes what all lines leave. Assumes nothing.
-use Prim.Native.Nat.{ℕ, _+_, _-_, _≤_, _<_}
+use Prim.Native.Nat.{ℕ, suc, _+_, _-_, _≤_, _<_}
 use mathlib.Core.Path.{_≡_, refl, sym, ap, _∙_}
 use mathlib.Core.List.{List}
 use mathlib.Core.Option.{Option, some, none}
+use native.Mathlib.Numerals.{add-one}
 use native.Mathlib.Omega.{arith}
 use borrow.Author.Needs.{needs}
 use borrow.Author.Tests.{eq-eqb, ne-eqb}
@@ -20,13 +21,13 @@ use Rattle.book_file.proofs.read_lines.Statement.{statement}
 use Rattle.book_file.proofs.read_lines.Tie as tie
 
 abbrev Inv-loop : tie.InvT-loop
-Inv-loop file book₀ met₀ at₀ good₀ book met at good =
-    (at ≤ length file) × (length book ≡ length book₀) × (length met ≡ length met₀)
-    × (scanned (fileLines (drop at file)) (record { book = book; met = met; good = good })
-    ≡ scanned (fileLines file) (begun book₀ met₀))
+Inv-loop file book₀ met₀ at₀ next₀ ordered₀ book met at next ordered =
+    (at ≤ length file) × (next ≤ at) × (length book ≡ length book₀) × (length met ≡ length met₀)
+    × (scanned next (fileLines (drop at file)) (record { book = book; met = met; ordered = ordered })
+    ≡ scanned 0 (fileLines file) (begun book₀ met₀))
 
 abbrev μ-loop : tie.MeasureT-loop
-μ-loop file book₀ met₀ at₀ good₀ book met at good = length file - at
+μ-loop file book₀ met₀ at₀ next₀ ordered₀ book met at next ordered = length file - at
 
 -- the loop's head that a line which says something was read from, and the line
 abbrev head : tie.After-known-told Inv-loop μ-loop → tie.At-loop Inv-loop μ-loop
@@ -42,10 +43,10 @@ abbrev file : tie.At-loop Inv-loop μ-loop → List ℕ
 file u = now (u .before .before .before .before .args .file)
 
 abbrev state : tie.At-loop Inv-loop μ-loop → BookHeld
-state u = record { book = u .loop .book; met = u .loop .met; good = u .loop .good }
+state u = record { book = u .loop .book; met = u .loop .met; ordered = u .loop .ordered }
 
 abbrev all : tie.At-loop Inv-loop μ-loop → Option BookHeld
-all u = scanned (fileLines (file u)) (begun (now (u .before .before .before .before .args .book)) (now (u .before .before .before .before .args .met)))
+all u = scanned 0 (fileLines (file u)) (begun (now (u .before .before .before .before .args .book)) (now (u .before .before .before .before .args .met)))
 
 told : (d : tie.After-known-told Inv-loop μ-loop) → lineRead (fieldsOf (take (bytes d) (partFrom (head d .loop .at) (file (head d))))) ≡ some (line d)
 told d = sym (d .before .before .before .read-line .ensures) ∙ ap lineTold (d .before .e .given .1)
@@ -57,18 +58,18 @@ fits d = line-fits (fieldsOf (take (bytes d) (partFrom (head d .loop .at) (file 
 more : (d : tie.After-known-told Inv-loop μ-loop) →
     all (head d)
     ≡ pick (eqb (getD (head d .loop .met) (line d .entry) 0) 0)
-    (scanned (fileLines (drop (head d .loop .at + (bytes d + 1)) (file (head d)))) (kept (line d) (state (head d))))
+    (scanned (suc (head d .loop .next)) (fileLines (drop (head d .loop .at + (bytes d + 1)) (file (head d)))) (kept (head d .loop .next) (line d) (state (head d))))
     none
 more d =
     let u = head d in
     let f = d .before .before .before .before .before .before in
     let rest : bytes d < length (partFrom (u .loop .at) (file u)) = omega (arith, d .before .before .before .before .before .if1 .left, f .find .ensures .within) in
-    sym (u .loop .inv .3)
-    ∙ ap (λ (o : Option (List Line)). scanned o (state u)) (file-line (file u) (u .loop .at) (bytes d) (f .find .ensures .count) rest (line d) (told d))
-    ∙ scan-step (line d) (fileLines (drop (u .loop .at + (bytes d + 1)) (file u))) (state u)
+    sym (u .loop .inv .4)
+    ∙ ap (λ (o : Option (List Line)). scanned (u .loop .next) o (state u)) (file-line (file u) (u .loop .at) (bytes d) (f .find .ensures .count) rest (line d) (told d))
+    ∙ scan-step (u .loop .next) (line d) (fileLines (drop (u .loop .at + (bytes d + 1)) (file u))) (state u)
 
 loop-holds : tie.Need-loop-holds Inv-loop μ-loop
-loop-holds c = (omega arith, refl, refl, refl)
+loop-holds c = (omega arith, omega arith, refl, refl, refl)
 
 sub-rest : tie.Need-sub-rest Inv-loop μ-loop
 sub-rest c = omega arith
@@ -83,15 +84,15 @@ find-requires : tie.Need-find-requires Inv-loop μ-loop
 find-requires c κs = tt
 
 same-length : tie.Need-same-length Inv-loop μ-loop
-same-length c = c .before .before .before .before .loop .inv .1
+same-length c = c .before .before .before .before .loop .inv .2
 
 same-length-2 : tie.Need-same-length-2 Inv-loop μ-loop
-same-length-2 c = c .before .before .before .before .loop .inv .2
+same-length-2 c = c .before .before .before .before .loop .inv .3
 
 returns : tie.Need-returns Inv-loop μ-loop
 returns c =
     let u = c .before .before .before .before in
-    sym (sym (u .loop .inv .3) ∙ rw (file-open (file u) (u .loop .at) (c .before .find .result) (c .before .before .before .loop-test .taken) (c .before .find .ensures .count) (omega arith)))
+    sym (sym (u .loop .inv .4) ∙ rw (file-open (file u) (u .loop .at) (c .before .find .result) (c .before .before .before .loop-test .taken) (c .before .find .ensures .count) (omega arith)))
 
 slice-aggregate-read-line : tie.Need-slice-aggregate-read-line Inv-loop μ-loop
 slice-aggregate-read-line c = sym (length-take-le (c .before .before .find .result) _ (c .before .before .find .ensures .within))
@@ -106,45 +107,42 @@ enum-told : tie.Need-enum-told Inv-loop μ-loop
 enum-told c = search needs
 
 same-length-3 : tie.Need-same-length-3 Inv-loop μ-loop
-same-length-3 c = c .before .before .before .before .before .before .before .before .loop .inv .1
+same-length-3 c = c .before .before .before .before .before .before .before .before .loop .inv .2
 
 same-length-4 : tie.Need-same-length-4 Inv-loop μ-loop
-same-length-4 c = c .before .before .before .before .before .before .before .before .loop .inv .2
+same-length-4 c = c .before .before .before .before .before .before .before .before .loop .inv .3
 
 returns-2 : tie.Need-returns-2 Inv-loop μ-loop
 returns-2 c =
     let u = c .before .before .before .before .before .before .before .before in
     let f = c .before .before .before .before .before in
     let rest : f .find .result < length (partFrom (u .loop .at) (file u)) = omega (arith, c .before .before .before .before .if1 .left, f .find .ensures .within) in
-    sym (sym (u .loop .inv .3) ∙ rw (file-bad (file u) (u .loop .at) (f .find .result) (f .find .ensures .count) rest (sym (c .before .before .read-line .ensures) ∙ ap lineTold (c .enum-told .given .1))))
+    sym (sym (u .loop .inv .4) ∙ rw (file-bad (file u) (u .loop .at) (f .find .result) (f .find .ensures .count) rest (sym (c .before .before .read-line .ensures) ∙ ap lineTold (c .enum-told .given .1))))
 
 slice-read-if2 : tie.Need-slice-read-if2 Inv-loop μ-loop
-slice-read-if2 c = omega (arith, fits (c .before) .entry-below, head (c .before) .loop .inv .2, head (c .before) .before .before .before .before .pre)
+slice-read-if2 c = omega (arith, fits (c .before) .entry-below, head (c .before) .loop .inv .3, head (c .before) .before .before .before .before .pre)
 
 same-length-5 : tie.Need-same-length-5 Inv-loop μ-loop
-same-length-5 c = c .before .before .before .before .before .before .before .before .before .before .before .loop .inv .1
+same-length-5 c = c .before .before .before .before .before .before .before .before .before .before .before .loop .inv .2
 
 same-length-6 : tie.Need-same-length-6 Inv-loop μ-loop
-same-length-6 c = c .before .before .before .before .before .before .before .before .before .before .before .loop .inv .2
+same-length-6 c = c .before .before .before .before .before .before .before .before .before .before .before .loop .inv .3
 
 returns-3 : tie.Need-returns-3 Inv-loop μ-loop
 returns-3 c = let d = c .before .before in sym (more d ∙ rw (ne-eqb (getD (head d .loop .met) (line d .entry) 0) 0 (c .if2 .taken)))
 
 slice-write-met : tie.Need-slice-write-met Inv-loop μ-loop
-slice-write-met c = let d = c .before .before in omega (arith, fits d .entry-below, head d .loop .inv .2, head d .before .before .before .before .pre)
+slice-write-met c = let d = c .before .before in omega (arith, fits d .entry-below, head d .loop .inv .3, head d .before .before .before .before .pre)
 
 put-entry-requires : tie.Need-put-entry-requires Inv-loop μ-loop
 put-entry-requires c κs =
-    let d = c .before .before .before in (omega (arith, fits d .entry-below, head d .loop .inv .1, head d .before .before .before .before .pre), fits d .value-le)
-
-cast-good-entry : tie.Need-cast-good-entry Inv-loop μ-loop
-cast-good-entry c = let d = c .before .before .before .before .before .before in omega (arith, fits d .long-le)
-
-good-entry-requires : tie.Need-good-entry-requires Inv-loop μ-loop
-good-entry-requires c κs = tt
+    let d = c .before .before .before in (omega (arith, fits d .entry-below, head d .loop .inv .2, head d .before .before .before .before .pre), fits d .value-le)
 
 both-requires : tie.Need-both-requires Inv-loop μ-loop
 both-requires c κs = tt
+
+add-next : tie.Need-add-next Inv-loop μ-loop
+add-next c = omega arith
 
 add-at : tie.Need-add-at Inv-loop μ-loop
 add-at c = omega arith
@@ -157,29 +155,29 @@ loop-less c = omega arith
 
 loop-again : tie.Need-loop-again Inv-loop μ-loop
 loop-again c =
-    let d = c .before .before .before .before .before .before .before .before in
+    let d = c .before .before .before .before .before .before .before in
     let u = head d in
     let f = d .before .before .before .before .before .before in
     let rest : length (partFrom (u .loop .at) (file u)) ≡ length (file u) - u .loop .at = omega (arith, length-part (u .loop .at) (file u)) in
-    let same = kept-is (line d) (state u) (c .before .before .before .before .put-entry .last .0) (c .both .result) (c .before .good-entry .result)
-    (c .before .before .before .before .put-entry .ensures) (c .both .ensures) (c .before .good-entry .ensures) in (
+    let same = kept-is (u .loop .next) (line d) (state u) (c .before .before .before .put-entry .last .0) (c .both .result) (c .before .before .before .put-entry .ensures) (c .both .ensures) in (
       omega (arith, d .before .before .before .before .before .if1 .left, f .find .ensures .within, rest, u .loop .inv .0),
-      c .before .before .before .before .put-entry .kept .0 ∙ u .loop .inv .1,
-      simp length-set (u .loop .inv .2),
-      rw same (sym (more d ∙ rw (eq-eqb (getD (u .loop .met) (line d .entry) 0) 0 (c .before .before .before .before .before .before .if2 .left)))),
+      omega (arith, u .loop .inv .1),
+      c .before .before .before .put-entry .kept .0 ∙ u .loop .inv .2,
+      simp length-set (u .loop .inv .3),
+      rw (add-one (u .loop .next), same) (sym (more d ∙ rw (eq-eqb (getD (u .loop .met) (line d .entry) 0) 0 (c .before .before .before .before .before .if2 .left)))),
     )
 
 same-length-7 : tie.Need-same-length-7 Inv-loop μ-loop
-same-length-7 c = c .before .loop .inv .1
+same-length-7 c = c .before .loop .inv .2
 
 same-length-8 : tie.Need-same-length-8 Inv-loop μ-loop
-same-length-8 c = c .before .loop .inv .2
+same-length-8 c = c .before .loop .inv .3
 
 returns-4 : tie.Need-returns-4 Inv-loop μ-loop
 unfolding scanLines
 returns-4 c =
     let u = c .before in
-    sym (sym (u .loop .inv .3) ∙ rw (file-end (file u) (u .loop .at) (omega arith)))
+    sym (sym (u .loop .inv .4) ∙ rw (file-end (file u) (u .loop .at) (omega arith)))
 
 pub read-lines-spec : {M : Type 1} → statement M
 read-lines-spec =
@@ -208,9 +206,8 @@ read-lines-spec =
     returns-3
     slice-write-met
     put-entry-requires
-    cast-good-entry
-    good-entry-requires
     both-requires
+    add-next
     add-at
     add-at-2
     loop-less

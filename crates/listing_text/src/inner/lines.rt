@@ -15,9 +15,7 @@ fn put_number(text: &mut [u8], at: usize, n: u64, behind: u8) -> usize
     requires { ⌜ at + 21 ≤ length (now text) ⌝ }
     ensures { λ r. ⌜ ListedPut 21 (now (text .entry)) at (decimal n ++ (behind ∷ [])) r (now (text .exit)) ⌝ }
 {
-    let next = text::put_decimal(text, at, n);
-    text[next] = behind;
-    next + 1
+    text::put_field(text, at, n, behind)
 }
 
 // A mode's name, by its position in the mode table, and the comma behind it.
