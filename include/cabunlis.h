@@ -102,7 +102,7 @@
  */
 #define CABUNLIS_VERSION_MAJOR 1
 #define CABUNLIS_VERSION_MINOR 2
-#define CABUNLIS_VERSION_PATCH 0
+#define CABUNLIS_VERSION_PATCH 1
 
 /* One number that grows with the version, for #if (1.2.3 is 1002003), and text, as "1.2.3". */
 #define CABUNLIS_VERSION_NUMBER (CABUNLIS_VERSION_MAJOR * 1000000 + CABUNLIS_VERSION_MINOR * 1000 + CABUNLIS_VERSION_PATCH)
@@ -153,7 +153,7 @@ extern "C" {
 /* The longest bit string, in bytes. */
 #define CABUNLIS_MOST_BYTES ((size_t)1 << 28)
 
-/* Stack that a call may take, in bytes. Measured: writer 44,768, reader 44,096, a book file read 8,104 and written 4,488, a room
+/* Stack that a call may take, in bytes. Measured: writer 44,800, reader 44,112, a book file read 8,104 and written 4,488, a room
  * under a book 4,296, the visible error 664, the others next to nothing. */
 #define CABUNLIS_STACK_BYTES 49152
 
@@ -362,7 +362,11 @@ struct cabunlis_written {
  */
 struct cabunlis_written cabunlis_write_book_file(const uint8_t *book, size_t book_length, uint8_t *out, size_t out_length);
 
-/* Fill `book` and `codebook` with the built-in ones. Answer 0, or 5 where the slice has another length. */
+/*
+ * Fill `book` and `codebook` with the built-in ones. Answer 0, or 5 where the slice has another length; then it stays as it was.
+ * Entry by entry the book is that of its rule, and byte i of the codebook stands for ((37 i + i / 16) mod 61) - 30, i / 16 rounded
+ * down; the program print_house works both out from their rules and prints them as text.
+ */
 uint32_t cabunlis_house_book(uint8_t *book, size_t book_length);
 uint32_t cabunlis_house_codebook(uint8_t *codebook, size_t codebook_length);
 

@@ -12,3 +12,4 @@ pub mod BitNeedsLaws
 pub mod Calls
 pub mod CallsLaws
 pub mod DifferenceLaws
+pub mod SignedLaws

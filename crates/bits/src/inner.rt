@@ -4,6 +4,7 @@ ghost use mathlib.Core.Path.{_≡_};
 ghost use Prim.Native.Nat.{_+_, _*_, _/_, _%_, _-_, _^_, _<_, _≤_, min};
 ghost use lib.ListN.{length, take, drop};
 ghost use lib.Seq.{sets};
+ghost use Rattle.bits.specs.Basics.{signedOf};
 ghost use Rattle.bits.specs.Bits.{msb, valOf, bitsOf, putBits};
 ghost use Rattle.bits.specs.BitNeeds.{Fits, Wrote};
 ghost use Rattle.bits.specs.Calls.{startRefusal, roomRefusal, bitsRefusal};
@@ -133,4 +134,14 @@ pub fn put_row(out: &mut [u8], at: usize, xs: &[u8])
         out[at + i] = xs[i];
         i += 1;
     }
+}
+
+// The number that a two's complement byte stands for.
+pub fn signed(b: u8) -> i32
+    ensures { λ r. ⌜ r ≡ signedOf b ⌝ }
+{
+    if b < 128 {
+        return b as i32;
+    }
+    b as i32 - 256
 }

@@ -1,9 +1,7 @@
 // Book files and the built-in tables.
 ghost use lib.ListN.{length};
 ghost use Rattle.text.specs.WritingForms.{TextWritten};
-ghost use Rattle.book.specs.Book.{codebookBytes};
-ghost use Rattle.house.specs.Fill.{Filled, BookFilled};
-ghost use Rattle.house.specs.House.{houseCodebook};
+ghost use Rattle.house.specs.Fill.{BookFilled, CodebookFilled};
 ghost use Rattle.book_file.specs.BookFile.{bookFile, writeFileRefusal};
 ghost use Rattle.book_file.specs.BookFileForms.{BookFileRead};
 ghost use Rattle.cabunlis.specs.Host.{fileWritten};
@@ -50,7 +48,7 @@ pub extern "C" fn cabunlis1_house_book(book: &mut [u8]) -> u32
 // The same for the codebook.
 #[no_mangle]
 pub extern "C" fn cabunlis1_house_codebook(codebook: &mut [u8]) -> u32
-    ensures { λ r. ⌜ Filled codebookBytes houseCodebook (now (codebook .entry)) r (now (codebook .exit)) ⌝ }
+    ensures { λ r. ⌜ CodebookFilled (now (codebook .entry)) r (now (codebook .exit)) ⌝ }
 {
     fill_house_codebook(codebook) as u32
 }

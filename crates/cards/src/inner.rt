@@ -5,6 +5,7 @@ pub mod line;
 pub mod mode;
 pub mod plane_text;
 pub mod sample_cards;
+pub mod signed_texts;
 pub mod small_planes;
 pub mod sums;
 pub mod vector_cards;

@@ -24,14 +24,15 @@ fn print_parts(line: &mut [u8], book: &[u8], codebook: &[u8]) -> usize
     means + predictors + searches + inner::sample_cards::print_samples(line)
 }
 
-// All cards. Reading the first one back, the levels and the sums are no cards, and are counted by themselves.
+// All cards. Reading the first one back, the levels, the sums and the signed numbers are no cards, and are counted by themselves.
 fn print_cards(line: &mut [u8], book: &[u8], codebook: &[u8]) {
     let planes = print_planes(line, book, codebook);
     let back = inner::small_planes::print_read_back(line, book, codebook);
     let parts = print_parts(line, book, codebook);
     let levels = inner::levels::print_levels(line);
     let sums = inner::levels::print_sums(line);
-    inner::line::print_counts(line, planes + parts, back, levels, sums);
+    let texts = inner::signed_texts::print_texts(line);
+    inner::line::print_counts(line, planes + parts, back, levels, sums, texts);
 }
 
 fn main() {

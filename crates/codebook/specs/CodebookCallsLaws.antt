@@ -32,20 +32,9 @@ last-intra (suc (suc zero)) l = absurd (omega arith)
 pub behind-inter : (d : ℕ) → 4 ≤ d → pageStart Inter d ≡ 0
 behind-inter d l = rw (le-ltb d 4 l)
 
--- bytes of blocks 4 samples wide are in raster order already
-pub narrow-place : (d b : ℕ) → d < 2 → b < area d → some b ≡ rasterPlace d b
-unfolding rasterPlace rasterOf
-narrow-place zero b h l = rw (lt-ltb b (area 0) l)
-narrow-place (suc zero) b h l = rw (lt-ltb b (area 1) l)
-narrow-place (suc (suc d)) b h l = absurd (omega arith)
-
-pub wide-place : (d b x : ℕ) → 2 ≤ d → d < 4 → b < area d → x ≡ rasterOf 3 b → x ≡ rasterOf 2 b → some x ≡ rasterPlace d b
+pub place-at : (d b x : ℕ) → d < 4 → b < area d → x ≡ rasterOf d b → some x ≡ rasterPlace d b
 unfolding rasterPlace
-wide-place (suc (suc zero)) b x g h l e f = rw (lt-ltb b (area 2) l, f)
-wide-place (suc (suc (suc zero))) b x g h l e f = rw (lt-ltb b (area 3) l, e)
-wide-place zero b x g h l e f = absurd (omega arith)
-wide-place (suc zero) b x g h l e f = absurd (omega arith)
-wide-place (suc (suc (suc (suc d)))) b x g h l e f = absurd (omega arith)
+place-at d b x h l e = rw (lt-ltb d 4 h, lt-ltb b (area d) l, e)
 
 pub no-level : (d b : ℕ) → 4 ≤ d → none ≡ rasterPlace d b
 unfolding rasterPlace
@@ -54,10 +43,3 @@ no-level d b l = rw (le-ltb d 4 l)
 pub no-byte : (d b : ℕ) → d < 4 → area d ≤ b → none ≡ rasterPlace d b
 unfolding rasterPlace
 no-byte d b h l = rw (lt-ltb d 4 h, le-ltb b (area d) l)
-
-pub area-most : (d : ℕ) → d < 4 → area d ≤ 64
-area-most zero h = omega arith
-area-most (suc zero) h = omega arith
-area-most (suc (suc zero)) h = omega arith
-area-most (suc (suc (suc zero))) h = omega arith
-area-most (suc (suc (suc (suc d)))) h = absurd (omega arith)

@@ -1,12 +1,12 @@
 -- What filling a slice with a table of the house answers and leaves (document 01, refusal 5).
-use Prim.Native.Nat.{ℕ}
+use Prim.Native.Nat.{ℕ, _<_}
 use mathlib.Core.Path.{_≡_}
 use mathlib.Core.List.{List}
 use lib.Dec.{eqb}
-use lib.ListN.{length}
-use Rattle.bits.specs.Basics.{pick, unless}
-use Rattle.book.specs.Book.{bookBytes}
-use Rattle.house.specs.House.{houseBook, HouseBook}
+use lib.ListN.{length, getD}
+use Rattle.bits.specs.Basics.{pick, unless, signedOf}
+use Rattle.book.specs.Book.{bookBytes, codebookBytes}
+use Rattle.house.specs.House.{houseBook, HouseBook, houseSample, houseCodebook}
 
 -- a slice of `size` bytes holds `whole` at the end; any other is refused with 5 and stays
 pub record Filled (size : ℕ) (whole out : List ℕ) (r : ℕ) (left : List ℕ) : Type 0 where
@@ -17,3 +17,8 @@ pub record Filled (size : ℕ) (whole out : List ℕ) (r : ℕ) (left : List ℕ
 pub record BookFilled (out : List ℕ) (r : ℕ) (left : List ℕ) : Type 0 where
   pub filled : Filled bookBytes houseBook out r left
   pub holds : r ≡ 0 → HouseBook left
+
+-- of the house codebook: each of its places holds the rule's number
+pub record CodebookFilled (out : List ℕ) (r : ℕ) (left : List ℕ) : Type 0 where
+  pub filled : Filled codebookBytes houseCodebook out r left
+  pub holds : r ≡ 0 → (i : ℕ) → i < codebookBytes → signedOf (getD left i 0) ≡ houseSample i

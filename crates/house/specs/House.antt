@@ -1,8 +1,7 @@
 -- The house book and the house codebook by their rules (document 01, "The book").
 use Prim.Native.Nat.{ℕ, zero, suc, _+_, _-_, _*_, _/_, _%_, _<_}
 use mathlib.Core.Path.{_≡_}
-use mathlib.Core.Bool.{true, false}
-use mathlib.Core.List.{List, [], _∷_}
+use mathlib.Core.List.{List, [], _∷_, _++_}
 use lib.Dec.{ltb}
 use lib.IntN.{ℤ, pos, negsuc, subℕ}
 use Rattle.bits.specs.Basics.{pick, valuesFrom, signedByte}
@@ -12,7 +11,7 @@ use Rattle.book.specs.Book.{bookEntries, codebookBytes, bookRefusal}
 -- floor of the logarithm to base 2, of a number below 2^fuel
 unfoldable pub logUnder : ℕ → ℕ → ℕ
 logUnder zero n = 0
-logUnder (suc f) n = elim (ltb n 2) [ true ↦ 0 | false ↦ suc (logUnder f (n / 2)) ]
+logUnder (suc f) n = pick (ltb n 2) 0 (suc (logUnder f (n / 2)))
 
 -- k of a signed number d: 2d - 1 if d is above 0, else -2d
 unfoldable pub signedRank : ℤ → ℕ
@@ -35,10 +34,14 @@ houseValue p = rank p + 1
 abbrev pub houseLength : ℕ → ℕ
 houseLength p = 2 * logUnder 16 (rank p + 1) + 1
 
--- n entries from entry p on, three bytes each
+-- its three bytes: the code's high byte, its low byte, its length
+abbrev pub houseEntry : ℕ → List ℕ
+houseEntry p = houseValue p / 256 ∷ houseValue p % 256 ∷ houseLength p ∷ []
+
+-- n entries from entry p on
 unfoldable pub houseFrom : ℕ → ℕ → List ℕ
 houseFrom zero p = []
-houseFrom (suc n) p = houseValue p / 256 ∷ houseValue p % 256 ∷ houseLength p ∷ houseFrom n (suc p)
+houseFrom (suc n) p = houseEntry p ++ houseFrom n (suc p)
 
 unfoldable pub houseBook : List ℕ
 houseBook = houseFrom bookEntries 0

@@ -1,26 +1,38 @@
 -- Laws of the house book and the house codebook.
-use Prim.Native.Nat.{ℕ, zero, suc, _+_, _-_, _*_, _/_, _%_, _≤_, _<_}
+use Prim.Native.Nat.{ℕ, zero, suc, _+_, _-_, _*_, _/_, _%_, _^_, _≤_, _<_}
 use mathlib.Core.Path.{_≡_, refl, sym, ap, _∙_}
 use mathlib.Core.Bool.{Bool, true, false, _&&_, true≢false}
-use mathlib.Core.List.{List, [], _∷_}
+use mathlib.Core.List.{List, [], _∷_, _++_}
 use native.Mathlib.Omega.{arith}
-use native.Mathlib.Nat.{add-zero, zero-add, div-add-mod'}
-use lib.Dec.{eqb}
+use native.Mathlib.Decide.{decLt}
+use native.Mathlib.Nat.{add-zero, zero-add, div-add-mod', pow-succ'}
+use lib.Dec.{eqb, ltb}
 use lib.IntN.{subℕ}
+use lib.Signed.{mag}
 use lib.ListN.{length, take, drop, getD}
-use borrow.Author.Tests.{eqb-true, lt-ltb, le-ltb}
-use Rattle.bits.specs.BasicsLaws.{both-true, length-values, value-at}
+use borrow.Author.Tests.{eqb-true, lt-ltb, le-ltb, ltb-true, ltb-false}
+use Rattle.bits.specs.BasicsLaws.{both-true, length-values, value-at, below, below-at}
+use Rattle.bits.specs.Bits.{msb}
+use Rattle.bits.specs.SignedLaws.{byte-back}
 use Rattle.code_tables.specs.Codes.{codeVal, codeLen, codesOf, goodTable}
 use Rattle.book.specs.Book.{bookEntries, bookBytes, codebookBytes, codeTableSizes, eachPrefixFree, codesRefusal, bookRefusal}
-use Rattle.house.specs.House.{houseValue, houseLength, houseFrom, houseBook, HouseBook, houseSample, houseCodebook}
-use Rattle.bits.specs.Basics.{signedByte}
-use Rattle.house.specs.TrieForms.{none, allFree, free-is}
+use Rattle.house.specs.House.{logUnder, signedRank, rank, houseValue, houseLength, houseEntry, houseFrom, houseBook, HouseBook, houseSample, houseCodebook}
+use Rattle.bits.specs.Basics.{pick, signedOf, signedByte}
+use Rattle.house.specs.TrieForms.{none, free, enter, allFree, free-is}
 
 -- ---- the rule, entry by entry
-length-house : (n p : ℕ) → length (houseFrom n p) ≡ 3 * n
+pub length-house : (n p : ℕ) → length (houseFrom n p) ≡ 3 * n
 unfolding houseFrom
 length-house zero p = refl
 length-house (suc n) p = omega (arith, length-house n (suc p))
+
+-- one more
+pub house-more : (n p : ℕ) → houseFrom (suc n) p ≡ houseFrom n p ++ houseEntry (p + n)
+unfolding houseFrom
+house-more zero p = rw (add-zero p)
+house-more (suc n) p =
+    let e : suc p + n ≡ p + suc n = omega arith in
+    ap (_++_ (houseEntry p)) (house-more n (suc p) ∙ ap (λ (k : ℕ). houseFrom n (suc p) ++ houseEntry k) e)
 
 house-at : (n p k : ℕ) → k < n → (codeVal (houseFrom n p) k ≡ houseValue (p + k)) × (codeLen (houseFrom n p) k ≡ houseLength (p + k))
 unfolding houseFrom
@@ -32,6 +44,35 @@ house-at (suc n) p (suc k) h =
     let e2 : 3 * suc k + 2 ≡ suc (suc (suc (3 * k + 2))) = omega arith in
     let e : p + suc k ≡ suc p + k = omega arith in
     rw (e2, e1, e0, e) (house-at n (suc p) k (omega arith))
+
+-- ---- the logarithm
+-- it is that of n: n lies between its power of 2 and the next one
+pub record Logarithm (n k : ℕ) : Type 0 where
+  pub reached : 2 ^ k ≤ n
+  pub not-next : n < 2 ^ suc k
+
+pub log-is : (f n : ℕ) → 0 < n → n < 2 ^ f → Logarithm n (logUnder f n)
+unfolding logUnder
+log-is zero n h k = absurd (omega arith)
+log-is (suc f) n h k = go (ltb n 2) refl (λ l. log-is f (n / 2) l (let e : 2 ^ suc f ≡ 2 * 2 ^ f = pow-succ' 2 f in omega arith))
+  where
+    go : (b : Bool) → ltb n 2 ≡ b → (0 < n / 2 → Logarithm (n / 2) (logUnder f (n / 2)))
+        → Logarithm n (pick b 0 (suc (logUnder f (n / 2))))
+    go true q next = let one : n ≡ 1 = omega (arith, ltb-true n 2 q) in record { reached = omega arith; not-next = omega arith }
+    go false q next =
+        let l = next (omega (arith, ltb-false n 2 q)) in
+        let j : ℕ = logUnder f (n / 2) in
+        let e : 2 ^ suc j ≡ 2 * 2 ^ j = pow-succ' 2 j in
+        let g : 2 ^ suc (suc j) ≡ 2 * 2 ^ suc j = pow-succ' 2 (suc j) in
+        record { reached = omega (arith, l .reached); not-next = omega (arith, l .not-next) }
+
+-- so the rule's length of each entry is 2 floor(log2(value)) + 1
+values-tested : below (λ p. ltb (houseValue p) 65536) bookEntries ≡ true
+unfolding below rank signedRank
+values-tested = refl
+
+pub house-log : (p : ℕ) → p < bookEntries → Logarithm (houseValue p) (logUnder 16 (houseValue p))
+house-log p h = log-is 16 (houseValue p) (omega arith) (ltb-true (houseValue p) 65536 (below-at (λ p. ltb (houseValue p) 65536) bookEntries p values-tested h))
 
 -- ---- the test that antt computes over a table
 -- each entry, counted from p, has the bytes of the rule
@@ -87,6 +128,11 @@ by-test t e =
       passes = rw (rule .0, codes .0, each-free codeTableSizes t (codes .1));
     }
 
+-- the same test, computed over the list that the rule builds
+pub house-book : HouseBook houseBook
+unfolding houseBook houseFrom houseTest ruled eachFree goodTable rank signedRank logUnder allFree free enter codesOf msb
+house-book = by-test houseBook refl
+
 pub length-house-book : length houseBook ≡ bookBytes
 unfolding houseBook
 length-house-book = length-house bookEntries 0
@@ -101,6 +147,16 @@ pub house-sample-at : (i : ℕ) → i < codebookBytes → getD houseCodebook i 0
 unfolding houseCodebook
 house-sample-at i h =
     value-at (λ i. signedByte (houseSample i)) codebookBytes 0 i 0 h ∙ ap (λ (k : ℕ). signedByte (houseSample k)) (zero-add i)
+
+-- and so its number: the rule's numbers are -30 to 30, which a byte holds
+small-sample : (m : ℕ) → m < 61 → mag (subℕ m 30) < 128
+small-sample m h = elim (decLt m 30) [ yes a ↦ rw (lt-ltb m 30 a) (omega arith) | no a ↦ rw (le-ltb m 30 (omega arith)) (omega arith) ]
+
+pub sample-small : (i : ℕ) → mag (houseSample i) < 128
+sample-small i = small-sample ((37 * i + i / 16) % 61) (omega arith)
+
+pub house-number-at : (i : ℕ) → i < codebookBytes → signedOf (getD houseCodebook i 0) ≡ houseSample i
+house-number-at i h = rw (house-sample-at i h) (byte-back (houseSample i) (sample-small i))
 
 -- the byte, from the sample raised by 30
 pub low-byte : (m : ℕ) → m < 30 → 226 + m ≡ signedByte (subℕ m 30)

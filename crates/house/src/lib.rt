@@ -1,10 +1,9 @@
 // The house book and the house codebook, which stand in for the data that the Rust does not come with.
 ghost use mathlib.Core.Path.{_≡_};
 ghost use Prim.Native.Nat.{_<_};
-ghost use lib.ListN.{length};
 ghost use Rattle.book.specs.Book.{codebookBytes};
-ghost use Rattle.house.specs.Fill.{Filled, BookFilled};
-ghost use Rattle.house.specs.House.{HouseBook, houseCodebook, houseSample};
+ghost use Rattle.house.specs.Fill.{BookFilled, CodebookFilled};
+ghost use Rattle.house.specs.House.{HouseBook, houseSample};
 ghost use Rattle.bits.specs.Basics.{signedByte};
 use bits::inner::put_row;
 use book::inner::BOOK_BYTES;
@@ -2848,7 +2847,7 @@ fn house_byte(i: usize) -> u8
 
 // The house codebook put into a slice of 23,040 bytes; 5 for a slice of another length.
 pub fn fill_house_codebook(out: &mut [u8]) -> u8
-    ensures { λ r. ⌜ Filled codebookBytes houseCodebook (now (out .entry)) r (now (out .exit)) ⌝ }
+    ensures { λ r. ⌜ CodebookFilled (now (out .entry)) r (now (out .exit)) ⌝ }
 {
     if out.len() != CODEBOOK_BYTES {
         return 5;

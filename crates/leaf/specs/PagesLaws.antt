@@ -2,8 +2,8 @@
 -- Assumes nothing.
 use mathlib.Core.Path.{_≡_, refl, sym, _∙_, ap}
 use mathlib.Core.List.{List, _∷_}
-use Prim.Native.Nat.{ℕ, zero, suc, _+_, _-_, _*_, _/_, _%_, _≤_, _<_}
-use native.Mathlib.Nat.{add-zero}
+use Prim.Native.Nat.{ℕ, zero, suc, _+_, _-_, _*_, _%_, _≤_, _<_}
+use native.Mathlib.Nat.{add-zero, add-mul, mul-comm, mul-assoc, mul-right-comm}
 use native.Mathlib.Omega.{arith}
 use native.Mathlib.Decide.{decLt}
 use borrow.Author.Tests.{lt-ltb, le-ltb}
@@ -13,11 +13,10 @@ use Rattle.bits.specs.Basics.{Bytes, valuesFrom, signedOf}
 use Rattle.book.specs.Book.{codebookBytes}
 use Rattle.book.specs.Level.{area}
 use Rattle.book.specs.declared.svq1_vlc.Svq1Half.{Svq1Half}
-use Rattle.book.specs.declared.svq1_vlc.Svq1Half.the-variants.{Intra, Inter}
 use Rattle.codebook.specs.Codebook.{pageOffset, byteOf, vectorAt}
 use Rattle.leaf.specs.LeafForms.{less, vector, vectorsIn}
 use Rattle.codebook.specs.CodebookForms.{originOf, raisedCodebook}
-use Rattle.codebook.specs.CodebookFormsLaws.{origin-l3, origin-l2, origin-plain}
+use Rattle.codebook.specs.CodebookFormsLaws.{page-vector}
 
 -- ---- runs of values
 -- the same values, wherever they are counted from
@@ -74,39 +73,18 @@ record Sample (h : Svq1Half) (d s j p : ℕ) : Type 0 where
   inside : pageOffset h d + area d * 16 * s + area d * j + area d ≤ codebookBytes
   comes : originOf (pageOffset h d + area d * 16 * s + area d * j + p) ≡ pageOffset h d + (s * 16 + j) * area d + byteOf d p
 
--- where vectors of 64 samples, of 32, or of less stand from entry 64 k or 32 k on
-of64 : (i k p q : ℕ) → i ≡ 64 * k + p → p < 64 → i < 12288 → q ≡ 64 * k + byteOf 3 p → originOf i ≡ q
-of64 i k p q e h l f =
-    let a : i / 64 * 64 ≡ 64 * k = omega arith in
-    let b : i % 64 ≡ p = omega arith in
-    sym (origin-l3 i (byteOf 3 p) l (rw b)) ∙ rw a (sym f)
-
-of32 : (i k p q : ℕ) → i ≡ 32 * k + p → p < 32 → 12288 ≤ i → i < 18432 → q ≡ 32 * k + byteOf 2 p → originOf i ≡ q
-of32 i k p q e h g l f =
-    let a : i / 32 * 32 ≡ 32 * k = omega arith in
-    let b : i % 32 ≡ p = omega arith in
-    sym (origin-l2 i (byteOf 2 p) g l (rw b)) ∙ rw a (sym f)
-
-low : (i q : ℕ) → 18432 ≤ i → q ≡ i → originOf i ≡ q
-low i q h f = sym (origin-plain i h) ∙ sym f
-
-narrow : (d p : ℕ) → d < 2 → byteOf d p ≡ p
-unfolding byteOf
-narrow zero p h = refl
-narrow (suc zero) p h = refl
-narrow (suc (suc d)) p h = absurd (omega arith)
+-- n 16 s + n j, as vectors of n
+vectors-before : (n s j : ℕ) → n * 16 * s + n * j ≡ (s * 16 + j) * n
+vectors-before n s j =
+    let e : n * 16 * s ≡ s * 16 * n = mul-comm (n * 16) s ∙ sym (mul-assoc s n 16) ∙ mul-right-comm s n 16 in
+    let f : n * j ≡ j * n = mul-comm n j in
+    omega (arith, e, f, add-mul (s * 16) j n)
 
 sample : (h : Svq1Half) (d s j p : ℕ) → d < 4 → s < 6 → j < 16 → p < area d → Sample h d s j p
-unfolding pageOffset
-sample Intra zero s j p a b c e = record { inside = omega arith; comes = low _ _ (omega arith) (omega (arith, narrow 0 p (omega arith))) }
-sample Intra (suc zero) s j p a b c e = record { inside = omega arith; comes = low _ _ (omega arith) (omega (arith, narrow 1 p (omega arith))) }
-sample Intra (suc (suc zero)) s j p a b c e = record { inside = omega arith; comes = of32 _ (384 + 16 * s + j) p _ (omega arith) e (omega arith) (omega arith) (omega arith) }
-sample Intra (suc (suc (suc zero))) s j p a b c e = record { inside = omega arith; comes = of64 _ (16 * s + j) p _ (omega arith) e (omega arith) (omega arith) }
-sample Inter zero s j p a b c e = record { inside = omega arith; comes = low _ _ (omega arith) (omega (arith, narrow 0 p (omega arith))) }
-sample Inter (suc zero) s j p a b c e = record { inside = omega arith; comes = low _ _ (omega arith) (omega (arith, narrow 1 p (omega arith))) }
-sample Inter (suc (suc zero)) s j p a b c e = record { inside = omega arith; comes = of32 _ (480 + 16 * s + j) p _ (omega arith) e (omega arith) (omega arith) (omega arith) }
-sample Inter (suc (suc (suc zero))) s j p a b c e = record { inside = omega arith; comes = of64 _ (96 + 16 * s + j) p _ (omega arith) e (omega arith) (omega arith) }
-sample h (suc (suc (suc (suc d)))) s j p a b c e = absurd (omega arith)
+sample h d s j p a b c e =
+    let v = page-vector h d (s * 16 + j) a (omega arith) in
+    let q : pageOffset h d + area d * 16 * s + area d * j ≡ pageOffset h d + (s * 16 + j) * area d = omega (arith, vectors-before (area d) s j) in
+    record { inside = omega (arith, q, v .inside); comes = rw q (v .comes p e) }
 
 -- a part of the copy, signed
 part-values : (f : ℕ → ℕ) (b n k m : ℕ) → k + n ≤ m → less b (take n (drop k (valuesFrom f m 0))) ≡ valuesFrom (λ i. subℕ (f i) b) n k

@@ -7,11 +7,11 @@ use mathlib.Core.List.{List}
 use native.Mathlib.Omega.{arith}
 use native.Mathlib.Nat.{mul-comm, mod-lt, div-lt-iff-lt-mul}
 use lib.ListN.{length}
-use lib.IntN.{ℤ, pos, negsuc, subℕ, _+ℤ_, _-ℤ_}
-use lib.Signed.{ltZ, mag}
+use lib.IntN.{ℤ, pos, negsuc, subℕ, _+ℤ_}
+use lib.Signed.{ltZ}
 use lib.Arith.{digits-lt}
 use borrow.Author.Tests.{lt-ltb, le-ltb, ltb-true}
-use Rattle.bits.specs.Basics.{signedOf, signedByte}
+use Rattle.bits.specs.Basics.{signedByte}
 use Rattle.vectors.specs.declared.svq1_motion_predictor.Neighbour.the-variants.{Absent, Present}
 use Rattle.vectors.specs.VectorsLaws.{InRange, range-pos, range-neg}
 use Rattle.mv_cache.specs.Neighbours.{storedAt, neighbourAt}
@@ -74,15 +74,6 @@ module _ (cols rows : ℕ) (vx vy : List ℕ) where
       record { some = omega arith; side-most = omega arith; wide = s .wide; cols-most = s .cols-most; holds = far }
 
 -- ---- bytes
-pub low-signed : (b : ℕ) → b < 128 → pos b ≡ signedOf b
-low-signed b h = simp (lt-ltb b 128 h)
-
-pub high-signed : (b : ℕ) → 128 ≤ b → b < 256 → pos b -ℤ pos 256 ≡ signedOf b
-high-signed b h k = simp (le-ltb b 128 h, lt-ltb b 256 k) (ap negsuc (omega arith))
-
-pub high-mag : (b : ℕ) → b < 256 → mag (pos b -ℤ pos 256) < 256
-high-mag b k = rw (lt-ltb b 256 k) (omega arith)
-
 -- the byte of a component, as the code makes it
 pub record Byte (z : ℤ) (n : ℕ) : Type 0 where
   pub same : z ≡ pos n

@@ -1,6 +1,6 @@
 -- Laws of the neighbours: they are vectors of earlier macroblocks, so slices that agree on those give the same neighbours; vectors in -32..31 stay so when they are stored and when a prediction is made of them.
 -- Assumes nothing.
-use mathlib.Core.Path.{_≡_, refl, sym, ap}
+use mathlib.Core.Path.{_≡_, refl, sym}
 use Prim.Native.Nat.{ℕ, zero, suc, _+_, _-_, _*_, _/_, _%_, _≤_, _<_}
 use native.Mathlib.Omega.{arith}
 use native.Mathlib.Nat.{div-add-mod', mul-le-mul, le-refl, suc-mul}
@@ -10,8 +10,10 @@ use mathlib.Core.Bool.{Bool, true, false, _&&_, true≢false}
 use lib.Dec.{ltb}
 use lib.ListN.{getD}
 use lib.IntN.{ℤ, pos, negsuc, subℕ, _+ℤ_}
-use borrow.Author.Tests.{ltb-true, ltb-false, lt-ltb, le-ltb}
+use lib.Signed.{mag}
+use borrow.Author.Tests.{ltb-true, ltb-false}
 use Rattle.bits.specs.Basics.{pick, All, signedOf, signedByte}
+use Rattle.bits.specs.SignedLaws.{byte-back}
 use Rattle.vectors.specs.declared.svq1_motion_predictor.Svq1Mv.{Svq1Mv}
 use Rattle.vectors.specs.declared.svq1_motion_predictor.Neighbour.{Neighbour}
 use Rattle.vectors.specs.declared.svq1_motion_predictor.Neighbour.the-variants.{Absent, Present}
@@ -179,16 +181,16 @@ module _ (cols rows k : ℕ) (vx vy : List ℕ) (hx : Ranged cols k vx) (hy : Ra
       }
 
 -- ---- storing
--- a byte that was stored gives its number back
-pub byte-back : (z : ℤ) → InRange z → signedOf (signedByte z) ≡ z
-byte-back (pos n) h = let l = range-pos n h in simp (lt-ltb n 128 (omega arith))
-byte-back (negsuc n) h = let l = range-neg n h in simp (le-ltb (255 - n) 128 (omega arith)) (ap negsuc (omega arith))
+-- a byte holds a number in -32..31
+range-small : (z : ℤ) → InRange z → mag z < 128
+range-small (pos n) h = let l = range-pos n h in omega arith
+range-small (negsuc n) h = let l = range-neg n h in omega arith
 
--- so does a component of vectors in -32..31, each stored as a byte
+-- so a component of vectors in -32..31 that was stored as a byte is in that range again
 pub stored-component : (f : Svq1Mv → ℤ) → ((v : Svq1Mv) → Inside v → InRange (f v)) → (vs : List Svq1Mv) → All Inside vs → (j : ℕ)
     → InRange (signedOf (getD (map (λ (v : Svq1Mv). signedByte (f v)) vs) j 0))
 stored-component f in-range [] h j = refl
-stored-component f in-range (v ∷ vs) h zero = rw (byte-back (f v) (in-range v (h .0))) (in-range v (h .0))
+stored-component f in-range (v ∷ vs) h zero = rw (byte-back (f v) (range-small (f v) (in-range v (h .0)))) (in-range v (h .0))
 stored-component f in-range (v ∷ vs) h (suc j) = stored-component f in-range vs (h .1) j
 
 -- macroblock k stored with bytes of vectors in -32..31

@@ -7,3 +7,5 @@ pub mod WritingFormsLaws
 pub mod PutLaws
 pub mod LengthLaws
 pub mod OneTextLaws
+pub mod SignedLaws
+pub mod SignedFormsLaws

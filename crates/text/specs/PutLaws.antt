@@ -5,14 +5,15 @@ use mathlib.Core.Bool.{Bool, true, false}
 use mathlib.Core.List.{List, [], _∷_, _++_, append-assoc, append-nil}
 use native.Mathlib.Nat.{le-refl}
 use native.Mathlib.Omega.{arith}
-use lib.Dec.{ltb}
+use lib.Dec.{leb, ltb}
 use lib.ListN.{length, take, drop, set, length-append, length-drop, length-set, take-append-drop, drop-of-length-le}
-use lib.Seq.{length-take-le, take-at, drop-append-add, drop-drop, take-take, take-set-le, drop-cons, drop-set-lt, getD-set-same, set-split, sets, sets-eq}
-use borrow.Author.Tests.{ne-eqb, le-leb, lt-leb, lt-ltb, le-ltb, ltb-true}
+use lib.Seq.{length-take-le, take-at, drop-append-le, drop-append-add, drop-drop, take-take, take-set-le, drop-cons, drop-set-lt, getD-set-same, set-split, sets, sets-eq}
+use borrow.Author.Tests.{ne-eqb, le-leb, lt-leb, leb-true, lt-ltb, le-ltb, ltb-true}
 use Rattle.bits.specs.Basics.{pick}
 use Rattle.text.specs.Text.{digitsBefore, decimal}
-use Rattle.text.specs.WritingForms.{putText, TextPut, PutInRoom, TextWritten, digitCount, lastDigits}
+use Rattle.text.specs.WritingForms.{putText, TextPut, PutInRoom, textRefusal, TextWritten, digitCount, lastDigits}
 use Rattle.text.specs.WritingFormsLaws.{tenth-below}
+use Rattle.text.specs.declared.Written.{Written}
 
 -- ---- a text
 -- no room: nothing is written
@@ -62,6 +63,34 @@ put-length bytes at t room =
     let front : length (take at bytes) ≡ at = length-take-le at bytes (omega arith) in
     length-append (take at bytes) (t ++ drop (at + length t) bytes) ∙ omega (arith, front, length-append t (drop (at + length t) bytes), length-drop (at + length t) bytes)
 
+-- ---- a byte before a text that is put
+set-put : (bytes : List ℕ) (at b : ℕ) → at < length bytes → set bytes at b ≡ putText bytes at (b ∷ [])
+unfolding putText
+set-put bytes at b h = let one : suc at ≡ at + 1 = omega arith in set-split bytes at b h ∙ ap (λ (n : ℕ). take at bytes ++ (b ∷ drop n bytes)) one
+
+pub byte-before : {out : List ℕ} {at b : ℕ} {t : List ℕ} {r : ℕ} {after : List ℕ} → at + suc (length t) ≤ length out → TextPut (set out at b) (at + 1) t r after
+    → TextPut out at (b ∷ t) r after
+byte-before {out} {at} {b} {t} room p =
+    let e = le-leb (at + suc (length t)) (length out) room in
+    let long : at + 1 + length t ≤ length (set out at b) = rw (length-set out at b) (omega arith) in
+    let f = le-leb (at + 1 + length t) (length (set out at b)) long in
+    let first : at + 1 ≤ length out = omega arith in
+    let sum : at + 1 + length t ≡ at + suc (length t) = omega arith in
+    record {
+      next = rw e (rw f at (p .next) ∙ sum);
+      bytes-after = rw e (rw f at (p .bytes-after) ∙ rw (set-put out at b (omega arith)) (append-put out at (b ∷ []) t first));
+    }
+
+-- a text put into the front part of a slice
+pub part-put : (out t : List ℕ) (room : ℕ) → length t ≤ room → room ≤ length out → putText (take room out) 0 t ++ drop room out ≡ putText out 0 t
+unfolding putText
+part-put out t room h k =
+    let n = 0 + length t in
+    let long : n ≤ length (take room out) = omega (arith, length-take-le room out k) in
+    let rest : drop n (take room out) ++ drop room out ≡ drop n out =
+    sym (drop-append-le n (take room out) (drop room out) long) ∙ ap (drop n) (take-append-drop room out) in
+    append-assoc t (drop n (take room out)) (drop room out) ∙ ap (_++_ t) rest
+
 -- ---- a byte behind a text that was put
 module _ {out : List ℕ} {at : ℕ} {t : List ℕ} {x : ℕ} {mid : List ℕ} (p : TextPut out at t x mid) (room : at + length t < length out) where
   put-next : x ≡ at + length t
@@ -74,13 +103,10 @@ module _ {out : List ℕ} {at : ℕ} {t : List ℕ} {x : ℕ} {mid : List ℕ} (
   put-inside = omega (arith, put-next, ap length put-mid, put-length out at t (omega arith))
 
   pub put-byte : (b : ℕ) → TextPut out at (t ++ (b ∷ [])) (x + 1) (set mid x b)
-  unfolding putText
   put-byte b =
       let long : at + length (t ++ (b ∷ [])) ≡ x + 1 = omega (arith, put-next, length-append t (b ∷ [])) in
       let e = le-leb (at + length (t ++ (b ∷ []))) (length out) (omega (arith, put-next, long)) in
-      let one : suc x ≡ x + 1 = omega arith in
-      let byte : set mid x b ≡ putText mid x (b ∷ []) = set-split mid x b put-inside ∙ ap (λ (n : ℕ). take x mid ++ (b ∷ drop n mid)) one in
-      record { next = rw e (sym long); bytes-after = rw e (byte ∙ rw (put-mid, put-next) (append-put out at t (b ∷ []) (omega arith))) }
+      record { next = rw e (sym long); bytes-after = rw e (set-put mid x b put-inside ∙ rw (put-mid, put-next) (append-put out at t (b ∷ []) (omega arith))) }
 
 -- ---- texts one behind the other, where there is room for all of them
 pub in-room : {bytes : List ℕ} {at : ℕ} {t : List ℕ} {r : ℕ} {after : List ℕ} → TextPut bytes at t r after → PutInRoom bytes at t r after
@@ -113,6 +139,18 @@ text-written {t} {out} {r} refusal e room p =
     let front : 0 + length t ≤ length out = omega arith in
     let size : r ≡ length t = omega (arith, p .next front) in
     record { answer = rw (e, size); left = rw e (p .bytes-after front) }
+
+-- what it wrote lies in the slice
+pub written-inside : (t out : List ℕ) (r : Written) (left : List ℕ) → TextWritten (textRefusal t (length out)) t out r left → r .bytes ≤ length out
+written-inside t out r left w = go (leb (length t) (length out)) refl
+  where
+    go : (b : Bool) → leb (length t) (length out) ≡ b → r .bytes ≤ length out
+    go true q =
+        let size : r .bytes ≡ length t = ap (λ (x : Written). x .bytes) (w .answer) ∙ rw q in
+        omega (arith, size, leb-true (length t) (length out) q)
+    go false q =
+        let none : r .bytes ≡ 0 = ap (λ (x : Written). x .bytes) (w .answer) ∙ rw q in
+        omega (arith, none)
 
 -- ---- digits
 -- digits before a text are the digits and the text

@@ -5,11 +5,14 @@ use mathlib.Core.Bool.{Bool, not, _&&_}
 use mathlib.Core.List.{List, [], _∷_}
 use mathlib.Core.Option.{Option, none, some}
 use lib.Dec.{eqb, leb}
+use lib.IntN.{ℤ}
 use lib.ListN.{length}
 use Rattle.bits.specs.Basics.{pick, every}
 use Rattle.text.specs.Text.{isDigit}
 use Rattle.text.specs.declared.NumberRead.{NumberRead}
 use Rattle.text.specs.declared.NumberRead.the-variants.{Number, NoNumber}
+use Rattle.text.specs.declared.SignedRead.{SignedRead}
+use Rattle.text.specs.declared.SignedRead.the-variants.{Signed, NoSigned}
 
 -- how many bytes stand before the first b; all of them where there is none
 unfoldable pub countBefore : ℕ → List ℕ → ℕ
@@ -34,6 +37,15 @@ digitsFrom most n (c ∷ t) = pick (isDigit c && leb (10 * n + (c - 48)) most) (
 abbrev pub numberOf : NumberRead → Option ℕ
 numberOf (Number n) = some n
 numberOf NoNumber = none
+
+-- a number that was read is at most `most`
+abbrev pub NumberWithin : ℕ → NumberRead → Type 0
+NumberWithin most r = (n : ℕ) → numberOf r ≡ some n → n ≤ most
+
+-- the same of a signed number
+abbrev pub signedNumberOf : SignedRead → Option ℤ
+signedNumberOf (Signed z) = some z
+signedNumberOf NoSigned = none
 
 -- a line before the lines of what follows
 abbrev pub lineBefore : List ℕ → Option (List (List ℕ)) → Option (List (List ℕ))

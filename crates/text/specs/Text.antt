@@ -1,4 +1,5 @@
--- Text as a list of bytes: decimal numbers, fields between commas, lines (document 01, "The book", the book file; "Refused for the state met", the listing).
+-- Text as a list of bytes: decimal numbers, fields between commas, lines (document 01, "The book", the book file; "Refused for the state met", the listing;
+-- document 02, §3, signed numbers).
 use Prim.Native.Nat.{ℕ, zero, suc, _+_, _-_, _*_, _/_, _%_}
 use Prim.Native.Char.{code}
 use Prim.Native.String.{String, [] as noText, _∷_ as _then_}
@@ -6,6 +7,7 @@ use mathlib.Core.Bool.{Bool, true, false, not, _&&_}
 use mathlib.Core.List.{List, [], _∷_, _++_}
 use mathlib.Core.Option.{Option, none, some}
 use lib.Dec.{eqb, leb, ltb}
+use lib.IntN.{ℤ, pos, negsuc}
 use Rattle.bits.specs.Basics.{pick, every}
 
 -- the bytes of a text of ASCII characters: the code of each
@@ -18,6 +20,9 @@ comma = 44
 
 abbrev pub lineFeed : ℕ
 lineFeed = 10
+
+abbrev pub minus : ℕ
+minus = 45
 
 -- a byte is one of 0 to 9
 abbrev pub isDigit : ℕ → Bool
@@ -38,6 +43,25 @@ valueFrom n (c ∷ t) = valueFrom (10 * n + (c - 48)) t
 -- a field that is a number of at most `most`; none where it has another form
 unfoldable pub numberUpTo : ℕ → List ℕ → Option ℕ
 numberUpTo most t = pick (isNumber t && leb (valueFrom 0 t) most) (some (valueFrom 0 t)) none
+
+-- a number as a signed one, and behind a minus, where 0 is none: it has one form
+abbrev pub aboveZero : Option ℕ → Option ℤ
+aboveZero none = none
+aboveZero (some n) = some (pos n)
+
+abbrev pub belowZero : Option ℕ → Option ℤ
+belowZero none = none
+belowZero (some zero) = none
+belowZero (some (suc n)) = some (negsuc n)
+
+-- a field that is a signed number from -least to most, negative ones with a minus; none where it has another form
+unfoldable pub signedIn : ℕ → ℕ → List ℕ → Option ℤ
+signedIn least most [] = none
+signedIn least most (c ∷ t) = pick (eqb c minus) (belowZero (numberUpTo least t)) (aboveZero (numberUpTo most (c ∷ t)))
+
+-- those that 64 bits hold
+abbrev pub signed64 : List ℕ → Option ℤ
+signed64 = signedIn 9223372036854775808 9223372036854775807
 
 -- the pieces between a separator's places, one more than the separators
 abbrev pub onto : ℕ → List (List ℕ) → List (List ℕ)
@@ -78,6 +102,11 @@ digitsBefore (suc f) n t = pick (ltb n 10) ((48 + n) ∷ t) (digitsBefore f (n /
 -- a number below 10^20 in decimal, no leading zeros
 unfoldable pub decimal : ℕ → List ℕ
 decimal n = digitsBefore 20 n []
+
+-- a signed number of a size below 10^20 in decimal, negative ones with a minus
+unfoldable pub signedDecimal : ℤ → List ℕ
+signedDecimal (pos n) = decimal n
+signedDecimal (negsuc n) = minus ∷ decimal (suc n)
 
 -- fields with commas between them
 unfoldable pub joined : List (List ℕ) → List ℕ

@@ -1,13 +1,14 @@
 -- Text put into a lent slice, and forms of the definitions of Text that writing digit after digit follows (document 01, "Refused for the state met", the listing;
--- document 02, §2, refusal 20).
+-- document 02, §2, refusal 20; §3, signed numbers).
 use Prim.Native.Nat.{ℕ, zero, suc, _+_, _/_, _%_, _≤_}
 use mathlib.Core.Path.{_≡_}
 use mathlib.Core.Bool.{Bool}
 use mathlib.Core.List.{List, [], _∷_, _++_}
 use lib.Dec.{eqb, leb}
+use lib.IntN.{ℤ}
 use lib.ListN.{length, take, drop}
 use Rattle.bits.specs.Basics.{pick, unless}
-use Rattle.text.specs.Text.{digitsBefore, decimal}
+use Rattle.text.specs.Text.{digitsBefore, decimal, signedDecimal}
 use Rattle.text.specs.declared.Written.{Written}
 
 -- a text put at a place: the bytes before it and behind it stay
@@ -51,6 +52,11 @@ digitCount f n = length (digitsBefore f n [])
 pub record DigitsCounted (n r : ℕ) : Type 0 where
   pub count : r ≡ length (decimal n)
   pub most : r ≤ 20
+
+-- what counting the bytes of a signed number promises
+pub record SignedCounted (z : ℤ) (r : ℕ) : Type 0 where
+  pub count : r ≡ length (signedDecimal z)
+  pub most : r ≤ 21
 
 -- the last w digits of n before the text t
 unfoldable pub lastDigits : ℕ → ℕ → List ℕ → List ℕ

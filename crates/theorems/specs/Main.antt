@@ -1,21 +1,26 @@
 -- The main theorems of this repository, of the definitions, each stated by name and proved by one citation. What the functions promise of memory stands in their
 -- contracts; those that hand a theorem on are named beside it. Nothing is assumed: no axiom, no hole.
-use Prim.Native.Nat.{ℕ, _+_, _*_, _%_, _≤_, _<_}
+use Prim.Native.Nat.{ℕ, _+_, _*_, _%_, _^_, _≤_, _<_}
 use mathlib.Core.Path.{_≡_}
 use mathlib.Core.Bool.{true}
 use mathlib.Core.List.{List}
 use mathlib.Core.Option.{some}
+use lib.IntN.{ℤ}
 use lib.ListN.{length, getD}
-use Rattle.bits.specs.Basics.{All, Bytes, sum, signedByte}
+use Rattle.bits.specs.Basics.{All, Bytes, sum, signedOf}
 use Rattle.bits.specs.Bits.{bitsOf}
 use Rattle.bits.specs.Calls.{done, Put}
 use Rattle.bits.specs.declared.svq1_enc.Pushed.{Pushed}
 use Rattle.code_tables.specs.Codes.{code, codesOf}
 use Rattle.code_tables.specs.Calls.{codeRefusal, codeAt}
 use Rattle.code_tables.specs.CallsLaws.{pushed-read}
-use Rattle.book.specs.Book.{codebookBytes}
-use Rattle.house.specs.House.{HouseBook, houseSample, houseCodebook}
-use Rattle.house.specs.HouseLaws.{houseTest, by-test, house-sample-at}
+use Rattle.text.specs.Text.{signedIn}
+use Rattle.text.specs.SignedLaws.{Between, SignedText, signed-within, signed-text}
+use Rattle.book.specs.Book.{bookEntries, codebookBytes}
+use Rattle.house.specs.House.{HouseBook, logUnder, houseValue, houseSample, houseCodebook}
+use Rattle.house.specs.HouseLaws.{houseTest, by-test, Logarithm, house-log, house-number-at}
+use Rattle.codebook.specs.Raster.{RasterOrder}
+use Rattle.codebook.specs.RasterLaws.{rasterTest, raster-by-test}
 use Rattle.leaf.specs.LeafCall.{BlockIn}
 use Rattle.plan.specs.PlanClaim.{PlanClaimed}
 use Rattle.plan.specs.PlanClaimLaws.{plan-claimed}
@@ -37,6 +42,7 @@ use Rattle.listing_text.specs.Listing.{Files, listing}
 use Rattle.listed_errors.specs.PaddedLaws.{all-samples}
 use Rattle.listed_errors.specs.ListedErrorLaws.{leftPlane, statedTotal, total-at-most, statedListing, listing-as-before}
 use Rattle.theorems.specs.BookFiles.{BookFiles, book-files}
+use Rattle.theorems.specs.HousePrinted.{HousePrinted, house-printed}
 use Rattle.starred_cards.specs.Cards.{Holds, cards}
 use Rattle.starred_cards.specs.Proof.{starred}
 
@@ -64,8 +70,29 @@ the-starred-cards = starred
 pub the-house-book : (t : List ℕ) → houseTest t ≡ true → HouseBook t
 the-house-book = by-test
 
-pub the-house-codebook : (i : ℕ) → i < codebookBytes → getD houseCodebook i 0 ≡ signedByte (houseSample i)
-the-house-codebook = house-sample-at
+-- Its lengths are 2 floor(log2(value)) + 1: what the rule counts is the logarithm.
+pub the-house-lengths : (p : ℕ) → p < bookEntries → Logarithm (houseValue p) (logUnder 16 (houseValue p))
+the-house-lengths = house-log
+
+pub the-house-codebook : (i : ℕ) → i < codebookBytes → signedOf (getD houseCodebook i 0) ≡ houseSample i
+the-house-codebook = house-number-at
+
+-- Document 02, §3: what is printed of the house is the built-in book's file and the built-in codebook's numbers, one a line; the sentences are the fields of
+-- `HousePrinted` (theorems/HousePrinted). Of memory: `work_out_house_book`, `fill_house_codebook`, `write_house`.
+pub the-house-printed : HousePrinted
+the-house-printed = house-printed
+
+-- Its raster order: one computed test over a table of 120 numbers shows the rule at each entry, and one byte of a vector in each place of a level. Of memory:
+-- `raster_order` computes the test over the constant.
+pub the-raster-order : (t : List ℕ) → rasterTest t ≡ true → RasterOrder t
+the-raster-order = raster-by-test
+
+-- What is read as a signed number is in range, and one in range has one text, which is read as it. Of memory: `put_signed`, `read_signed`.
+pub a-signed-number-read : (least most : ℕ) (t : List ℕ) (z : ℤ) → signedIn least most t ≡ some z → Between least most z
+a-signed-number-read = signed-within
+
+pub a-signed-number-written-and-read : (least most : ℕ) → least < 10 ^ 20 → most < 10 ^ 20 → (z : ℤ) → Between least most z → SignedText least most z
+a-signed-number-written-and-read = signed-text
 
 -- What `push_code` writes with any table that it takes, `read_code` reads.
 pub a-code-written-and-read : (s : List ℕ) (at : ℕ) (t : List ℕ) (k : ℕ) (r : Pushed) (left : List ℕ)

@@ -3,10 +3,11 @@ ghost use Prim.Native.Nat.{_≤_};
 use super::super::inner::line::print_line;
 use super::super::inner::line::put_number;
 use super::super::inner::line::put_short;
-use super::super::inner::line::put_signed;
+use super::super::inner::line::wide;
 use super::super::inner::sums::residual_sum;
 use leaf::svq1_enc_leaf::LeafCode;
 use leaf_call::svq1_enc_leaf::search_leaf;
+use text::put_signed;
 use text::put_text;
 
 // What the search answered: a refusal, skip, or the mean.
@@ -23,7 +24,7 @@ fn put_mean(line: &mut [u8], at: usize, refused: u8, code: LeafCode) -> usize {
 // What was asked.
 fn put_residual(line: &mut [u8], sum: i32) -> usize {
     let number = put_text(line, 0, b"residual sum ");
-    let end = put_signed(line, number, sum);
+    let end = put_signed(line, number, wide(sum));
     put_text(line, end, b" over 8 samples, inter half: ")
 }
 

@@ -1,11 +1,11 @@
 // Parts of a line, put at a place of a lent slice. The answer is the place behind what was put; a text or a number that has no room is left out.
 ghost use mathlib.Core.Path.{_≡_};
 ghost use Prim.Native.Nat.{_≤_, _<_};
-ghost use lib.IntN.{natAbs};
 ghost use Rattle.text.specs.WritingForms.{TextPut};
 ghost use Rattle.cards.specs.Numbers.{hexDigit, hexByte};
 use libc::STDOUT_FILENO;
 use text::put_decimal;
+use text::put_signed;
 use text::put_text;
 use vectors::svq1_motion_predictor::Svq1Mv;
 
@@ -15,27 +15,16 @@ pub fn put_number(line: &mut [u8], at: usize, before: &[u8], n: u64) -> usize {
     put_decimal(line, digits, n)
 }
 
-// A signed number without its sign.
-fn size_of(z: i32) -> u64
-    ensures { λ r. ⌜ r ≡ natAbs z ⌝ }
+// A number of 32 bits in 64.
+pub fn wide(z: i32) -> i64
+    ensures { λ r. ⌜ r ≡ z ⌝ }
 {
-    if z < 0 {
-        (0 - z as i64) as u64
-    } else {
-        z as u64
-    }
-}
-
-pub fn put_signed(line: &mut [u8], at: usize, z: i32) -> usize {
-    if z < 0 {
-        return put_number(line, at, b"-", size_of(z));
-    }
-    put_decimal(line, at, size_of(z))
+    z as i64
 }
 
 // A text and a signed number of 16 bits behind it.
 pub fn put_short(line: &mut [u8], at: usize, before: &[u8], n: i16) -> usize {
-    let z = n as i32;
+    let z = n as i64;
     let number = put_text(line, at, before);
     put_signed(line, number, z)
 }
@@ -44,9 +33,9 @@ pub fn put_short(line: &mut [u8], at: usize, before: &[u8], n: i16) -> usize {
 pub fn put_vector(line: &mut [u8], at: usize, before: &[u8], v: Svq1Mv) -> usize {
     let open = put_text(line, at, before);
     let x = put_text(line, open, b"(");
-    let comma = put_signed(line, x, v.x);
+    let comma = put_signed(line, x, wide(v.x));
     let y = put_text(line, comma, b",");
-    let close = put_signed(line, y, v.y);
+    let close = put_signed(line, y, wide(v.y));
     put_text(line, close, b")")
 }
 
@@ -96,10 +85,18 @@ pub fn print_line(line: &mut [u8], n: usize) -> usize
 }
 
 // The last line: how many cards and other lines were printed.
-pub fn print_counts(line: &mut [u8], cards: usize, back: usize, levels: usize, sums: usize) {
+pub fn print_counts(
+    line: &mut [u8],
+    cards: usize,
+    back: usize,
+    levels: usize,
+    sums: usize,
+    texts: usize,
+) {
     let a = put_number(line, 0, b"cards ", cards as u64);
     let b = put_number(line, a, b", read back ", back as u64);
     let c = put_number(line, b, b", levels ", levels as u64);
-    let all = put_number(line, c, b", sums ", sums as u64);
+    let d = put_number(line, c, b", sums ", sums as u64);
+    let all = put_number(line, d, b", texts ", texts as u64);
     print_line(line, all);
 }

@@ -10,7 +10,7 @@ use Rattle.book.specs.Book.{codebookBytes}
 use Rattle.house.specs.House.{houseCodebook}
 use Rattle.house.specs.HouseLaws.{length-house-codebook, house-sample-at}
 use Rattle.bits.specs.FillLaws.{fill-step, fill-end}
-use Rattle.house.specs.FillLaws.{fill-refused, fill-done}
+use Rattle.house.specs.FillLaws.{codebook-refused, codebook-done}
 use Rattle.house.proofs.fill_house_codebook.Statement.{statement}
 use Rattle.house.proofs.fill_house_codebook.Tie as tie
 
@@ -21,7 +21,7 @@ abbrev μ-loop : tie.MeasureT-loop
 μ-loop out₀ i₀ out i = codebookBytes - i
 
 returns : tie.Need-returns Inv-loop μ-loop
-returns c = fill-refused codebookBytes houseCodebook _ (c .if1 .taken)
+returns c = codebook-refused _ (c .if1 .taken)
 
 loop-holds : tie.Need-loop-holds Inv-loop μ-loop
 loop-holds c = (omega arith, refl, refl)
@@ -54,7 +54,7 @@ returns-2 : tie.Need-returns-2 Inv-loop μ-loop
 returns-2 c =
     let u = c .before in
     let size : length (now (u .before .before .before .args .out)) ≡ codebookBytes = u .before .if1 .left in
-    fill-done codebookBytes houseCodebook _ (u .loop .out) size
+    codebook-done _ (u .loop .out) size
     (fill-end houseCodebook (u .loop .out) (u .loop .i) (u .loop .inv .1 ∙ size ∙ sym length-house-codebook) (omega (arith, length-house-codebook)) (u .loop .inv .2))
 
 pub fill-house-codebook-spec : {M : Type 1} → statement M

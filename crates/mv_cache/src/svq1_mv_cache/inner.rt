@@ -5,25 +5,16 @@ ghost use mathlib.Core.List.{_∷_, [], map};
 ghost use Prim.Native.Nat.{_+_, _*_, _<_, _≤_};
 ghost use lib.ListN.{length, getD};
 ghost use lib.IntN.{subℕ};
-ghost use Rattle.bits.specs.Basics.{signedOf, signedByte};
+ghost use Rattle.bits.specs.Basics.{signedByte};
 ghost use Rattle.vectors.specs.VectorsLaws.{InRange, Inside};
 ghost use Rattle.mv_cache.specs.Neighbours.{neighbourAt, nearOf};
 ghost use Rattle.mv_cache.specs.Grid.{rowSet, putPart};
 ghost use Rattle.mv_cache.specs.CacheNeeds.{nearFrom, VectorSlices, BlocksRoom, Stored};
 use super::super::svq1_mv_cache::NearBlocks;
 use bits::inner::put_row;
+use bits::inner::signed;
 use vectors::svq1_motion_predictor::Neighbour;
 use vectors::svq1_motion_predictor::Svq1Mv;
-
-// The number that a two's complement byte stands for.
-fn signed(b: u8) -> i32
-    ensures { λ r. ⌜ r ≡ signedOf b ⌝ }
-{
-    if b < 128 {
-        return b as i32;
-    }
-    b as i32 - 256
-}
 
 // The byte of a component in -32..31.
 fn byte_of(z: i32) -> u8

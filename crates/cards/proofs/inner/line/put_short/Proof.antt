@@ -1,4 +1,4 @@
--- Sixteen bits fit in 32. Assumes nothing.
+-- Sixteen bits fit in 64. Assumes nothing.
 use native.Mathlib.Omega.{arith}
 use mir.Syntax.{w16}
 use mir.ValLaws.{toZ-ofZ}

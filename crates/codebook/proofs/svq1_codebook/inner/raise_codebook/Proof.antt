@@ -1,78 +1,62 @@
--- The raised codebook, byte by byte. Assumes nothing.
-use mathlib.Core.Path.{_≡_, refl, _∙_, sym, ap}
-use Prim.Native.Nat.{ℕ, _≤_, _-_, _+_, _%_}
-use lib.ListN.{length, take, getD, length-set}
-use Rattle.bits.specs.FillLaws.{fill-step, fill-end}
-use Rattle.codebook.specs.CodebookForms.{raisedCodebook}
-use Rattle.codebook.specs.CodebookFormsLaws.{raised-length, raised-at}
+-- The pages of L3 stand first, and each level's begin where those of the level above end, so that the copy is there up to the payload's end.
+-- Assumes nothing.
 use native.Mathlib.Omega.{arith}
+use Rattle.codebook.specs.Codebook.{pageOffset}
+use Rattle.codebook.specs.Raster.{rasterStart}
+use Rattle.codebook.specs.RaiseNeedsLaws.{vectors-of, raise-begins, raise-ends}
 use borrow.Author.Needs.{needs}
 use Rattle.codebook.proofs.svq1_codebook.inner.raise_codebook.Statement.{statement}
 use Rattle.codebook.proofs.svq1_codebook.inner.raise_codebook.Tie as tie
 
-abbrev Inv-loop : tie.InvT-loop
-Inv-loop codebook out₀ i₀ out i = (i ≤ length out) × (length out ≡ length out₀) × (take i out ≡ take i (raisedCodebook codebook))
+raster-order-requires : tie.Need-raster-order-requires
+raster-order-requires c κs = search needs
 
-abbrev μ-loop : tie.MeasureT-loop
-μ-loop codebook out₀ i₀ out i = length out - i
+raise-level-requires : tie.Need-raise-level-requires
+unfolding pageOffset rasterStart
+raise-level-requires c κs =
+    let r = c .before .before in
+    let pre = r .before .before .before .pre in
+    (pre .0, vectors-of _ (r .raster-order .ensures) 3 (omega arith), raise-begins _ _ (pre .1))
 
-loop-holds : tie.Need-loop-holds Inv-loop μ-loop
-loop-holds c = (search needs, refl, refl)
+raise-level-requires-2 : tie.Need-raise-level-requires-2
+unfolding pageOffset rasterStart
+raise-level-requires-2 c κs =
+    let l3 = c .before .before .before .before in
+    let r = l3 .before .before .before in
+    (r .before .before .before .pre .0, vectors-of _ (r .raster-order .ensures) 2 (omega arith), l3 .raise-level .ensures)
 
-origin-of-requires : tie.Need-origin-of-requires Inv-loop μ-loop
-origin-of-requires c κs = search needs
+raise-level-requires-3 : tie.Need-raise-level-requires-3
+unfolding pageOffset rasterStart
+raise-level-requires-3 c κs =
+    let l2 = c .before .before .before .before in
+    let l3 = l2 .before .before .before .before .before in
+    let r = l3 .before .before .before in
+    (r .before .before .before .pre .0, vectors-of _ (r .raster-order .ensures) 1 (omega arith), l2 .raise-level2 .ensures)
 
-shared-slice-read-raise : tie.Need-shared-slice-read-raise Inv-loop μ-loop
-shared-slice-read-raise c = search needs
+raise-level-requires-4 : tie.Need-raise-level-requires-4
+unfolding pageOffset rasterStart
+raise-level-requires-4 c κs =
+    let l1 = c .before .before .before .before in
+    let l2 = l1 .before .before .before .before .before in
+    let l3 = l2 .before .before .before .before .before in
+    let r = l3 .before .before .before in
+    (r .before .before .before .pre .0, vectors-of _ (r .raster-order .ensures) 0 (omega arith), l1 .raise-level3 .ensures)
 
-raise-requires : tie.Need-raise-requires Inv-loop μ-loop
-raise-requires c κs = search needs
-
-slice-write-out : tie.Need-slice-write-out Inv-loop μ-loop
-slice-write-out c = search needs
-
-add-i : tie.Need-add-i Inv-loop μ-loop
-add-i c = search needs
-
-loop-less : tie.Need-loop-less Inv-loop μ-loop
-loop-less c = simp length-set (omega arith)
-
-loop-again : tie.Need-loop-again Inv-loop μ-loop
-loop-again c =
-    let l = c .before .before .before .before .loop in
-    let a = c .before .before .before .before .before .before .before .args in
-    let b = a .codebook .now in
-    let o = c .before .before .origin-of in
-    let n = raised-length b in (
-      simp length-set (omega arith),
-      simp length-set (l .inv .1),
-      fill-step (raisedCodebook b) (l .out) (l .i) (c .raise .result) (search needs) (omega arith) (l .inv .2)
-          (c .raise .ensures ∙ ap (λ (k : ℕ). (getD b k 0 + 128) % 256) (o .ensures .0) ∙ sym (raised-at b (l .i) (search needs))),
-    )
-
-same-length : tie.Need-same-length Inv-loop μ-loop
+same-length : tie.Need-same-length
 same-length c = search needs
 
-returns : tie.Need-returns Inv-loop μ-loop
-returns c =
-    let l = c .before .loop in
-    let a = c .before .before .before .before .args in
-    let n = raised-length (a .codebook .now) in
-    fill-end (raisedCodebook (a .codebook .now)) (l .out) (l .i) (omega arith) (omega arith) (l .inv .2)
+returns : tie.Need-returns
+unfolding pageOffset rasterStart
+returns c = raise-ends _ _ (c .before .before .raise-level4 .ensures)
 
 pub raise-codebook-spec : {M : Type 1} → statement M
 raise-codebook-spec =
     tie.close
     (tie.spec
-    Inv-loop
-    μ-loop
-    loop-holds
-    origin-of-requires
-    shared-slice-read-raise
-    raise-requires
-    slice-write-out
-    add-i
-    loop-less
-    loop-again
+    raster-order-requires
+    raise-level-requires
+    raise-level-requires-2
+    raise-level-requires-3
+    raise-level-requires-4
     same-length
     returns)
