@@ -15,14 +15,14 @@ there-and-back : ℕ → ℕ → Bool
 there-and-back d b = (eqb (byteOf d (rasterOf d b)) b && eqb (rasterOf d (byteOf d b)) b) && (ltb (rasterOf d b) (area d) && ltb (byteOf d b) (area d))
 
 -- byte b stands as far behind the first of its four as in the payload
-together : ℕ → ℕ → Bool
-together d b = eqb (rasterOf d b) (rasterOf d (b / 4 * 4) + b % 4)
+same-four : ℕ → ℕ → Bool
+same-four d b = eqb (rasterOf d b) (rasterOf d (b / 4 * 4) + b % 4)
 
 all-bytes : ℕ → Bool
-all-bytes d = below (λ b. there-and-back d b && together d b) (area d)
+all-bytes d = below (λ b. there-and-back d b && same-four d b) (area d)
 
 tested : below all-bytes 4 ≡ true
-unfolding below all-bytes there-and-back together rasterOf byteOf
+unfolding below all-bytes there-and-back same-four rasterOf byteOf
 tested = refl
 
 pub record Raster (d b : ℕ) : Type 0 where
@@ -33,13 +33,13 @@ pub record Raster (d b : ℕ) : Type 0 where
   pub four : rasterOf d b ≡ rasterOf d (b / 4 * 4) + b % 4
 
 pub raster : (d b : ℕ) → d < 4 → b < area d → Raster d b
-unfolding all-bytes there-and-back together
+unfolding all-bytes there-and-back same-four
 raster d b h l =
     let p = eqb (byteOf d (rasterOf d b)) b in
     let q = eqb (rasterOf d (byteOf d b)) b in
     let r = ltb (rasterOf d b) (area d) in
     let s = ltb (byteOf d b) (area d) in
-    let test = both-true (there-and-back d b) (together d b) (below-at (λ b. there-and-back d b && together d b) (area d) b (below-at all-bytes 4 d tested h) l) in
+    let test = both-true (there-and-back d b) (same-four d b) (below-at (λ b. there-and-back d b && same-four d b) (area d) b (below-at all-bytes 4 d tested h) l) in
     let all = both-true (p && q) (r && s) (test .0) in
     let pq = both-true p q (all .0) in
     let rs = both-true r s (all .1) in

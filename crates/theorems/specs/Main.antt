@@ -66,7 +66,7 @@ room-under-a-book = book-suffices
 pub the-starred-cards : All Holds cards
 the-starred-cards = starred
 
--- The house book by one computed test over its table, and each byte of the house codebook. Of memory: `house_book` computes the test over the constant.
+-- The house book by one computed test over its table. Of memory: `house_book` computes the test over the constant.
 pub the-house-book : (t : List ℕ) → houseTest t ≡ true → HouseBook t
 the-house-book = by-test
 
@@ -74,6 +74,7 @@ the-house-book = by-test
 pub the-house-lengths : (p : ℕ) → p < bookEntries → Logarithm (houseValue p) (logUnder 16 (houseValue p))
 the-house-lengths = house-log
 
+-- The number at each place of the house codebook is the rule's. Of memory: `fill_house_codebook`.
 pub the-house-codebook : (i : ℕ) → i < codebookBytes → signedOf (getD houseCodebook i 0) ≡ houseSample i
 the-house-codebook = house-number-at
 
