@@ -3,6 +3,7 @@
  *
  *     library growth               the writer against the number of macroblocks and against the radius
  *     library reading              the reader, and what a call's checks take
+ *     library margin               the writer at several margins
  *     library noise [COUNTS]       the writer on noise; COUNTS names a file of counted instructions
  *     library noises               the words for SIZE and RADIUS, one case a line
  *     library noise-plane SIZE RADIUS
@@ -11,6 +12,7 @@
  *     library raw SCENE SIZE N     N pictures as planar samples (4:1:0) on standard output
  */
 #include <inttypes.h>
+#include <math.h>
 #include <stdio.h>
 #include <stdlib.h>
 #include <string.h>
@@ -19,11 +21,12 @@
 #include "plane.h"
 #include "scene.h"
 
-enum { PLANES = 3, LAMBDA = 32, GRAY = 128 };
+enum { PLANES = 3, LAMBDA = 32, RADIUS = 8, GRAY = 128 };
 
 static const struct { size_t width, height; } SIZES[] = {{176, 144}, {352, 288}};
 static const struct { const char *name; enum scene_eye eye; } SCENES[] = {{"still", SCENE_STILL}, {"turning", SCENE_TURNING}};
 static const uint8_t NOISE_RADII[] = {8, 32};
+static const uint32_t MARGINS[] = {0, 64, 1024};
 
 #define COUNT(list) (sizeof(list) / sizeof *(list))
 
@@ -52,12 +55,18 @@ static struct plane plane_of_picture(size_t width, size_t height, int plane)
     return p;
 }
 
-static struct cabunlis_answer written(struct plane *p, uint8_t radius)
+static struct cabunlis_answer written_at(struct plane *p, uint8_t radius, uint32_t margin)
 {
-    struct cabunlis_answer a = plane_write(p, book, codebook, LAMBDA, radius, 1, 0);
+    struct cabunlis_settings settings = {LAMBDA, radius, 1, margin};
+    struct cabunlis_answer a = plane_write(p, book, codebook, &settings, 0);
     if (a.refusal || a.done != p->macroblocks)
         fail("a plane was not written");
     return a;
+}
+
+static struct cabunlis_answer written(struct plane *p, uint8_t radius)
+{
+    return written_at(p, radius, 0);
 }
 
 /* The reconstruction becomes the reference. */
@@ -96,7 +105,7 @@ static void growth(void)
     printf("the turning scene's luma plane, lambda %d, four vectors: microseconds of processor time a macroblock\n\n", LAMBDA);
     printf("| size | macroblocks | radius | µs a macroblock |\n|---|---|---|---|\n");
     for (size_t k = 0; k < COUNT(SIDES); k++)
-        growth_row(SIDES[k], 8);
+        growth_row(SIDES[k], RADIUS);
     for (size_t k = 0; k < COUNT(RADII); k++)
         growth_row(256, RADII[k]);
 }
@@ -131,10 +140,10 @@ static void reading_row(size_t scene, size_t size)
     for (int k = 0; k < PLANES; k++) {
         struct plane p = plane_of_picture(width, height, k);
         scene_draw(p.source, p.width, p.height, (enum scene_plane)k, SCENES[scene].eye, 0);
-        written(&p, 8);
+        written(&p, RADIUS);
         go_on(&p);
         scene_draw(p.source, p.width, p.height, (enum scene_plane)k, SCENES[scene].eye, 1);
-        struct cabunlis_answer a = written(&p, 8);
+        struct cabunlis_answer a = written(&p, RADIUS);
         struct read_times t = read_times(&p, &a);
         sum.reading += t.reading;
         sum.checks += t.checks / PLANES;
@@ -151,6 +160,51 @@ static void reading(void)
     for (size_t size = 0; size < COUNT(SIZES); size++)
         for (size_t scene = 0; scene < COUNT(SCENES); scene++)
             reading_row(scene, size);
+}
+
+/* ---- margin */
+
+static double psnr(uint64_t sum, size_t samples)
+{
+    return sum ? 10.0 * log10(255.0 * 255.0 * (double)samples / (double)sum) : 99.99;
+}
+
+/* A row: pictures of three planes, each plane against its reconstruction of the picture before; the first picture, against gray, does not count. */
+static void margin_row(size_t scene, size_t size, uint32_t margin)
+{
+    enum { PICTURES = 30 };
+    uint64_t bits = 0;
+    double luma_db = 0, seconds = 0;
+    for (int k = 0; k < PLANES; k++) {
+        struct plane p = plane_of_picture(SIZES[size].width, SIZES[size].height, k);
+        for (unsigned n = 0; n <= PICTURES; n++) {
+            scene_draw(p.source, p.width, p.height, (enum scene_plane)k, SCENES[scene].eye, n);
+            double begun = processor_seconds();
+            struct cabunlis_answer a = written_at(&p, RADIUS, margin);
+            if (n > 0) {
+                seconds += processor_seconds() - begun;
+                bits += a.bits;
+                if (k == SCENE_LUMA)
+                    luma_db += psnr(plane_visible(&p).error, p.width * p.height);
+            }
+            go_on(&p);
+        }
+        plane_free(&p);
+    }
+    printf("| %s | %zux%zu | %" PRIu32 " | %.0f | %.2f | %.1f |\n", SCENES[scene].name, SIZES[size].width, SIZES[size].height, margin,
+        (double)bits / PICTURES, luma_db / PICTURES, PICTURES / seconds);
+    fflush(stdout);
+}
+
+static void margin(void)
+{
+    printf("three planes a picture, lambda %d, radius %d, four vectors, at several margins; luma against the source over the visible samples, processor time of the writer\n\n",
+        LAMBDA, RADIUS);
+    printf("| scene | luma | margin | bits a picture | luma dB | pictures/s |\n|---|---|---|---|---|---|\n");
+    for (size_t size = 0; size < COUNT(SIZES); size++)
+        for (size_t scene = 0; scene < COUNT(SCENES); scene++)
+            for (size_t k = 0; k < COUNT(MARGINS); k++)
+                margin_row(scene, size, MARGINS[k]);
 }
 
 /* ---- noise */
@@ -291,6 +345,8 @@ int main(int argc, char **argv)
         growth();
     else if (argc == 2 && strcmp(what, "reading") == 0)
         reading();
+    else if (argc == 2 && strcmp(what, "margin") == 0)
+        margin();
     else if (argc <= 3 && strcmp(what, "noise") == 0)
         noise(argc == 3 ? argv[2] : NULL);
     else if (argc == 2 && strcmp(what, "noises") == 0)
@@ -302,6 +358,6 @@ int main(int argc, char **argv)
     else if (argc == 5 && strcmp(what, "raw") == 0)
         raw(argv[2], argv[3], argv[4]);
     else
-        fail("usage: library growth | reading | noise [COUNTS] | noises | noise-plane SIZE RADIUS | noise-made SIZE RADIUS | raw SCENE SIZE N");
+        fail("usage: library growth | reading | margin | noise [COUNTS] | noises | noise-plane SIZE RADIUS | noise-made SIZE RADIUS | raw SCENE SIZE N");
     return 0;
 }

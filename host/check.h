@@ -51,6 +51,7 @@ size_t book_file_of(char *file, const uint8_t *book);
 void test_cards(void);
 void test_refusals(void);
 void test_round_trips(void);
+void test_margins(void);
 void test_damaged(void);
 void test_visible(void);
 void test_rooms(void);

@@ -16,14 +16,13 @@
 #include "plane.h"
 #include "scene.h"
 
-enum { WIDTH = 176, HEIGHT = 144, PICTURES = 60, MOST_PICTURES = 999, PLANES = 3, SHOWN = 15, NEEDED = 15 };
-
-static const struct cabunlis_settings SETTINGS = {32, 8, 1}; /* lambda, radius, four vectors */
+enum { WIDTH = 176, HEIGHT = 144, PICTURES = 60, MOST_PICTURES = 999, PLANES = 3, SHOWN = 15, NEEDED = 15, LAMBDA = 32, RADIUS = 8 };
 
 static const char USAGE[] =
-    "usage: crane [FOLDER [PICTURES]]\n"
+    "usage: crane [FOLDER [PICTURES [MARGIN]]]\n"
     "  FOLDER     where the graymaps go, made where it is missing (crane-pictures)\n"
-    "  PICTURES   how many are written, 1 to 999 (60, the time between two key pictures)\n";
+    "  PICTURES   how many are written, 1 to 999 (60, the time between two key pictures)\n"
+    "  MARGIN     a leaf's stage stays where it lowers the squared error by more than this, 0 to 4294967295 (0)\n";
 
 static const char *const PLANE_NAMES[PLANES] = {"luma", "blue", "red"};
 
@@ -137,12 +136,13 @@ static void change_places(struct plane *p)
 /* ---- one flipped bit */
 
 /* Draws luma of the scene with a turning eye, and writes it. */
-static struct cabunlis_answer turning_written(struct plane *p, const struct cabunlis_tables *tables, unsigned picture)
+static struct cabunlis_answer turning_written(
+    struct plane *p, const struct cabunlis_tables *tables, const struct cabunlis_settings *settings, unsigned picture)
 {
     scene_draw(p->source, p->width, p->height, SCENE_LUMA, SCENE_TURNING, picture);
     struct cabunlis_plane lent = plane_lent(p);
     struct cabunlis_output output = {p->out, p->room, 0};
-    struct cabunlis_answer a = cabunlis_write(&lent, tables, &SETTINGS, &output);
+    struct cabunlis_answer a = cabunlis_write(&lent, tables, settings, &output);
     if (a.refusal)
         fail("not written", picture, SCENE_LUMA);
     return a;
@@ -168,7 +168,7 @@ static void put_both(FILE *f, const struct plane *written, const struct plane *p
 
 /* A panel reads luma of the scene with a turning eye; one bit of one picture reaches it flipped, and it goes on from what it shows. What cannot
  * be read shows the picture before. */
-static void one_flipped_bit(const char *folder, unsigned pictures, const struct cabunlis_tables *tables)
+static void one_flipped_bit(const char *folder, unsigned pictures, const struct cabunlis_tables *tables, const struct cabunlis_settings *settings)
 {
     struct plane p = plane_of(WIDTH, HEIGHT), panel = plane_of(WIDTH, HEIGHT);
     size_t canvas = p.stride * p.rows, wrong = 0;
@@ -178,7 +178,7 @@ static void one_flipped_bit(const char *folder, unsigned pictures, const struct 
     memset(p.reference, 128, canvas);
     memset(panel.reference, 128, canvas);
     for (unsigned n = 0; n < pictures; n++) {
-        struct cabunlis_answer a = turning_written(&p, tables, n);
+        struct cabunlis_answer a = turning_written(&p, tables, settings, n);
         if (n == from)
             flip(&p, p.macroblocks / 3);
         memcpy(panel.recon, panel.reference, canvas);
@@ -226,7 +226,9 @@ static int reads_back(const struct plane *p, const struct cabunlis_tables *table
         && memcmp(into->vy, p->vy, 4 * p->macroblocks) == 0;
 }
 
-static void picture_written(struct plane *planes, struct plane *read, const struct cabunlis_tables *tables, unsigned picture, struct counts *c)
+static void picture_written(
+    struct plane *planes, struct plane *read, const struct cabunlis_tables *tables, const struct cabunlis_settings *settings,
+    unsigned picture, struct counts *c)
 {
     for (int k = 0; k < PLANES; k++) {
         struct plane *p = &planes[k];
@@ -234,7 +236,7 @@ static void picture_written(struct plane *planes, struct plane *read, const stru
         struct cabunlis_plane lent = plane_lent(p);
         struct cabunlis_output output = {p->out, p->room, 0};
         double begun = processor_seconds();
-        struct cabunlis_answer a = cabunlis_write(&lent, tables, &SETTINGS, &output);
+        struct cabunlis_answer a = cabunlis_write(&lent, tables, settings, &output);
         c->writing += processor_seconds() - begun;
         if (a.refusal || a.done != p->macroblocks)
             fail("not written", picture, k);
@@ -250,17 +252,19 @@ static void progress(unsigned done, unsigned all)
         fprintf(stderr, done < all ? "\r%u of %u pictures written and read back " : "\r\033[K", done, all);
 }
 
-static void pictures_written(const char *folder, unsigned pictures, struct plane *planes, struct plane *read, const struct cabunlis_tables *tables)
+static void pictures_written(
+    const char *folder, unsigned pictures, struct plane *planes, struct plane *read,
+    const struct cabunlis_tables *tables, const struct cabunlis_settings *settings)
 {
     struct counts all;
     memset(&all, 0, sizeof all);
-    printf("%u pictures of %d x %d with two planes of a quarter of each side, lambda %" PRIu64 ", radius %d, four vectors; each read back\n",
-        pictures, WIDTH, HEIGHT, SETTINGS.lambda, SETTINGS.radius);
+    printf("%u pictures of %d x %d with two planes of a quarter of each side, lambda %" PRIu64 ", radius %d, four vectors, margin %" PRIu32 "; each read back\n",
+        pictures, WIDTH, HEIGHT, settings->lambda, settings->radius, settings->margin);
     printf("picture     bits   luma dB   SKIP  INTER   4MV  INTRA\n");
     for (unsigned n = 0; n < pictures; n++) {
         struct counts c;
         memset(&c, 0, sizeof c);
-        picture_written(planes, read, tables, n, &c);
+        picture_written(planes, read, tables, settings, n, &c);
         if (n % SHOWN == 0) {
             char name[16];
             snprintf(name, sizeof name, "%u", n);
@@ -275,31 +279,43 @@ static void pictures_written(const char *folder, unsigned pictures, struct plane
     }
     all.luma_db /= pictures;
     show("all", &all);
-    one_flipped_bit(folder, pictures, tables);
+    one_flipped_bit(folder, pictures, tables, settings);
     printf("source, reconstruction and modes of every picture: %s/crane-00.pgm to crane-%02u.pgm\n", folder, pictures - 1);
     printf("a second of processor time reads %.0f pictures and writes %.0f; %d are needed\n", pictures / all.reading, pictures / all.writing, NEEDED);
 }
 
-/* A number from 1 to MOST_PICTURES, or 0. */
-static unsigned number(const char *word)
+/* Reads a number; answers whether the word is one from `least` to `most`. */
+static int number(const char *word, unsigned long least, unsigned long most, unsigned long *n)
 {
     char *end;
     errno = 0;
-    unsigned long n = strtoul(word, &end, 10);
-    return word[0] >= '0' && word[0] <= '9' && !*end && !errno && n <= MOST_PICTURES ? (unsigned)n : 0;
+    *n = strtoul(word, &end, 10);
+    return word[0] >= '0' && word[0] <= '9' && !*end && !errno && least <= *n && *n <= most;
+}
+
+/* The first argument that it does not take, or NULL. */
+static const char *wrong_of(int argc, char **argv, unsigned long *pictures, unsigned long *margin)
+{
+    if (argc > 1 && (argv[1][0] == '-' || argv[1][0] == 0))
+        return argv[1];
+    if (argc > 2 && !number(argv[2], 1, MOST_PICTURES, pictures))
+        return argv[2];
+    if (argc > 3 && !number(argv[3], 0, UINT32_MAX, margin))
+        return argv[3];
+    return argc > 4 ? argv[4] : NULL;
 }
 
 int main(int argc, char **argv)
 {
     const char *folder = argc > 1 ? argv[1] : "crane-pictures";
-    unsigned pictures = argc > 2 ? number(argv[2]) : PICTURES;
+    unsigned long pictures = PICTURES, margin = 0;
     if (argc > 1 && (strcmp(argv[1], "--help") == 0 || strcmp(argv[1], "-h") == 0)) {
         fputs(USAGE, stdout);
         return 0;
     }
-    if (argc > 3 || folder[0] == '-' || folder[0] == 0 || !pictures) {
-        const char *word = argc > 3 ? argv[3] : pictures ? folder : argv[2];
-        fprintf(stderr, "crane: %s: not an argument that it takes\n%s", word, USAGE);
+    const char *wrong = wrong_of(argc, argv, &pictures, &margin);
+    if (wrong) {
+        fprintf(stderr, "crane: %s: not an argument that it takes\n%s", wrong, USAGE);
         return 2;
     }
     if (mkdir(folder, 0777) != 0 && (errno != EEXIST || access(folder, W_OK) != 0)) {
@@ -310,6 +326,7 @@ int main(int argc, char **argv)
     cabunlis_house_book(book, sizeof book);
     cabunlis_house_codebook(codebook, sizeof codebook);
     struct cabunlis_tables tables = {book, sizeof book, codebook, sizeof codebook};
+    struct cabunlis_settings settings = {LAMBDA, RADIUS, 1, (uint32_t)margin}; /* 1: four vectors */
     struct plane planes[PLANES], read[PLANES];
     for (int k = 0; k < PLANES; k++) {
         size_t part = k == SCENE_LUMA ? 1 : 4;
@@ -318,7 +335,7 @@ int main(int argc, char **argv)
         /* no key picture here: both sides begin with the same gray */
         memset(planes[k].reference, 128, planes[k].stride * planes[k].rows);
     }
-    pictures_written(folder, pictures, planes, read, &tables);
+    pictures_written(folder, (unsigned)pictures, planes, read, &tables, &settings);
     for (int k = 0; k < PLANES; k++) {
         plane_free(&planes[k]);
         plane_free(&read[k]);

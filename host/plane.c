@@ -65,13 +65,13 @@ struct cabunlis_plane plane_lent(const struct plane *p)
     return lent;
 }
 
-struct cabunlis_answer plane_write(struct plane *p, const uint8_t *book, const uint8_t *codebook, uint64_t lambda, uint8_t radius, uint8_t four, size_t start)
+struct cabunlis_answer plane_write(
+    struct plane *p, const uint8_t *book, const uint8_t *codebook, const struct cabunlis_settings *settings, size_t start)
 {
     struct cabunlis_plane lent = plane_lent(p);
     struct cabunlis_tables tables = {book, CABUNLIS_BOOK_BYTES, codebook, CABUNLIS_CODEBOOK_BYTES};
-    struct cabunlis_settings settings = {lambda, radius, four};
     struct cabunlis_output output = {p->out, p->room, start};
-    return cabunlis_write(&lent, &tables, &settings, &output);
+    return cabunlis_write(&lent, &tables, settings, &output);
 }
 
 struct cabunlis_answer plane_read(struct plane *p, const uint8_t *book, const uint8_t *codebook, const uint8_t *bytes, size_t length, size_t start)

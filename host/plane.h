@@ -28,7 +28,8 @@ void plane_free(struct plane *p);
 /* All of it as the short calls take it: the source, the reference, and the slices that are written. */
 struct cabunlis_plane plane_lent(const struct plane *p);
 
-struct cabunlis_answer plane_write(struct plane *p, const uint8_t *book, const uint8_t *codebook, uint64_t lambda, uint8_t radius, uint8_t four, size_t start);
+struct cabunlis_answer plane_write(
+    struct plane *p, const uint8_t *book, const uint8_t *codebook, const struct cabunlis_settings *settings, size_t start);
 struct cabunlis_answer plane_read(struct plane *p, const uint8_t *book, const uint8_t *codebook, const uint8_t *bytes, size_t length, size_t start);
 
 /* How far its reconstruction is from its source in the samples that the panel shows. */

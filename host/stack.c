@@ -30,7 +30,7 @@ static void *encode(void *lent)
     struct plane *p = &l->p;
     cabunlis_encode_inter_plane_stated(
         p->width, p->height, p->stride, p->rows, p->source, p->width * p->height, p->reference, p->stride * p->rows, tables()->book, CABUNLIS_BOOK_BYTES,
-        tables()->codebook, CABUNLIS_CODEBOOK_BYTES, 8, 8, 1, p->out, p->room, 0, p->recon, p->stride * p->rows, p->vx, 4 * p->macroblocks, p->vy, 4 * p->macroblocks,
+        tables()->codebook, CABUNLIS_CODEBOOK_BYTES, 8, 8, 1, 0, p->out, p->room, 0, p->recon, p->stride * p->rows, p->vx, 4 * p->macroblocks, p->vy, 4 * p->macroblocks,
         p->stated, 3 * p->macroblocks);
     return NULL;
 }

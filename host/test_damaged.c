@@ -7,6 +7,8 @@
 
 enum { W = 41, H = 27, STRIDE = 48, ROWS = 32, BLOCKS = 6 };
 
+static const struct cabunlis_settings SETTINGS = {16, 3, 1, 0}; /* lambda, radius, four vectors, margin */
+
 /* Macroblock k of the canvas still holds `value` everywhere. */
 static int block_is(const uint8_t *canvas, size_t k, uint8_t value)
 {
@@ -54,7 +56,7 @@ void test_damaged(void)
         p.reference[k] = (uint8_t)(random_next(&state) % 32 + k % STRIDE);
     for (int plain = 0; plain < 2; plain++) {
         const uint8_t *book = plain ? tables()->plain : tables()->book;
-        struct cabunlis_answer a = plane_write(&p, book, tables()->codebook, 16, 3, 1, 5);
+        struct cabunlis_answer a = plane_write(&p, book, tables()->codebook, &SETTINGS, 5);
         size_t length = (a.next + 7) / 8;
         uint8_t *bytes = host_memory(length + 64);
         for (int k = 0; k < 150; k++) {

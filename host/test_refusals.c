@@ -67,14 +67,14 @@ static int untouched(void)
 static struct cabunlis_answer wrote(const struct call *c)
 {
     return cabunlis_encode_inter_plane_stated(
-        c->width, c->height, c->stride, c->rows, source, c->source, reference, c->reference, c->tables, c->book, codebook, c->codebook, 32, 2, 1,
+        c->width, c->height, c->stride, c->rows, source, c->source, reference, c->reference, c->tables, c->book, codebook, c->codebook, 32, 2, 1, 0,
         c->string, c->out, c->start, recon, c->recon, vx, c->vx, vy, c->vy, stated, 3 * MACROBLOCKS);
 }
 
 static struct cabunlis_answer wrote_plain(const struct call *c)
 {
     return cabunlis_encode_inter_plane(
-        c->width, c->height, c->stride, c->rows, source, c->source, reference, c->reference, c->tables, c->book, codebook, c->codebook, 32, 2, 1,
+        c->width, c->height, c->stride, c->rows, source, c->source, reference, c->reference, c->tables, c->book, codebook, c->codebook, 32, 2, 1, 0,
         c->string, c->out, c->start, recon, c->recon, vx, c->vx, vy, c->vy);
 }
 

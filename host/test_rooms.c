@@ -5,9 +5,10 @@
 #include "check.h"
 #include "plane.h"
 
-/* Noise at lambda 0 takes many bits; with the room of its book, and not a byte more, it is written whole. */
+/* Noise at lambda 0 and margin 0 takes many bits; with the room of its book, and not a byte more, it is written whole. */
 static void suffices(const uint8_t *book, size_t w, size_t h, size_t start)
 {
+    static const struct cabunlis_settings SETTINGS = {0, 1, 1, 0}; /* lambda, radius, four vectors, margin */
     uint64_t state = 5 + w;
     struct plane p = plane_of(w, h);
     for (size_t k = 0; k < w * h; k++)
@@ -17,7 +18,7 @@ static void suffices(const uint8_t *book, size_t w, size_t h, size_t start)
     p.room = bytes + (start + 7) / 8;
     free(p.out);
     p.out = host_memory(p.room);
-    struct cabunlis_answer a = plane_write(&p, book, tables()->codebook, 0, 1, 1, start);
+    struct cabunlis_answer a = plane_write(&p, book, tables()->codebook, &SETTINGS, start);
     CHECK(a.refusal == 0 && a.done == p.macroblocks);
     plane_free(&p);
 }

@@ -53,6 +53,18 @@ static uint64_t padded_distance(const uint8_t *source, const uint8_t *recon, siz
     return sum;
 }
 
+/* 0, a small one, any, or the largest. */
+static uint32_t any_margin(uint64_t *state)
+{
+    uint32_t any = (uint32_t)random_next(state);
+    switch (random_next(state) % 4) {
+    case 0: return 0;
+    case 1: return any % 2048;
+    case 2: return any;
+    default: return UINT32_MAX;
+    }
+}
+
 static void one(uint64_t *state, enum guard_side side)
 {
     size_t w = random_next(state) % 40 + 1, h = random_next(state) % 40 + 1;
@@ -61,6 +73,7 @@ static void one(uint64_t *state, enum guard_side side)
     uint64_t any = random_next(state), lambda = any >> (random_next(state) % 64);
     size_t start = random_next(state) % 70;
     uint8_t radius = (uint8_t)(random_next(state) % 6), four = (uint8_t)(random_next(state) % 2);
+    uint32_t margin = any_margin(state);
     size_t room = cabunlis_plane_room(w, h).bytes + (start + 7) / 8;
     struct lent l = lend(w, h, canvas, blocks, room, side);
     uint8_t *out = l.g[OUTPUT].bytes;
@@ -71,14 +84,14 @@ static void one(uint64_t *state, enum guard_side side)
     memset(out, 0xb7, room);
     struct cabunlis_answer a = cabunlis_encode_inter_plane_stated(
         w, h, stride, rows, l.g[SOURCE].bytes, w * h, l.g[REFERENCE].bytes, canvas, l.g[BOOK].bytes, CABUNLIS_BOOK_BYTES,
-        l.g[CODEBOOK].bytes, CABUNLIS_CODEBOOK_BYTES, lambda, radius, four,
+        l.g[CODEBOOK].bytes, CABUNLIS_CODEBOOK_BYTES, lambda, radius, four, margin,
         out, room, start, l.g[RECON].bytes, canvas, guarded_vectors(&l.g[VX]), 4 * blocks, guarded_vectors(&l.g[VY]), 4 * blocks, stated, 3 * blocks);
     /* the entry without `stated` answers and leaves the same */
     uint8_t *again = host_memory(room);
     memset(again, 0xb7, room);
     struct cabunlis_answer b = cabunlis_encode_inter_plane(
         w, h, stride, rows, l.g[SOURCE].bytes, w * h, l.g[REFERENCE].bytes, canvas, l.g[BOOK].bytes, CABUNLIS_BOOK_BYTES,
-        l.g[CODEBOOK].bytes, CABUNLIS_CODEBOOK_BYTES, lambda, radius, four,
+        l.g[CODEBOOK].bytes, CABUNLIS_CODEBOOK_BYTES, lambda, radius, four, margin,
         again, room, start, l.g[RECON2].bytes, canvas, guarded_vectors(&l.g[VX2]), 4 * blocks, guarded_vectors(&l.g[VY2]), 4 * blocks);
     CHECK(a.refusal == b.refusal && a.macroblock == b.macroblock && a.done == b.done && a.next == b.next && a.bits == b.bits && a.error == b.error);
     CHECK(memcmp(out, again, room) == 0 && memcmp(l.g[RECON].bytes, l.g[RECON2].bytes, canvas) == 0);

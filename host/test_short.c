@@ -22,11 +22,12 @@ struct arguments {
     size_t source_length, reference_length, book_length, codebook_length, bytes_length, start, recon_length, vx_length, vy_length, stated_length;
     uint64_t lambda;
     uint8_t radius, four;
+    uint32_t margin;
 };
 
 enum field {
     NONE, WIDTH, HEIGHT, STRIDE_, ROWS_, SOURCE, SOURCE_LENGTH, REFERENCE, REFERENCE_LENGTH, RECON, RECON_LENGTH, VX, VX_LENGTH, VY, VY_LENGTH,
-    BOOK, BOOK_LENGTH, CODEBOOK, CODEBOOK_LENGTH, BYTES, LENGTH, START, LAMBDA, RADIUS, FOUR, STATED, STATED_LENGTH, FIELDS
+    BOOK, BOOK_LENGTH, CODEBOOK, CODEBOOK_LENGTH, BYTES, LENGTH, START, LAMBDA, RADIUS, FOUR, MARGIN, STATED, STATED_LENGTH, FIELDS
 };
 
 enum call { WRITE, WRITE_STATED, READ };
@@ -39,7 +40,7 @@ static struct arguments usual(void)
     a.source_length = W * H, a.reference_length = CANVAS, a.recon_length = CANVAS;
     a.book_length = CABUNLIS_BOOK_BYTES, a.codebook_length = CABUNLIS_CODEBOOK_BYTES;
     a.bytes_length = OUT, a.start = 3, a.vx_length = 4 * BLOCKS, a.vy_length = 4 * BLOCKS, a.stated_length = 3 * BLOCKS;
-    a.lambda = 1, a.radius = 1, a.four = 1;
+    a.lambda = 1, a.radius = 1, a.four = 1, a.margin = 0;
     return a;
 }
 
@@ -71,6 +72,7 @@ static void vary(struct arguments *a, enum field f)
     case LAMBDA: a->lambda = 3000; break;
     case RADIUS: a->radius = 6; break;
     case FOUR: a->four = 0; break;
+    case MARGIN: a->margin = UINT32_C(1) << 31; break; /* no stage stays; the highest bit, so a margin cut short would be 0 */
     case STATED: a->stated = 1; break;
     case STATED_LENGTH: a->stated_length = 4; break;
     }
@@ -86,11 +88,11 @@ static struct cabunlis_answer entry(struct memory *m, const struct arguments *a,
     if (c == WRITE)
         return cabunlis_encode_inter_plane(
             a->width, a->height, a->stride, a->rows, m->source[a->source], a->source_length, m->reference[a->reference], a->reference_length,
-            m->book[a->book], a->book_length, m->codebook[a->codebook], a->codebook_length, a->lambda, a->radius, a->four,
+            m->book[a->book], a->book_length, m->codebook[a->codebook], a->codebook_length, a->lambda, a->radius, a->four, a->margin,
             m->bytes[a->bytes], a->bytes_length, a->start, m->recon[a->recon], a->recon_length, m->vx[a->vx], a->vx_length, m->vy[a->vy], a->vy_length);
     return cabunlis_encode_inter_plane_stated(
         a->width, a->height, a->stride, a->rows, m->source[a->source], a->source_length, m->reference[a->reference], a->reference_length,
-        m->book[a->book], a->book_length, m->codebook[a->codebook], a->codebook_length, a->lambda, a->radius, a->four,
+        m->book[a->book], a->book_length, m->codebook[a->codebook], a->codebook_length, a->lambda, a->radius, a->four, a->margin,
         m->bytes[a->bytes], a->bytes_length, a->start, m->recon[a->recon], a->recon_length, m->vx[a->vx], a->vx_length, m->vy[a->vy], a->vy_length,
         m->stated[a->stated], a->stated_length);
 }
@@ -138,6 +140,7 @@ static struct cabunlis_answer short_call(struct memory *m, const struct argument
     settings.lambda = a->lambda;
     settings.radius = a->radius;
     settings.four = a->four;
+    settings.margin = a->margin;
     output.bytes = m->bytes[a->bytes];
     output.length = a->bytes_length;
     output.start = a->start;
@@ -182,7 +185,7 @@ static int takes(enum call c, enum field f)
 {
     if (f == STATED || f == STATED_LENGTH)
         return c == WRITE_STATED;
-    if (f == SOURCE || f == SOURCE_LENGTH || f == LAMBDA || f == RADIUS || f == FOUR)
+    if (f == SOURCE || f == SOURCE_LENGTH || f == LAMBDA || f == RADIUS || f == FOUR || f == MARGIN)
         return c != READ;
     return 1;
 }

@@ -7,11 +7,13 @@
 
 enum { THREADS = 4, SIDE = 48 };
 
+static const struct cabunlis_settings SETTINGS = {32, 4, 1, 0}; /* lambda, radius, four vectors, margin */
+
 static void *write_one(void *plane)
 {
     struct plane *p = plane;
     for (int k = 0; k < 3; k++)
-        plane_write(p, tables()->book, tables()->codebook, 32, 4, 1, 0);
+        plane_write(p, tables()->book, tables()->codebook, &SETTINGS, 0);
     return NULL;
 }
 

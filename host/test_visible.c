@@ -85,13 +85,14 @@ static int is_shown(const struct plane *p)
 
 static void written(struct size s, int whole, uint64_t *state)
 {
+    static const struct cabunlis_settings SETTINGS = {32, 1, 0, 0}; /* lambda, radius, four vectors, margin */
     struct plane p = plane_of(s.width, s.height), q = plane_of(s.width, s.height);
     size_t all = p.stride * p.rows;
     fill(p.source, s.width * s.height, state);
     fill(p.reference, all, state);
     memcpy(q.source, p.source, s.width * s.height);
     memcpy(q.reference, p.reference, all);
-    struct cabunlis_answer a = plane_write(&p, tables()->book, tables()->codebook, 32, 1, 0, 0);
+    struct cabunlis_answer a = plane_write(&p, tables()->book, tables()->codebook, &SETTINGS, 0);
     uint64_t error = plane_visible(&p).error;
     CHECK(a.refusal == 0 && is_shown(&p));
     CHECK(whole ? error == a.error : error <= a.error);

@@ -9,6 +9,7 @@ static const struct { const char *name; void (*run)(void); } GROUPS[] = {
     {"cards", test_cards},
     {"refusals", test_refusals},
     {"round trips", test_round_trips},
+    {"margins", test_margins},
     {"damaged", test_damaged},
     {"visible", test_visible},
     {"rooms", test_rooms},

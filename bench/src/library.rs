@@ -51,6 +51,8 @@ impl Lent {
                 job.lambda,
                 job.radius,
                 u8::from(job.four),
+                // the original has no margin
+                0,
                 self.out.as_mut_ptr(),
                 self.out.len(),
                 0,

@@ -2,7 +2,7 @@
 
 use crate::book::house_codebook;
 use crate::leaf_input::{LeafInput, leaf_input};
-use crate::ours::{Leaf, LeafCall, Node};
+use crate::ours::{Leaf, LeafCall, NO_MARGIN, Node};
 use crate::random::Random;
 use crate::seed_tables::{SeedTables, load_tables};
 use crate::stream::unsigned;
@@ -35,6 +35,7 @@ fn call(input: &LeafInput, lent: &SeedTables) -> LeafCall {
         predictor: input.predictor.clone(),
         cap: input.cap as u8,
         skip: u8::from(input.skip),
+        margin: NO_MARGIN,
     }
 }
 

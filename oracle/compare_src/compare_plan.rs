@@ -3,7 +3,7 @@
 use crate::book::house_codebook;
 use crate::compare_leaf::leaf_node;
 use crate::leaf_input::{HALVES, LEVELS};
-use crate::ours::{LeafCall, Node, Plan, PlanCall};
+use crate::ours::{LeafCall, NO_MARGIN, Node, Plan, PlanCall};
 use crate::plan_input::{BlockInput, block_input, cut, dims};
 use crate::random::Random;
 use crate::seed_tables::{SeedTables, load_tables};
@@ -53,6 +53,7 @@ fn call(input: &BlockInput, lent: &SeedTables) -> PlanCall {
             predictor: input.predictor(),
             cap: 6,
             skip: u8::from(input.around.skip),
+            margin: NO_MARGIN,
         },
         lambda: input.around.lambda,
     }

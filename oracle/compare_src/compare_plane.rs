@@ -4,6 +4,7 @@ use crate::answer::{Answer, MODES, answer};
 use crate::book::{Book, Table, house_codebook};
 use crate::job::Job;
 use crate::make::{any_job, job_of_size};
+use crate::ours::NO_MARGIN;
 use crate::ours_plane::{Lent, PlaneCall};
 use crate::plane_wanted::{Wanted, number_at, pattern, put_bits};
 use crate::random::Random;
@@ -63,6 +64,7 @@ fn call(job: &Job, lent: &SeedTables, random: &mut Random) -> PlaneCall {
         lambda: job.lambda,
         radius: job.radius,
         four: if job.four { on } else { 0 },
+        margin: NO_MARGIN,
     }
 }
 

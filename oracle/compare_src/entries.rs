@@ -20,7 +20,7 @@ pub struct Room {
 }
 
 unsafe extern "C" {
-    #[link_name = "cabunlis1_encode_inter_plane"]
+    #[link_name = "cabunlis2_encode_inter_plane"]
     pub fn cabunlis_encode_inter_plane(
         width: usize,
         height: usize,
@@ -37,6 +37,7 @@ unsafe extern "C" {
         lambda: u64,
         radius: u8,
         four: u8,
+        margin: u32,
         out: *mut u8,
         out_length: usize,
         start: usize,
@@ -48,7 +49,7 @@ unsafe extern "C" {
         vy_length: usize,
     ) -> Answer;
 
-    #[link_name = "cabunlis1_encode_inter_plane_stated"]
+    #[link_name = "cabunlis2_encode_inter_plane_stated"]
     pub fn cabunlis_encode_inter_plane_stated(
         width: usize,
         height: usize,
@@ -65,6 +66,7 @@ unsafe extern "C" {
         lambda: u64,
         radius: u8,
         four: u8,
+        margin: u32,
         out: *mut u8,
         out_length: usize,
         start: usize,
@@ -78,7 +80,7 @@ unsafe extern "C" {
         stated_length: usize,
     ) -> Answer;
 
-    #[link_name = "cabunlis1_decode_inter_plane"]
+    #[link_name = "cabunlis2_decode_inter_plane"]
     pub fn cabunlis_decode_inter_plane(
         width: usize,
         height: usize,
@@ -101,6 +103,6 @@ unsafe extern "C" {
         vy_length: usize,
     ) -> Answer;
 
-    #[link_name = "cabunlis1_plane_room"]
+    #[link_name = "cabunlis2_plane_room"]
     pub fn cabunlis_plane_room(width: usize, height: usize) -> Room;
 }

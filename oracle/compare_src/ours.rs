@@ -1,5 +1,8 @@
 //! The proved functions, linked from the static library of the crate `call_entries`.
 
+/// The original has no margin: what is compared with it is asked at this one.
+pub const NO_MARGIN: u32 = 0;
+
 #[repr(C)]
 #[derive(Clone, Copy, Debug, PartialEq, Eq)]
 pub struct Leaf {
@@ -109,6 +112,7 @@ unsafe extern "C" {
         predictor_length: usize,
         cap: u8,
         skip: u8,
+        margin: u32,
     ) -> Leaf;
 
     fn parts_plan_macroblock(
@@ -125,6 +129,7 @@ unsafe extern "C" {
         cap: u8,
         skip: u8,
         lambda: u64,
+        margin: u32,
     ) -> Plan;
 
     fn parts_search_motion_vector(
@@ -156,6 +161,7 @@ pub struct LeafCall {
     pub predictor: Vec<u8>,
     pub cap: u8,
     pub skip: u8,
+    pub margin: u32,
 }
 
 impl LeafCall {
@@ -176,6 +182,7 @@ impl LeafCall {
                 self.predictor.len(),
                 self.cap,
                 self.skip,
+                self.margin,
             )
         }
     }
@@ -207,6 +214,7 @@ impl PlanCall {
                 block.cap,
                 block.skip,
                 self.lambda,
+                block.margin,
             )
         }
     }

@@ -46,6 +46,8 @@ pub struct PlaneCall {
     pub lambda: u64,
     pub radius: u8,
     pub four: u8,
+    /// The reader takes none.
+    pub margin: u32,
 }
 
 /// What a plane call is lent to write to; the reader only reads `out`.
@@ -79,6 +81,7 @@ impl PlaneCall {
                 self.lambda,
                 self.radius,
                 self.four,
+                self.margin,
                 lent.out.as_mut_ptr(),
                 lent.out.len(),
                 start,

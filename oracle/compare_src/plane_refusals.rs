@@ -3,6 +3,8 @@
 
 use crate::book::{Book, Table, house_codebook};
 use crate::ours_plane::{Lent, PlaneCall, Read, Written};
+use crate::random::Random;
+use crate::refusals::any_margin;
 use crate::stream::unsigned;
 use crate::tally::Tally;
 
@@ -12,9 +14,9 @@ struct Asked {
     start: usize,
 }
 
-pub fn refusals(tally: &mut Tally) -> Result<(), String> {
+pub fn refusals(random: &mut Random, tally: &mut Tally) -> Result<(), String> {
     for (name, write, read, change) in PLANES {
-        let mut asked = good_plane();
+        let mut asked = good_plane(any_margin(random));
         change(&mut asked);
         check_write(&asked, *write).map_err(|told| format!("plane writer, {name}: {told}"))?;
         check_read(&asked, *read).map_err(|told| format!("plane reader, {name}: {told}"))?;
@@ -72,7 +74,7 @@ fn verdict(as_wanted: bool, want: u8, got: &str) -> Result<(), String> {
 }
 
 /// Two macroblocks; the bits read as two skipped ones.
-fn good_plane() -> Asked {
+fn good_plane(margin: u32) -> Asked {
     let call = PlaneCall {
         width: 20,
         height: 16,
@@ -85,6 +87,7 @@ fn good_plane() -> Asked {
         lambda: 20,
         radius: 3,
         four: 1,
+        margin,
     };
     let lent = Lent {
         out: vec![255; 64],
@@ -113,6 +116,9 @@ type Change = (&'static str, u8, u8, fn(&mut Asked));
 const PLANES: &[Change] = &[
     ("nothing changed", 0, 0, |_| {}),
     ("any flag", 0, 0, |asked| asked.call.four = 255),
+    ("the largest margin", 0, 0, |asked| {
+        asked.call.margin = u32::MAX
+    }),
     ("lambda 2^64-1, radius 255", 0, 0, |asked| {
         asked.call.lambda = u64::MAX;
         asked.call.radius = 255;

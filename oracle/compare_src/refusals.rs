@@ -1,16 +1,27 @@
 //! Calls that document 01 refuses. The original has no refusals, so what is
-//! wanted stands here: the lowest number that applies, and zeros.
+//! wanted stands here: the lowest number that applies, and zeros. No refusal
+//! depends on the margin, so each call is asked at any.
 
 use crate::book::{Book, Table, house_codebook};
 use crate::ours::{Leaf, LeafCall, Plan, PlanCall, Vector, VectorCall};
 use crate::plane_refusals;
+use crate::random::Random;
 use crate::stream::unsigned;
 use crate::tally::Tally;
 
+const SEED: u64 = 4;
+
+/// A margin, small ones as often as large ones.
+pub fn any_margin(random: &mut Random) -> u32 {
+    let margin = random.next() as u32;
+    margin >> random.below(32)
+}
+
 pub fn refusals() -> Result<Tally, String> {
+    let mut random = Random::new(SEED);
     let mut tally = Tally::default();
     for (name, want, change) in LEAVES {
-        let mut call = good_leaf();
+        let mut call = good_leaf(any_margin(&mut random));
         change(&mut call);
         let got = call.ask();
         if *want == 0 && got.refused != 0 || *want != 0 && got != Leaf::refused(*want) {
@@ -19,7 +30,7 @@ pub fn refusals() -> Result<Tally, String> {
         tally.one(format!("leaf call answered {want}"));
     }
     for (name, want, change) in LEAVES {
-        let mut block = good_leaf();
+        let mut block = good_leaf(any_margin(&mut random));
         change(&mut block);
         let got = PlanCall { block, lambda: 20 }.ask();
         if *want == 0 && got.refused != 0 || *want != 0 && got != Plan::refused(*want) {
@@ -36,13 +47,13 @@ pub fn refusals() -> Result<Tally, String> {
         }
         tally.one(format!("search call answered {want}"));
     }
-    plane_refusals::refusals(&mut tally)?;
+    plane_refusals::refusals(&mut random, &mut tally)?;
     Ok(tally)
 }
 
 // ---- leaf, and plan: both refuse the same blocks ----
 
-fn good_leaf() -> LeafCall {
+fn good_leaf(margin: u32) -> LeafCall {
     LeafCall {
         book: Book::house().to_bytes(),
         codebook: unsigned(&house_codebook()),
@@ -52,6 +63,7 @@ fn good_leaf() -> LeafCall {
         predictor: vec![100; 8],
         cap: 6,
         skip: 1,
+        margin,
     }
 }
 
@@ -73,6 +85,7 @@ type LeafChange = (&'static str, u8, fn(&mut LeafCall));
 const LEAVES: &[LeafChange] = &[
     ("nothing changed", 0, |_| {}),
     ("any skip flag", 0, |call| call.skip = 255),
+    ("the largest margin", 0, |call| call.margin = u32::MAX),
     ("no book", 5, |call| call.book.clear()),
     ("book one byte short", 5, |call| call.book.truncate(2795)),
     ("book one entry long", 5, |call| call.book.extend([0, 1, 1])),

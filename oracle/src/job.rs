@@ -81,9 +81,12 @@ impl Job {
     pub fn read_files(folder: &Path) -> Result<Self, String> {
         let line = read_text(&folder.join("job.txt"))?;
         let fields: Vec<&str> = line.trim_end().split(',').collect();
-        let [width, height, lambda, radius, four] = fields[..] else {
-            return Err("job.txt wants five numbers".into());
+        let [width, height, lambda, radius, four, margin] = fields[..] else {
+            return Err("job.txt wants six numbers".into());
         };
+        if margin != "0" {
+            return Err(format!("margin {margin}: the original has none but 0"));
+        }
         let bad = |field: &str| format!("bad number in job.txt: {field}");
         let job = Self {
             width: width.parse().map_err(|_| bad(width))?,
@@ -113,9 +116,10 @@ impl Job {
         Ok(())
     }
 
+    /// The margin in job.txt is 0: the original has none.
     pub fn write_files(&self, folder: &Path) -> Result<(), String> {
         let line = format!(
-            "{},{},{},{},{}\n",
+            "{},{},{},{},{},0\n",
             self.width,
             self.height,
             self.lambda,

@@ -1,11 +1,14 @@
--- What the C host's calls answer, and every byte that they leave (document 01, "Refused for the state met": a C program calls the writer and reader with numbers and byte slices; document 02, §1, §2).
+-- What the C host's calls answer, and every byte that they leave (document 01, "Refused for the state met": a C program calls the writer and reader with numbers and byte slices; document 02, §1, §2, §4).
 use Prim.Native.Nat.{ℕ}
+use mathlib.Core.Bool.{not}
 use mathlib.Core.List.{List}
 use mathlib.Core.Path.{_≡_}
+use lib.Dec.{eqb}
 use Rattle.bits.specs.Basics.{pick}
 use Rattle.text.specs.declared.Written.{Written}
 use Rattle.macroblock.specs.Macroblock.{Given}
 use Rattle.macroblock.specs.Choice.{Task}
+use Rattle.macroblock.specs.declared.svq1_enc_inter.Settings.{Settings}
 use Rattle.macroblock.specs.Slices.{Slices, Lent}
 use Rattle.plane.specs.Refusals.{midPlane}
 use Rattle.plane.specs.Calls.{PlaneAnswer, writeAnswer, PlaneWritten, readPlaneAnswer, PlaneRead}
@@ -16,6 +19,10 @@ use Rattle.cabunlis.specs.declared.books.HostFile.{HostFile}
 use Rattle.cabunlis.specs.declared.errors.HostVisible.{HostVisible}
 use Rattle.cabunlis.specs.declared.planes.HostAnswer.{HostAnswer}
 use Rattle.cabunlis.specs.declared.rooms.HostRoom.{HostRoom}
+
+-- the settings by a C host's numbers: four vectors are tried unless `four` is 0
+abbrev pub settingsOf : ℕ → ℕ → ℕ → ℕ → Settings
+settingsOf lambda radius four margin = record { lambda = lambda; radius = radius; four = not (eqb four 0); margin = margin }
 
 -- a plane call's answer as a C struct; the index is that of the macroblock met with 10, 11, 22 and 24, else 0
 abbrev pub hostAnswer : PlaneAnswer → HostAnswer

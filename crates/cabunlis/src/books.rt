@@ -19,7 +19,7 @@ pub struct HostFile {
 
 // Reads a book file into a lent book; 0, or the refusal with the book as it was.
 #[no_mangle]
-pub extern "C" fn cabunlis1_read_book_file(file: &[u8], book: &mut [u8]) -> u32
+pub extern "C" fn cabunlis2_read_book_file(file: &[u8], book: &mut [u8]) -> u32
     ensures { λ r. ⌜ BookFileRead (now (file .entry)) (now (book .entry)) r (now (book .exit)) ⌝ }
 {
     read_book_file(file, book) as u32
@@ -27,7 +27,7 @@ pub extern "C" fn cabunlis1_read_book_file(file: &[u8], book: &mut [u8]) -> u32
 
 // Writes a lent book's file to the front of a lent slice; what lies behind it stays.
 #[no_mangle]
-pub extern "C" fn cabunlis1_write_book_file(book: &[u8], out: &mut [u8]) -> HostFile
+pub extern "C" fn cabunlis2_write_book_file(book: &[u8], out: &mut [u8]) -> HostFile
     ensures { λ r. ⌜ TextWritten (writeFileRefusal (now (book .entry)) (length (now (out .entry)))) (bookFile (now (book .entry))) (now (out .entry)) (fileWritten r) (now (out .exit)) ⌝ }
 {
     let written = write_book_file(book, out);
@@ -39,7 +39,7 @@ pub extern "C" fn cabunlis1_write_book_file(book: &[u8], out: &mut [u8]) -> Host
 
 // Fills a lent book with the built-in one; 0, or 5 where it has another size.
 #[no_mangle]
-pub extern "C" fn cabunlis1_house_book(book: &mut [u8]) -> u32
+pub extern "C" fn cabunlis2_house_book(book: &mut [u8]) -> u32
     ensures { λ r. ⌜ BookFilled (now (book .entry)) r (now (book .exit)) ⌝ }
 {
     fill_house_book(book) as u32
@@ -47,7 +47,7 @@ pub extern "C" fn cabunlis1_house_book(book: &mut [u8]) -> u32
 
 // The same for the codebook.
 #[no_mangle]
-pub extern "C" fn cabunlis1_house_codebook(codebook: &mut [u8]) -> u32
+pub extern "C" fn cabunlis2_house_codebook(codebook: &mut [u8]) -> u32
     ensures { λ r. ⌜ CodebookFilled (now (codebook .entry)) r (now (codebook .exit)) ⌝ }
 {
     fill_house_codebook(codebook) as u32

@@ -15,7 +15,7 @@ pub struct HostVisible {
 
 // The squared error of a reconstruction in its canvas against a source, over the samples inside width and height alone.
 #[no_mangle]
-pub extern "C" fn cabunlis1_visible_error(
+pub extern "C" fn cabunlis2_visible_error(
     width: usize,
     height: usize,
     stride: usize,

@@ -6,7 +6,7 @@ ghost use Rattle.bits.specs.Basics.{pick};
 ghost use Rattle.macroblock.specs.MacroblockNeeds.{givenBy};
 ghost use Rattle.macroblock_choice.specs.ChosenNeeds.{taskBy};
 ghost use Rattle.plane.specs.Refusals.{midPlane};
-ghost use Rattle.cabunlis.specs.Host.{hostAnswer, HostWritten, HostStated, HostRead};
+ghost use Rattle.cabunlis.specs.Host.{settingsOf, hostAnswer, HostWritten, HostStated, HostRead};
 ghost use Rattle.macroblock.specs.Slices.{slicesBy, lentBy};
 use canvas::svq1_plane::Svq1PlaneCanvas;
 use macroblock::svq1_enc_inter::Settings;
@@ -72,9 +72,21 @@ fn tries_four(four: u8) -> bool
     four != 0
 }
 
+// The settings by a C host's numbers.
+fn settings_of(lambda: u64, radius: u8, four: u8, margin: u32) -> Settings
+    ensures { λ r. ⌜ r ≡ settingsOf lambda radius four margin ⌝ }
+{
+    Settings {
+        lambda,
+        radius,
+        four: tries_four(four),
+        margin,
+    }
+}
+
 // Writes a plane; four vectors are tried unless `four` is 0.
 #[no_mangle]
-pub extern "C" fn cabunlis1_encode_inter_plane(
+pub extern "C" fn cabunlis2_encode_inter_plane(
     width: usize,
     height: usize,
     stride: usize,
@@ -86,13 +98,14 @@ pub extern "C" fn cabunlis1_encode_inter_plane(
     lambda: u64,
     radius: u8,
     four: u8,
+    margin: u32,
     out: &mut [u8],
     start: usize,
     recon: &mut [u8],
     vx: &mut [u8],
     vy: &mut [u8],
 ) -> HostAnswer
-    ensures { λ r. ⌜ HostWritten (givenBy (record { width = width; height = height; stride = stride; rows = rows }) (now (reference .entry)) (now (book .entry)) (now (codebook .entry))) (taskBy (now (source .entry)) (record { lambda = lambda; radius = radius; four = not (eqb four 0) })) start (lentBy (now (out .entry)) (slicesBy (now (recon .entry)) (now (vx .entry)) (now (vy .entry)))) r (lentBy (now (out .exit)) (slicesBy (now (recon .exit)) (now (vx .exit)) (now (vy .exit)))) ⌝ }
+    ensures { λ r. ⌜ HostWritten (givenBy (record { width = width; height = height; stride = stride; rows = rows }) (now (reference .entry)) (now (book .entry)) (now (codebook .entry))) (taskBy (now (source .entry)) (settingsOf lambda radius four margin)) start (lentBy (now (out .entry)) (slicesBy (now (recon .entry)) (now (vx .entry)) (now (vy .entry)))) r (lentBy (now (out .exit)) (slicesBy (now (recon .exit)) (now (vx .exit)) (now (vy .exit)))) ⌝ }
 {
     let canvas = Svq1PlaneCanvas {
         width,
@@ -100,11 +113,7 @@ pub extern "C" fn cabunlis1_encode_inter_plane(
         stride,
         rows,
     };
-    let settings = Settings {
-        lambda,
-        radius,
-        four: tries_four(four),
-    };
+    let settings = settings_of(lambda, radius, four, margin);
     let e = encode_inter_plane(
         canvas,
         source,
@@ -123,7 +132,7 @@ pub extern "C" fn cabunlis1_encode_inter_plane(
 
 // The same, and each macroblock's mode, bits and error told in `stated`.
 #[no_mangle]
-pub extern "C" fn cabunlis1_encode_inter_plane_stated(
+pub extern "C" fn cabunlis2_encode_inter_plane_stated(
     width: usize,
     height: usize,
     stride: usize,
@@ -135,6 +144,7 @@ pub extern "C" fn cabunlis1_encode_inter_plane_stated(
     lambda: u64,
     radius: u8,
     four: u8,
+    margin: u32,
     out: &mut [u8],
     start: usize,
     recon: &mut [u8],
@@ -142,7 +152,7 @@ pub extern "C" fn cabunlis1_encode_inter_plane_stated(
     vy: &mut [u8],
     stated: &mut [u32],
 ) -> HostAnswer
-    ensures { λ r. ⌜ HostStated (givenBy (record { width = width; height = height; stride = stride; rows = rows }) (now (reference .entry)) (now (book .entry)) (now (codebook .entry))) (taskBy (now (source .entry)) (record { lambda = lambda; radius = radius; four = not (eqb four 0) })) start (lentBy (now (out .entry)) (slicesBy (now (recon .entry)) (now (vx .entry)) (now (vy .entry)))) (now (stated .entry)) r (lentBy (now (out .exit)) (slicesBy (now (recon .exit)) (now (vx .exit)) (now (vy .exit)))) (now (stated .exit)) ⌝ }
+    ensures { λ r. ⌜ HostStated (givenBy (record { width = width; height = height; stride = stride; rows = rows }) (now (reference .entry)) (now (book .entry)) (now (codebook .entry))) (taskBy (now (source .entry)) (settingsOf lambda radius four margin)) start (lentBy (now (out .entry)) (slicesBy (now (recon .entry)) (now (vx .entry)) (now (vy .entry)))) (now (stated .entry)) r (lentBy (now (out .exit)) (slicesBy (now (recon .exit)) (now (vx .exit)) (now (vy .exit)))) (now (stated .exit)) ⌝ }
 {
     let canvas = Svq1PlaneCanvas {
         width,
@@ -150,11 +160,7 @@ pub extern "C" fn cabunlis1_encode_inter_plane_stated(
         stride,
         rows,
     };
-    let settings = Settings {
-        lambda,
-        radius,
-        four: tries_four(four),
-    };
+    let settings = settings_of(lambda, radius, four, margin);
     let e = encode_inter_plane_stated(
         canvas,
         source,
@@ -174,7 +180,7 @@ pub extern "C" fn cabunlis1_encode_inter_plane_stated(
 
 // Reads a plane.
 #[no_mangle]
-pub extern "C" fn cabunlis1_decode_inter_plane(
+pub extern "C" fn cabunlis2_decode_inter_plane(
     width: usize,
     height: usize,
     stride: usize,

@@ -14,7 +14,7 @@ pub struct HostRoom {
 
 // Under any book that passes.
 #[no_mangle]
-pub extern "C" fn cabunlis1_plane_room(width: usize, height: usize) -> HostRoom
+pub extern "C" fn cabunlis2_plane_room(width: usize, height: usize) -> HostRoom
     ensures { λ r. ⌜ RoomTold (OfSize width height) (roomAnswer width height) (roomOf r) ⌝ }
 {
     let room = plane_room(width, height);
@@ -26,7 +26,7 @@ pub extern "C" fn cabunlis1_plane_room(width: usize, height: usize) -> HostRoom
 
 // Under a given book.
 #[no_mangle]
-pub extern "C" fn cabunlis1_plane_room_under(width: usize, height: usize, book: &[u8]) -> HostRoom
+pub extern "C" fn cabunlis2_plane_room_under(width: usize, height: usize, book: &[u8]) -> HostRoom
     ensures { λ r. ⌜ RoomTold (OfSizeUnder width height (now (book .entry))) (roomUnderAnswer width height (now (book .entry))) (roomOf r) ⌝ }
 {
     let room = plane_room_under(width, height, book);

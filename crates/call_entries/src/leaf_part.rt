@@ -3,7 +3,7 @@ ghost use mathlib.Core.Path.{_≡_};
 ghost use mathlib.Core.Bool.{not};
 ghost use lib.Dec.{eqb};
 ghost use lib.ListN.{length};
-ghost use Rattle.leaf.specs.LeafCall.{leafAnswer};
+ghost use Rattle.leaf.specs.LeafCall.{blockBy, leafAnswer};
 ghost use Rattle.leaf.specs.LeafForms.{leafOf};
 ghost use Rattle.call_entries.specs.Leaf.{leafPartOf, nothing, leafPart};
 use super::inner::leaf_node;
@@ -74,8 +74,9 @@ pub extern "C" fn parts_search_leaf(
     predictor: &[u8],
     cap: u8,
     skip: u8,
+    margin: u32,
 ) -> LeafPart
-    ensures { λ r. ⌜ r ≡ leafPart (leafAnswer (record { book = now (book .entry); codebook = now (codebook .entry); level = level; half = half; cap = cap; allowSkip = not (eqb skip 0); target = now (target .entry); predictor = now (predictor .entry) })) ⌝ }
+    ensures { λ r. ⌜ r ≡ leafPart (leafAnswer (blockBy (now (book .entry)) (now (codebook .entry)) level half (now (target .entry)) (now (predictor .entry)) cap (not (eqb skip 0)) margin)) ⌝ }
 {
     let found = search_leaf(
         book,
@@ -86,6 +87,7 @@ pub extern "C" fn parts_search_leaf(
         predictor,
         cap,
         skip != 0,
+        margin,
     );
     let refused = found.refused;
     if refused != 0 {

@@ -3,6 +3,7 @@ ghost use mathlib.Core.Path.{_≡_};
 ghost use mathlib.Core.Bool.{not};
 ghost use lib.Dec.{eqb};
 ghost use lib.ListN.{length};
+ghost use Rattle.leaf.specs.LeafCall.{blockBy};
 ghost use Rattle.tree.specs.NodeForms.{nodeOf, treeOf};
 ghost use Rattle.plan.specs.PlanAnswer.{planAnswer};
 ghost use Rattle.call_entries.specs.Node.{bareNode, nodePart};
@@ -110,8 +111,9 @@ pub extern "C" fn parts_plan_macroblock(
     cap: u8,
     skip: u8,
     lambda: u64,
+    margin: u32,
 ) -> PlanPart
-    ensures { λ r. ⌜ r ≡ planPart (planAnswer (record { book = now (book .entry); codebook = now (codebook .entry); level = level; half = half; cap = cap; allowSkip = not (eqb skip 0); target = now (target .entry); predictor = now (predictor .entry) }) lambda) ⌝ }
+    ensures { λ r. ⌜ r ≡ planPart (planAnswer (blockBy (now (book .entry)) (now (codebook .entry)) level half (now (target .entry)) (now (predictor .entry)) cap (not (eqb skip 0)) margin) lambda) ⌝ }
 {
     let made = plan_macroblock(
         book,
@@ -123,6 +125,7 @@ pub extern "C" fn parts_plan_macroblock(
         cap,
         skip != 0,
         lambda,
+        margin,
     );
     let refused = made.refused;
     if refused != 0 {

@@ -19,7 +19,7 @@ unfoldable pub smallGiven : List ℕ → List ℕ → Given
 smallGiven book codebook = givenBy (record { width = 16; height = 16; stride = 16; rows = 16 }) (replicate 256 0) book codebook
 
 unfoldable pub smallTask : ℕ → Task
-smallTask lambda = taskBy (replicate 256 100) (record { lambda = lambda; radius = 8; four = true })
+smallTask lambda = taskBy (replicate 256 100) (record { lambda = lambda; radius = 8; four = true; margin = 0 })
 
 abbrev pub smallSlices : List ℕ → Slices
 smallSlices recon = slicesBy recon (replicate 4 0) (replicate 4 0)

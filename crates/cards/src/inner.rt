@@ -2,6 +2,7 @@
 pub mod leaf_cards;
 pub mod levels;
 pub mod line;
+pub mod margin_cards;
 pub mod mode;
 pub mod plane_text;
 pub mod sample_cards;

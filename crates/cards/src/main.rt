@@ -1,4 +1,5 @@
-// Runs the bench cards of document 01 on the library's calls and prints a line for each: what was asked, a colon, what came out.
+// Runs the bench cards of document 01, and leaves of document 02 worked out by hand, on the library's calls and prints a line for each: what was asked, a colon,
+// what came out.
 mod inner;
 
 ghost use Prim.Native.Nat.{_≤_};
@@ -24,7 +25,7 @@ fn print_parts(line: &mut [u8], book: &[u8], codebook: &[u8]) -> usize
     means + predictors + searches + inner::sample_cards::print_samples(line)
 }
 
-// All cards. Reading the first one back, the levels, the sums and the signed numbers are no cards, and are counted by themselves.
+// All cards. Reading the first one back, the levels, the sums, the signed numbers and the margins are no cards, and are counted by themselves.
 fn print_cards(line: &mut [u8], book: &[u8], codebook: &[u8]) {
     let planes = print_planes(line, book, codebook);
     let back = inner::small_planes::print_read_back(line, book, codebook);
@@ -32,7 +33,8 @@ fn print_cards(line: &mut [u8], book: &[u8], codebook: &[u8]) {
     let levels = inner::levels::print_levels(line);
     let sums = inner::levels::print_sums(line);
     let texts = inner::signed_texts::print_texts(line);
-    inner::line::print_counts(line, planes + parts, back, levels, sums, texts);
+    let margins = inner::margin_cards::print_margins(line, book);
+    inner::line::print_counts(line, planes + parts, back, levels, sums, texts, margins);
 }
 
 fn main() {

@@ -1,4 +1,4 @@
--- The claim about a whole plane, written and read back (document 00, demand 3; document 01, "Behind demand 3"; document 02, §5).
+-- The claim about a whole plane, written and read back (document 00, demand 3; document 01, "Behind demand 3"; document 02, §4, §5).
 use Prim.Native.Nat.{ℕ, suc, _+_, _*_, _≤_, _<_}
 use mathlib.Core.Bool.{Bool, true}
 use mathlib.Core.List.{List}
@@ -69,7 +69,7 @@ module _ (g : Given) (t : Task) (out : List ℕ) (start : ℕ) (a : Slices) wher
     -- 4. the reader, given that output or any bytes that pass 21 and begin as it does up to the next bit, and any slices that pass 20, takes exactly those bits
     -- and ends with the writer's next bit, reconstruction and block vectors
     pub read-back : (bytes : List ℕ) (d : Slices) → take (final .next) (bitsOf bytes) ≡ take (final .next) (final .out) → startRefusal (length bytes) start ≡ 0 → slicesRefusal g d ≡ 0 → ReadBack g bytes start d stateAt
-    -- 5. in each plan every other pruning over the same leaf choices costs at least as much
+    -- 5. in each plan every other pruning over the same leaf choices, those that the task's margin gives, costs at least as much
     pub no-pruning-cheaper : (k : ℕ) → k < count g → All (λ m. (cut : ℕ → Bool) → planCost (planningFor g t k m) ≤ prunedCost (planningFor g t k m) cut) (motionsTried g t k (near g (stateAt k .slices) k))
     -- 6. no mode tried, and under an allowance no fitting mode, costs less than the one written
     pub no-mode-cheaper : (k : ℕ) → k < count g → All (λ c. modeCost k (wrote g t k (stateAt k)) ≤ modeCost k c) (fitting g t k (near g (stateAt k .slices) k) (stateAt k .bits))
@@ -83,6 +83,6 @@ module _ (g : Given) (t : Task) (out : List ℕ) (start : ℕ) (a : Slices) wher
     pub source : Bytes (t .source)
     pub reference : Bytes (g .reference .samples)
 
-  -- what has to be shown of every plane: one that no refusal meets, with lambda at most 2^48 and an allowance, if any, that holds a SKIP code for each macroblock, written to its last macroblock
+  -- what has to be shown of every plane: one that no refusal meets, with lambda at most 2^48, at any margin, and with an allowance, if any, that holds a SKIP code for each macroblock, written to its last macroblock
   abbrev pub Claimed : Type 0
   Claimed = canSkipRest (t .limit) g 0 0 ≡ true → InMemory → writeRefusal g t out start a ≡ 0 → t .settings .lambda ≤ largestLambda → writePlane g t (bitsOf out) start a .refusal ≡ 0 → Claim

@@ -51,14 +51,14 @@ module _ (n : ℕ) (vs ws : Vectors) (same : VectorsAgree n vs ws) where
   unfolding bestVector
   best-small t s z = omega (arith, argmin-le (stageError ws t s z) 15)
 
-  pub stages-same : (t : List ℕ) (k s : ℕ) (z : List ℤ) → s + k ≤ n → stages vs t k s z ≡ stages ws t k s z
+  pub stages-same : (margin : ℕ) (t : List ℕ) (k s : ℕ) (z : List ℤ) → s + k ≤ n → stages margin vs t k s z ≡ stages margin ws t k s z
   unfolding stages
-  stages-same t zero s z h = refl
-  stages-same t (suc k) s z h =
+  stages-same margin t zero s z h = refl
+  stages-same margin t (suc k) s z h =
       let j = bestVector ws t s z in
       let l : s < n = omega arith in
       let m = best-small t s z in
-      rw (best-same t s z l, error-same t s z j l m, same s j l m, stages-same t k (suc s) (plus z (ws s j)) (omega arith))
+      rw (best-same t s z l, error-same t s z j l m, same s j l m, stages-same margin t k (suc s) (plus z (ws s j)) (omega arith))
 
   pub staged-same : (js : List ℕ) (s : ℕ) (z : List ℤ) → s + length js ≤ n → Small js → staged vs s z js ≡ staged ws s z js
   unfolding staged
@@ -83,14 +83,14 @@ module _ (terms : LeafTerms) (vs ws : Vectors) (same : VectorsAgree (terms .cap)
   unfolding codedLeaf
   coded-same =
       let m = meanOf (terms .half) (residual t p) (length t) in
-      ap (coded m) (stages-same n vs ws same t n 0 (seeded m p) (omega arith))
+      ap (coded m) (stages-same n vs ws same (terms .margin) t n 0 (seeded m p) (omega arith))
 
   pub coded-shown-same : leafShown vs p (codedLeaf terms vs t p) ≡ leafShown ws p (codedLeaf terms ws t p)
   unfolding codedLeaf
   coded-shown-same =
       let m = meanOf (terms .half) (residual t p) (length t) in
       ap (leafShown vs p) coded-same
-      ∙ shown-same n vs ws same p m (stages ws t n 0 (seeded m p)) (stages-few ws t n 0 (seeded m p)) (stages-small ws t n 0 (seeded m p))
+      ∙ shown-same n vs ws same p m (stages (terms .margin) ws t n 0 (seeded m p)) (stages-few (terms .margin) ws t n 0 (seeded m p)) (stages-small (terms .margin) ws t n 0 (seeded m p))
 
   -- the leaf that the rules choose, and what it shows
   pub rule-same : leafRule terms vs t p ≡ leafRule terms ws t p

@@ -1,4 +1,4 @@
--- The leaf rules: what a leaf shows, and which leaf the search chooses (document 01, `svq1_enc_leaf.rs` and "Reading").
+-- The leaf rules: what a leaf shows, and which leaf the search chooses (document 01, `svq1_enc_leaf.rs` and "Reading"; document 02, §4).
 use Prim.Native.Nat.{ℕ, zero, suc, _+_, _*_}
 use mathlib.Core.Bool.{Bool, _&&_}
 use mathlib.Core.List.{List, [], _∷_, map}
@@ -63,22 +63,22 @@ stageError vs t s z j = sse t (samples (plus z (vs s j)))
 unfoldable pub bestVector : Vectors → List ℕ → ℕ → List ℤ → ℕ
 bestVector vs t s z = argmin (stageError vs t s z) 15
 
--- a stage stays where the error strictly falls
-abbrev pub stays : ℕ → ℕ → Bool
-stays before after = ltb after before
+-- a stage stays where the error before it is greater than the error after it plus the margin (document 02, §4); the numbers have no bound, so no sum wraps
+unfoldable pub stays : ℕ → ℕ → ℕ → Bool
+stays margin before after = ltb (after + margin) before
 
 -- the stages' indices, at most k of them from stage s on: the first stage that does not stay ends the leaf
-unfoldable pub stages : Vectors → List ℕ → ℕ → ℕ → List ℤ → List ℕ
-stages vs t zero s z = []
-stages vs t (suc k) s z =
+unfoldable pub stages : ℕ → Vectors → List ℕ → ℕ → ℕ → List ℤ → List ℕ
+stages margin vs t zero s z = []
+stages margin vs t (suc k) s z =
     let j = bestVector vs t s z in
-    pick (stays (sse t (samples z)) (stageError vs t s z j)) (j ∷ stages vs t k (suc s) (plus z (vs s j))) []
+    pick (stays margin (sse t (samples z)) (stageError vs t s z j)) (j ∷ stages margin vs t k (suc s) (plus z (vs s j))) []
 
--- the coded leaf for the target t over the predictor p: a mean of the terms' half, and at most as many stages as their cap
+-- the coded leaf for the target t over the predictor p: a mean of the terms' half, and at most as many stages as their cap, each of which earns their margin
 unfoldable pub codedLeaf : LeafTerms → Vectors → List ℕ → List ℕ → Leaf
 codedLeaf terms vs t p =
     let m = meanOf (terms .half) (residual t p) (length t) in
-    coded m (stages vs t (terms .cap) 0 (seeded m p))
+    coded m (stages (terms .margin) vs t (terms .cap) 0 (seeded m p))
 
 -- the choice: skip, where it is allowed and its error is no larger, else the coded leaf
 unfoldable pub leafRule : LeafTerms → Vectors → List ℕ → List ℕ → Leaf
@@ -91,4 +91,4 @@ abbrev pub capAt : ℕ → ℕ → ℕ
 capAt d cap = pick (ltb d 4) cap 0
 
 abbrev pub termsAt : ℕ → LeafTerms → LeafTerms
-termsAt d terms = record { half = terms .half; cap = capAt d (terms .cap); skip = terms .skip }
+termsAt d terms = record { half = terms .half; cap = capAt d (terms .cap); skip = terms .skip; margin = terms .margin }

@@ -1,4 +1,4 @@
--- The leaf search as a call: its refusals and its answer (document 01, `svq1_enc_leaf.rs`, refusals 5 to 8).
+-- The leaf search as a call: its refusals and its answer (document 01, `svq1_enc_leaf.rs`, refusals 5 to 8; document 02, §4).
 use Prim.Native.Nat.{ℕ, zero, suc}
 use mathlib.Core.Bool.{Bool, not, _&&_}
 use mathlib.Core.List.{List}
@@ -25,17 +25,32 @@ pub record BlockIn : Type 0 where
   pub allowSkip : Bool
   pub target : List ℕ
   pub predictor : List ℕ
+  pub margin : ℕ
+
+-- by a call's arguments, in their order
+abbrev pub blockBy : List ℕ → List ℕ → ℕ → ℕ → List ℕ → List ℕ → ℕ → Bool → ℕ → BlockIn
+blockBy book codebook level half target predictor cap allowSkip margin = record {
+  book = book;
+  codebook = codebook;
+  level = level;
+  half = half;
+  cap = cap;
+  allowSkip = allowSkip;
+  target = target;
+  predictor = predictor;
+  margin = margin;
+}
 
 abbrev pub halfAt : ℕ → Svq1Half
 halfAt zero = Intra
 halfAt (suc n) = Inter
 
--- the terms by a call's half, cap and flag
-abbrev pub termsBy : ℕ → ℕ → Bool → LeafTerms
-termsBy half cap allowSkip = record { half = halfAt half; cap = cap; skip = allowSkip }
+-- the terms by a call's half, cap, flag and margin
+abbrev pub termsBy : ℕ → ℕ → Bool → ℕ → LeafTerms
+termsBy half cap allowSkip margin = record { half = halfAt half; cap = cap; skip = allowSkip; margin = margin }
 
 abbrev pub termsOf : BlockIn → LeafTerms
-termsOf b = termsBy (b .half) (b .cap) (b .allowSkip)
+termsOf b = termsBy (b .half) (b .cap) (b .allowSkip) (b .margin)
 
 -- 8: unknown level or half, a block of wrong length, a cap above 6, skip allowed with the intra half
 unfoldable pub blockOk : BlockIn → Bool

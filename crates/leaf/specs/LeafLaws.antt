@@ -3,7 +3,7 @@
 use mathlib.Core.Path.{_≡_, refl, sym, ap, _∙_}
 use mathlib.Core.Bool.{Bool, true, false, _&&_}
 use mathlib.Core.List.{List, [], _∷_}
-use Prim.Native.Nat.{ℕ, zero, suc, _+_, _-_, _≤_, _<_, zero-le, min}
+use Prim.Native.Nat.{ℕ, zero, suc, _+_, _-_, _≤_, _<_, min}
 use native.Mathlib.Omega.{arith}
 use native.Mathlib.Decide.{decLt}
 use lib.Dec.{leb, ltb}
@@ -19,21 +19,23 @@ use Rattle.book.specs.declared.svq1_vlc.Svq1Half.{Svq1Half}
 use Rattle.book.specs.declared.svq1_vlc.Svq1Half.the-variants.{Intra, Inter}
 use Rattle.codebook.specs.Codebook.{vectorAt}
 use Rattle.codebook.specs.Mean.{residual, rounded, clampMean, meanOf, meanPosition, meanAt, saturate}
-use Rattle.leaf.specs.Leaf.{Leaf, skip, coded, Vectors, sse, plus, seeded, staged, samples, leafShown, argmin, stageError, bestVector, stages, codedLeaf, leafRule, capAt, termsAt}
+use Rattle.leaf.specs.Leaf.{Leaf, skip, coded, Vectors, sse, plus, seeded, staged, samples, leafShown, argmin, stageError, bestVector, stays, stages, codedLeaf, leafRule, capAt, termsAt}
 use Rattle.leaf.specs.LeafBitsLaws.{AllowedLeaf}
 use Rattle.leaf.specs.declared.svq1_enc_leaf.LeafTerms.{LeafTerms}
 
--- ---- where the error is 0 already no stage stays
-pub stages-none : (vs : Vectors) (t : List ℕ) (k s : ℕ) (z : List ℤ) → sse t (samples z) ≡ 0 → stages vs t k s z ≡ []
-unfolding stages
-stages-none vs t zero s z e = refl
-stages-none vs t (suc k) s z e = rw (e, le-ltb (stageError vs t s z (bestVector vs t s z)) 0 zero-le)
+-- ---- where the error is within the margin already no stage stays
+pub stages-none : (margin : ℕ) (vs : Vectors) (t : List ℕ) (k s : ℕ) (z : List ℤ) → sse t (samples z) ≤ margin → stages margin vs t k s z ≡ []
+unfolding stages stays
+stages-none margin vs t zero s z h = refl
+stages-none margin vs t (suc k) s z h =
+    let j = bestVector vs t s z in
+    rw (le-ltb (stageError vs t s z j + margin) (sse t (samples z)) (omega arith))
 
 -- so a block that its mean meets exactly is coded by the mean alone
 pub coded-exact : (terms : LeafTerms) (vs : Vectors) (t p : List ℕ) (m : ℤ) → meanOf (terms .half) (residual t p) (length t) ≡ m → sse t (samples (seeded m p)) ≡ 0
     → codedLeaf terms vs t p ≡ coded m []
 unfolding codedLeaf
-coded-exact terms vs t p m e z = rw (e, stages-none vs t (terms .cap) 0 (seeded m p) z)
+coded-exact terms vs t p m e z = rw (e, stages-none (terms .margin) vs t (terms .cap) 0 (seeded m p) (omega (arith, z)))
 
 -- ---- the stages chosen
 pick-le : (q : Bool) (a b k : ℕ) → a ≤ k → b ≤ k → pick q a b ≤ k
@@ -58,13 +60,13 @@ small-cons : (j : ℕ) (js : List ℕ) → j < 16 → Small js → Small (j ∷ 
 small-cons j js h s zero = h
 small-cons j js h s (suc i) = s i
 
-module _ (vs : Vectors) (t : List ℕ) where
-  pub stages-few : (k s : ℕ) (z : List ℤ) → length (stages vs t k s z) ≤ k
+module _ (margin : ℕ) (vs : Vectors) (t : List ℕ) where
+  pub stages-few : (k s : ℕ) (z : List ℤ) → length (stages margin vs t k s z) ≤ k
   unfolding stages
   stages-few zero s z = omega arith
   stages-few (suc k) s z =
       let j = bestVector vs t s z in
-      go (ltb (stageError vs t s z j) (sse t (samples z))) j (stages vs t k (suc s) (plus z (vs s j))) (stages-few k (suc s) (plus z (vs s j)))
+      go (stays margin (sse t (samples z)) (stageError vs t s z j)) j (stages margin vs t k (suc s) (plus z (vs s j))) (stages-few k (suc s) (plus z (vs s j)))
     where
       go : (q : Bool) (j : ℕ) (js : List ℕ) → length js ≤ k → length (pick q (j ∷ js) []) ≤ suc k
       go true j js h = omega arith
@@ -74,12 +76,12 @@ module _ (vs : Vectors) (t : List ℕ) where
   unfolding bestVector
   best-small s z = omega (arith, argmin-le (stageError vs t s z) 15)
 
-  pub stages-small : (k s : ℕ) (z : List ℤ) → Small (stages vs t k s z)
+  pub stages-small : (k s : ℕ) (z : List ℤ) → Small (stages margin vs t k s z)
   unfolding stages
   stages-small zero s z = small-nil
   stages-small (suc k) s z =
       let j = bestVector vs t s z in
-      go (ltb (stageError vs t s z j) (sse t (samples z))) j (stages vs t k (suc s) (plus z (vs s j))) (best-small s z) (stages-small k (suc s) (plus z (vs s j)))
+      go (stays margin (sse t (samples z)) (stageError vs t s z j)) j (stages margin vs t k (suc s) (plus z (vs s j))) (best-small s z) (stages-small k (suc s) (plus z (vs s j)))
     where
       go : (q : Bool) (j : ℕ) (js : List ℕ) → j < 16 → Small js → Small (pick q (j ∷ js) [])
       go true j js h r = small-cons j js h r
@@ -116,13 +118,13 @@ module _ (T : Tables) (vs : Vectors) (d : ℕ) (terms : LeafTerms) (t p : List �
       let m = clampMean (terms .half) z in
       let n = capAt d (terms .cap) in
       let c = capped d (terms .cap) most in
-      let few = stages-few vs t n 0 (seeded m p) in
+      let few = stages-few (terms .margin) vs t n 0 (seeded m p) in
       record {
         place = rw same (clamp-place (terms .half) z);
         back = rw same (clamp-back (terms .half) z);
         few = omega (arith, c .0);
         bare = λ b. let e = c .1 b in omega arith;
-        small = stages-small vs t n 0 (seeded m p);
+        small = stages-small (terms .margin) vs t n 0 (seeded m p);
       }
 
   pub rule-allowed : (terms .skip ≡ true → terms .half ≡ Inter) → AllowedLeaf T d (leafRule (termsAt d terms) vs t p)

@@ -10,6 +10,8 @@ pub mod PagesLaws
 pub mod SignedLaws
 pub mod LeafNeeds
 pub mod AgreeLaws
+pub mod Margin
+pub mod MarginLaws
 pub mod LentNeeds
 pub mod LentNeedsLaws
 pub mod LentReadLaws

@@ -9,9 +9,11 @@ pub enum LeafCode {
     Coded { mean: i16, count: u8 },
 }
 
-// The terms of a leaf's search: which half's tables and vectors, at most how many stages, whether it may be skipped.
+// The terms of a leaf's search: which half's tables and vectors, at most how many stages, whether it may be skipped, and the margin: a stage
+// stays only where it lessens the error by more than this.
 pub struct LeafTerms {
     pub half: Svq1Half,
     pub cap: usize,
     pub skip: bool,
+    pub margin: u32,
 }

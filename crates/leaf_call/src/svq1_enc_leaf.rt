@@ -2,9 +2,10 @@
 pub mod inner;
 
 ghost use mathlib.Core.Path.{_≡_};
+ghost use Prim.Native.Nat.{ℕ};
 ghost use lib.ListN.{length};
 ghost use Rattle.book.specs.Level.{levelNumber};
-ghost use Rattle.leaf.specs.LeafCall.{blockRefusal};
+ghost use Rattle.leaf.specs.LeafCall.{blockBy, blockRefusal};
 ghost use Rattle.leaf_call.specs.LeafAnswer.{blockFits, refusedLeafAnswer, foundAnswer, LeafAnswered, Searchable, SearchFound};
 use super::svq1_enc_leaf::inner::terms_of;
 use book::inner::CODEBOOK_BYTES;
@@ -52,7 +53,7 @@ fn block_fits(level: u8, half: u8, target: usize, predictor: usize, cap: u8, ski
     true
 }
 
-// 5, 6, 7 or 8 of a leaf or a plan, or 0.
+// 5, 6, 7 or 8 of a leaf or a plan, or 0, whatever its margin is.
 pub fn block_refusal(
     book: &[u8],
     codebook: &[u8],
@@ -63,7 +64,7 @@ pub fn block_refusal(
     cap: u8,
     skip: bool,
 ) -> u8
-    ensures { λ r. ⌜ r ≡ blockRefusal (record { book = now (book .entry); codebook = now (codebook .entry); level = level; half = half; cap = cap; allowSkip = skip; target = now (target .entry); predictor = now (predictor .entry) }) ⌝ }
+    ensures { λ r. ⌜ ((margin : ℕ) → r ≡ blockRefusal (blockBy (now (book .entry)) (now (codebook .entry)) level half (now (target .entry)) (now (predictor .entry)) cap skip margin)) ⌝ }
 {
     let refusal = book_check::data_refusal(book, codebook);
     if refusal != 0 {
@@ -150,8 +151,9 @@ pub fn search_leaf(
     predictor: &[u8],
     cap: u8,
     skip: bool,
+    margin: u32,
 ) -> LeafAnswer
-    ensures { λ r. ⌜ LeafAnswered (record { book = now (book .entry); codebook = now (codebook .entry); level = level; half = half; cap = cap; allowSkip = skip; target = now (target .entry); predictor = now (predictor .entry) }) r ⌝ }
+    ensures { λ r. ⌜ LeafAnswered (blockBy (now (book .entry)) (now (codebook .entry)) level half (now (target .entry)) (now (predictor .entry)) cap skip margin) r ⌝ }
 {
     let refusal = block_refusal(book, codebook, level, half, target, predictor, cap, skip);
     if refusal != 0 {
@@ -163,7 +165,7 @@ pub fn search_leaf(
         codebook,
         &mut raised,
         level_at(level as usize),
-        terms_of(half, cap, skip),
+        terms_of(half, cap, skip, margin),
         target,
         predictor,
     )

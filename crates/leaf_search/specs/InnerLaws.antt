@@ -22,7 +22,7 @@ use Rattle.leaf_search.specs.declared.svq1_enc_leaf.inner.Stages.{Stages
 -- a mean, sums seeded with it, and a stage search from there make the coded leaf
 pub coded-done : (terms : LeafTerms) (t p book a b out : List ℕ) (base mean bias : ℕ) (m : ℤ) (r : Stages)
     → subℕ mean 256 ≡ meanOf (terms .half) (residual t p) (length t) → less 256 a ≡ seeded (subℕ mean 256) p
-    → Searched (record { target = t; sums = a; codebook = book; base = base; bias = 256; cap = terms .cap }) b r
+    → Searched (record { target = t; sums = a; codebook = book; base = base; bias = 256; terms = terms }) b r
     → m ≡ subℕ mean 256 → bias ≡ 256 + 128 * r .count → out ≡ samples (less bias b) → r .count ≤ 6
     → Coding terms t p book base (Coded m (r .count)) (r .index) (r .error) out
 unfolding codedLeaf leafShown
@@ -30,11 +30,11 @@ coded-done terms t p book a b out base mean bias m r em es s e eb eo most =
     let vs = vectorsIn book base (length t) in
     let first = seeded (meanOf (terms .half) (residual t p) (length t)) p in
     let z : less 256 a ≡ first = es ∙ ap (λ (x : ℤ). seeded x p) em in
-    let shown : samples (less (256 + 128 * r .count) b) ≡ samples (staged vs 0 first (stages vs t (terms .cap) 0 first)) =
-    ap samples (s .sums ∙ ap (λ (y : List ℤ). staged vs 0 y (stages vs t (terms .cap) 0 y)) z) in
+    let shown : samples (less (256 + 128 * r .count) b) ≡ samples (staged vs 0 first (stages (terms .margin) vs t (terms .cap) 0 first)) =
+    ap samples (s .sums ∙ ap (λ (y : List ℤ). staged vs 0 y (stages (terms .margin) vs t (terms .cap) 0 y)) z) in
     record {
-      leaf = ap₂ coded (e ∙ em) (s .indices ∙ ap (stages vs t (terms .cap) 0) z);
-      erring = s .least ∙ ap (sse t) shown;
+      leaf = ap₂ coded (e ∙ em) (s .indices ∙ ap (stages (terms .margin) vs t (terms .cap) 0) z);
+      erring = s .erring ∙ ap (sse t) shown;
       shown = eo ∙ ap (λ (n : ℕ). samples (less n b)) eb ∙ shown;
       clean = coded-clean m (r .count) (r .index) most (s .six) (s .behind);
     }

@@ -1,16 +1,16 @@
--- Forms of the definitions of Job that reading field after field follows; JobLaws ties each to its definition (document 01, "Refused for the state met", the listing program).
-use Prim.Native.Nat.{ℕ, _+_, _-_, _^_, _≤_}
+-- Forms of the definitions of Job that reading field after field follows; JobLaws ties each to its definition (document 01, "Refused for the state met", the listing program; document 02, §4).
+use Prim.Native.Nat.{ℕ, _+_, _≤_}
 use mathlib.Core.Path.{_≡_}
 use mathlib.Core.List.{List, [], _∷_}
 use mathlib.Core.Option.{Option, none, some}
-use lib.Dec.{eqb, ltb}
+use lib.Dec.{ltb}
 use lib.ListN.{length, take, drop}
 use Rattle.bits.specs.Basics.{pick}
 use Rattle.bits.specs.Calls.{Answer}
-use Rattle.text.specs.Text.{comma, numberUpTo}
+use Rattle.text.specs.Text.{comma, numberUpTo, fieldsOf}
 use Rattle.text.specs.ReadingForms.{countBefore}
 use Rattle.bits.specs.BasicsLaws.{partFrom}
-use Rattle.listing_job.specs.Job.{Job, mostWidth, mostHeight, jobAnswer}
+use Rattle.listing_job.specs.Job.{Job, ontoNumbers, jobRead, jobAnswer}
 use Rattle.listing_job.specs.declared.ListingJob.{ListingJob}
 use Rattle.listing_job.specs.declared.JobRead.{JobRead}
 use Rattle.listing_job.specs.declared.JobRead.the-variants as Told
@@ -19,7 +19,7 @@ use Rattle.listing_job.specs.declared.FieldRead.the-variants.{Field, NoF
 
 -- the job that a line asks for
 abbrev pub jobBy : ListingJob → Job
-jobBy j = record { width = j .width; height = j .height; lambda = j .lambda; radius = j .radius; allowFour = j .four }
+jobBy j = record { width = j .width; height = j .height; lambda = j .lambda; radius = j .radius; allowFour = j .four; margin = j .margin }
 
 -- what the answer of reading a job line stands for, if for a job
 abbrev pub jobGiven : JobRead → Option Job
@@ -60,17 +60,10 @@ pub record FieldFound (most : ℕ) (t : List ℕ) (r : FieldRead) : Type 0 where
   pub within : behindField r ≤ length t
 
 -- ---- all of them
-abbrev pub ontoNumbers : Option ℕ → Option (List ℕ) → Option (List ℕ)
-ontoNumbers o none = none
-ontoNumbers none (some ns) = none
-ontoNumbers (some n) (some ns) = some (n ∷ ns)
-
--- as many fields as bounds, each a number within its bound
-unfoldable pub eachUpTo : List ℕ → List (List ℕ) → Option (List ℕ)
-eachUpTo [] [] = some []
-eachUpTo [] (f ∷ fs) = none
-eachUpTo (m ∷ ms) [] = none
-eachUpTo (m ∷ ms) (f ∷ fs) = ontoNumbers (numberUpTo m f) (eachUpTo ms fs)
+-- bounds, fields and their numbers
+pub data Numbers : List ℕ → List (List ℕ) → List ℕ → Type 0 where
+  no-number : Numbers [] [] []
+  number : {m n : ℕ} {f : List ℕ} {ms ns : List ℕ} {fs : List (List ℕ)} → numberUpTo m f ≡ some n → Numbers ms fs ns → Numbers (m ∷ ms) (f ∷ fs) (n ∷ ns)
 
 abbrev pub ontoRest : Option Taken → (List ℕ → Option (List ℕ)) → Option (List ℕ)
 ontoRest none f = none
@@ -82,16 +75,15 @@ fieldsIn [] t = none
 fieldsIn (m ∷ []) t = ontoNumbers (numberUpTo m t) (some [])
 fieldsIn (m ∷ (k ∷ ms)) t = ontoRest (fieldIn m t) (fieldsIn (k ∷ ms))
 
--- width, height, lambda, radius, four
-abbrev pub bounds : List ℕ
-bounds = mostWidth ∷ mostHeight ∷ (2 ^ 64 - 1) ∷ 255 ∷ 1 ∷ []
-
-abbrev pub jobMade : Option (List ℕ) → Option Job
-jobMade none = none
-jobMade (some []) = none
-jobMade (some (w ∷ [])) = none
-jobMade (some (w ∷ (h ∷ []))) = none
-jobMade (some (w ∷ (h ∷ (l ∷ [])))) = none
-jobMade (some (w ∷ (h ∷ (l ∷ (r ∷ []))))) = none
-jobMade (some (w ∷ (h ∷ (l ∷ (r ∷ (f ∷ [])))))) = some (record { width = w; height = h; lambda = l; radius = r; allowFour = eqb f 1 })
-jobMade (some (w ∷ (h ∷ (l ∷ (r ∷ (f ∷ (x ∷ xs))))))) = none
+-- a line, some of whose fields are read; `ms` are the bounds of the others
+pub record FieldsRead (ms : List ℕ) : Type 0 where
+  pub line : List ℕ
+  -- the text that the last field was taken from, the place behind it there, and the text to come
+  pub before : List ℕ
+  pub place : ℕ
+  pub within : place ≤ length before
+  pub rest : List ℕ
+  -- the job by the numbers of the others
+  pub made : Option (List ℕ) → Option Job
+  pub made-none : made none ≡ none
+  pub is : jobRead (fieldsOf line) ≡ made (fieldsIn ms rest)

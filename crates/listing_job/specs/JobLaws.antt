@@ -1,12 +1,12 @@
 -- Laws of reading a job line field after field. Assumes nothing.
-use Prim.Native.Nat.{ℕ, _+_, _-_, _^_, _≤_, _<_}
+use Prim.Native.Nat.{ℕ, zero, suc, _+_, _-_, _^_, _≤_, _<_}
 use mathlib.Core.Path.{_≡_, refl, sym, ap, _∙_}
 use mathlib.Core.Bool.{Bool, true, false, not, _&&_, true≢false}
 use mathlib.Core.List.{List, [], _∷_}
 use mathlib.Core.Option.{Option, none, some}
 use native.Mathlib.Omega.{arith}
 use lib.Dec.{eqb, leb, ltb}
-use lib.ListN.{length, take, drop, length-drop}
+use lib.ListN.{length, take, drop, getD, length-drop}
 use borrow.Author.Tests.{eqb-true, eqb-false, lt-ltb, le-ltb, ltb-true, ltb-false}
 use Rattle.bits.specs.Basics.{pick, every}
 use Rattle.bits.specs.BasicsLaws.{both-true, partFrom, part-from}
@@ -14,41 +14,12 @@ use Rattle.text.specs.Text.{comma, lineFeed, isDigit, isNumber, valueFrom, numb
 use Rattle.text.specs.ReadingForms.{countBefore, lineBefore}
 use Rattle.text.specs.TextLaws.{none-some, number-le, count-le, count-all, some-piece, pieces-last, pieces-next, lines-none, lines-open, lines-next}
 use Rattle.text.specs.WritingFormsLaws.{digits-without}
-use Rattle.listing_job.specs.Job.{Job, mostWidth, mostHeight, jobOf, jobRead, oneLine, jobIn, jobAnswer}
+use Rattle.listing_job.specs.Job.{Job, mostWidth, mostHeight, bounds, ontoNumbers, eachUpTo, jobOf, jobMade, jobRead, oneLine, jobIn, jobAnswer}
 use Rattle.listing_job.specs.declared.JobRead.{JobRead}
 use Rattle.listing_job.specs.declared.FieldRead.the-variants.{Field, NoField}
-use Rattle.listing_job.specs.JobForms.{jobGiven, jobTold, Taken, takenOf, fieldIn, FieldFound, ontoNumbers, eachUpTo, ontoRest, fieldsIn, bounds, jobMade}
+use Rattle.listing_job.specs.JobForms.{jobGiven, jobTold, takenOf, fieldIn, FieldFound, Numbers, no-number, number, ontoRest, fieldsIn, FieldsRead}
 
 -- ---- all fields
--- a job is read where each field is a number within its bound
-made : (w h l r f : Option ℕ) → jobOf w h l r f ≡ jobMade (ontoNumbers w (ontoNumbers h (ontoNumbers l (ontoNumbers r (ontoNumbers f (some []))))))
-made none h l r none = refl
-made none h l none (some f) = refl
-made none h none (some r) (some f) = refl
-made none none (some l) (some r) (some f) = refl
-made none (some h) (some l) (some r) (some f) = refl
-made (some w) none l r none = refl
-made (some w) none l none (some f) = refl
-made (some w) none none (some r) (some f) = refl
-made (some w) none (some l) (some r) (some f) = refl
-made (some w) (some h) none r none = refl
-made (some w) (some h) none none (some f) = refl
-made (some w) (some h) none (some r) (some f) = refl
-made (some w) (some h) (some l) none none = refl
-made (some w) (some h) (some l) none (some f) = refl
-made (some w) (some h) (some l) (some r) none = refl
-made (some w) (some h) (some l) (some r) (some f) = refl
-
-job-made : (fs : List (List ℕ)) → jobRead fs ≡ jobMade (eachUpTo bounds fs)
-unfolding jobRead eachUpTo
-job-made [] = refl
-job-made (w ∷ []) = refl
-job-made (w ∷ (h ∷ [])) = refl
-job-made (w ∷ (h ∷ (l ∷ []))) = refl
-job-made (w ∷ (h ∷ (l ∷ (r ∷ [])))) = refl
-job-made (w ∷ (h ∷ (l ∷ (r ∷ (f ∷ []))))) = made (numberUpTo mostWidth w) (numberUpTo mostHeight h) (numberUpTo (2 ^ 64 - 1) l) (numberUpTo 255 r) (numberUpTo 1 f)
-job-made (w ∷ (h ∷ (l ∷ (r ∷ (f ∷ (x ∷ xs)))))) = refl
-
 -- a number holds no comma
 digits-number : (t : List ℕ) → isNumber t ≡ true → every isDigit t ≡ true
 unfolding isNumber every
@@ -132,10 +103,6 @@ fields-in (k ∷ ms) m t = go (ltb n (length t)) refl (fields-in ms k (drop (n +
         rw (first-field t h, field-taken m t h, next) (onto-taken (numberUpTo m (take n t)) (drop (n + 1) t) (fieldsIn (k ∷ ms)))
     go false q next = let h = ltb-false n (length t) q in rw (one-field t h, no-field m t h)
 
--- a job, field after field
-pub job-fields : (t : List ℕ) → jobRead (fieldsOf t) ≡ jobMade (fieldsIn bounds t)
-job-fields t = job-made (fieldsOf t) ∙ ap jobMade (fields-in (mostHeight ∷ (2 ^ 64 - 1) ∷ 255 ∷ 1 ∷ []) mostWidth t)
-
 -- ---- what reading a field answers
 module _ (most : ℕ) (t : List ℕ) (n : ℕ) (e : n ≡ countBefore comma t) where
   -- no comma stands behind it
@@ -152,23 +119,41 @@ module _ (most : ℕ) (t : List ℕ) (n : ℕ) (e : n ≡ countBefore comma t) w
     pub field-read : (v : ℕ) → numberUpTo most (take n t) ≡ some v → FieldFound most t (Field v (n + 1))
     field-read v q = record { is = sym (first ∙ rw q); within = omega arith }
 
-taken-le : (most v : ℕ) (o : Option ℕ) (s r : List ℕ) → ((m : ℕ) → o ≡ some m → m ≤ most) → some (record { number = v; rest = s }) ≡ takenOf o r → v ≤ most
-taken-le most v none s r f q = none-some (sym q)
-taken-le most v (some m) s r f q =
-    let w : _≡_ {A = Taken} (record { number = v; rest = s }) (record { number = m; rest = r }) = cc in
-    omega (arith, f m refl, ap (λ (x : Taken). x .number) w)
+-- ---- a job, field after field
+pub job-fields : (t : List ℕ) → jobRead (fieldsOf t) ≡ jobMade (fieldsIn bounds t)
+unfolding jobRead
+job-fields t = ap jobMade (fields-in _ _ t)
 
--- its number is within the bound
-pub field-le : (most : ℕ) (t : List ℕ) (v at : ℕ) → FieldFound most t (Field v at) → v ≤ most
-unfolding fieldIn
-field-le most t v at f = go (ltb n (length t)) (f .is)
-  where
-    n : ℕ
-    n = countBefore comma t
+abbrev pub none-read : List ℕ → FieldsRead bounds
+none-read t = record { line = t; before = t; place = 0; within = omega arith; rest = t; made = jobMade; made-none = refl; is = job-fields t }
 
-    go : (b : Bool) → some (record { number = v; rest = partFrom at t }) ≡ pick b (takenOf (numberUpTo most (take n t)) (drop (n + 1) t)) none → v ≤ most
-    go true q = taken-le most v (numberUpTo most (take n t)) (partFrom at t) (drop (n + 1) t) (λ m z. number-le most m (take n t) z) q
-    go false q = none-some (sym q)
+module _ {m k : ℕ} {ms : List ℕ} (r : FieldsRead (m ∷ (k ∷ ms))) where
+  pub field-is : {v at : ℕ} → FieldFound m (r .rest) (Field v at) → jobRead (fieldsOf (r .line)) ≡ r .made (ontoNumbers (some v) (fieldsIn (k ∷ ms) (partFrom at (r .rest))))
+  unfolding fieldsIn
+  field-is f = r .is ∙ rw (← f .is)
+
+  -- one field more
+  abbrev pub then-field : {v at : ℕ} → FieldFound m (r .rest) (Field v at) → FieldsRead (k ∷ ms)
+  then-field {v} {at} f = record {
+    line = r .line;
+    before = r .rest;
+    place = at;
+    within = f .within;
+    rest = partFrom at (r .rest);
+    made = λ o. r .made (ontoNumbers (some v) o);
+    made-none = r .made-none;
+    is = field-is f;
+  }
+
+  -- the first that is none decides
+  pub then-none : FieldFound m (r .rest) NoField → none ≡ jobRead (fieldsOf (r .line))
+  unfolding fieldsIn
+  then-none f = rw (r .is, ← f .is, r .made-none)
+
+-- the last field
+pub then-last : {m : ℕ} (r : FieldsRead (m ∷ [])) {o : Option ℕ} → o ≡ numberUpTo m (r .rest) → r .made (ontoNumbers o (some [])) ≡ jobRead (fieldsOf (r .line))
+unfolding fieldsIn
+then-last r e = rw (r .is, e)
 
 -- ---- the line
 behind-line : (l u : List ℕ) → 0 < length u → oneLine (lineBefore l (linesOf u)) ≡ none
@@ -210,28 +195,42 @@ module _ (t : List ℕ) (n : ℕ) (e : n ≡ countBefore lineFeed t) where
       rw (lines-next t (omega arith), lines-none (drop (countBefore lineFeed t + 1) t) none-left, e)
 
 -- ---- what a job can ask for
-made-small : (w h l r f : Option ℕ) (j : Job) → ((n : ℕ) → w ≡ some n → n ≤ mostWidth) → ((n : ℕ) → h ≡ some n → n ≤ mostHeight) → jobOf w h l r f ≡ some j
-    → (j .width ≤ mostWidth) × (j .height ≤ mostHeight)
-made-small none h l r f j a b q = none-some q
-made-small (some w) none l r f j a b q = none-some q
-made-small (some w) (some h) none r f j a b q = none-some q
-made-small (some w) (some h) (some l) none f j a b q = none-some q
-made-small (some w) (some h) (some l) (some r) none j a b q = none-some q
-made-small (some w) (some h) (some l) (some r) (some f) j a b q =
-    let is : _≡_ {A = Job} (record { width = w; height = h; lambda = l; radius = r; allowFour = eqb f 1 }) j = cc in
-    (omega (arith, a w refl, ap (λ (x : Job). x .width) is), omega (arith, b h refl, ap (λ (x : Job). x .height) is))
+each-number : (ms : List ℕ) (fs : List (List ℕ)) (ns : List ℕ) → eachUpTo ms fs ≡ some ns → Numbers ms fs ns
+unfolding eachUpTo
+each-number [] [] ns q = let is : ns ≡ [] = cc in rw is no-number
+each-number [] (f ∷ fs) ns q = none-some q
+each-number (m ∷ ms) [] ns q = none-some q
+each-number (m ∷ ms) (f ∷ fs) ns q = go (numberUpTo m f) refl (eachUpTo ms fs) (each-number ms fs) q
+  where
+    go : (o : Option ℕ) → numberUpTo m f ≡ o → (p : Option (List ℕ)) → ((rest : List ℕ) → p ≡ some rest → Numbers ms fs rest)
+        → ontoNumbers o p ≡ some ns → Numbers (m ∷ ms) (f ∷ fs) ns
+    go o e none next q = none-some q
+    go none e (some rest) next q = none-some q
+    go (some n) e (some rest) next q = let is : ns ≡ n ∷ rest = cc in rw is (number e (next rest refl))
 
-fields-small : (fs : List (List ℕ)) (j : Job) → jobRead fs ≡ some j → (j .width ≤ mostWidth) × (j .height ≤ mostHeight)
+pub job-numbers : (fs : List (List ℕ)) (j : Job) → jobRead fs ≡ some j → (ns : List ℕ) × Numbers bounds fs ns × (j ≡ jobOf ns)
 unfolding jobRead
-fields-small [] j q = none-some q
-fields-small (w ∷ []) j q = none-some q
-fields-small (w ∷ (h ∷ [])) j q = none-some q
-fields-small (w ∷ (h ∷ (l ∷ []))) j q = none-some q
-fields-small (w ∷ (h ∷ (l ∷ (r ∷ [])))) j q = none-some q
-fields-small (w ∷ (h ∷ (l ∷ (r ∷ (f ∷ []))))) j q =
-    made-small (numberUpTo mostWidth w) (numberUpTo mostHeight h) (numberUpTo (2 ^ 64 - 1) l) (numberUpTo 255 r) (numberUpTo 1 f) j
-    (λ n z. number-le mostWidth n w z) (λ n z. number-le mostHeight n h z) q
-fields-small (w ∷ (h ∷ (l ∷ (r ∷ (f ∷ (x ∷ xs)))))) j q = none-some q
+job-numbers fs j = go (eachUpTo bounds fs) (each-number bounds fs)
+  where
+    go : (o : Option (List ℕ)) → ((ns : List ℕ) → o ≡ some ns → Numbers bounds fs ns) → jobMade o ≡ some j → (ns : List ℕ) × Numbers bounds fs ns × (j ≡ jobOf ns)
+    go none f q = none-some q
+    go (some ns) f q = (ns, f ns refl, cc)
+
+-- each number is within its bound
+number-within : {ms ns : List ℕ} {fs : List (List ℕ)} → Numbers ms fs ns → (k : ℕ) → getD ns k 0 ≤ getD ms k 0
+number-within no-number k = omega arith
+number-within (number {m} {n} {f} e rest) zero = number-le m n f e
+number-within (number e rest) (suc k) = number-within rest k
+
+-- so it fits what holds it
+abbrev pub JobFits : Job → Type 0
+JobFits j = (j .width ≤ mostWidth) × (j .height ≤ mostHeight) × (j .radius ≤ 255) × (j .margin ≤ 2 ^ 32 - 1)
+
+pub fields-small : (fs : List (List ℕ)) (j : Job) → jobRead fs ≡ some j → JobFits j
+fields-small fs j q =
+    let numbers = job-numbers fs j q in
+    let le = number-within (numbers .1) in
+    rw (numbers .2) (le 0, le 1, le 3, le 5)
 
 -- the program's sizes
 pub job-small : (t : List ℕ) (j : Job) → jobIn t ≡ some j → (j .width ≤ mostWidth) × (j .height ≤ mostHeight)
@@ -241,7 +240,7 @@ job-small t j = go (linesOf t)
     go : (o : Option (List (List ℕ))) → oneLine o ≡ some j → (j .width ≤ mostWidth) × (j .height ≤ mostHeight)
     go none q = none-some q
     go (some []) q = none-some q
-    go (some (l ∷ [])) q = fields-small (fieldsOf l) j q
+    go (some (l ∷ [])) q = let s = fields-small (fieldsOf l) j q in (s .0, s .1)
     go (some (l ∷ (m ∷ ms))) q = none-some q
 
 -- the answer tells which job, if any

@@ -1,4 +1,4 @@
-// The job line of the listing program: `width,height,lambda,radius,four`.
+// The job line of the listing program: `width,height,lambda,radius,four,margin`.
 ghost use mathlib.Core.Path.{_≡_};
 ghost use Rattle.text.specs.Text.{fieldsOf};
 ghost use Rattle.listing_job.specs.Job.{jobIn, jobRead, jobAnswer};
@@ -12,6 +12,7 @@ pub struct ListingJob {
     pub lambda: u64,
     pub radius: u8,
     pub four: bool,
+    pub margin: u32,
 }
 
 // What reading a job line finds.
@@ -40,7 +41,7 @@ fn read_field(t: &[u8], most: u64) -> FieldRead
     FieldRead::Field(value, n + 1)
 }
 
-// The five fields of a line, without its line feed.
+// The six fields of a line, without its line feed.
 fn read_fields(t: &[u8]) -> JobRead
     ensures { λ r. ⌜ jobGiven r ≡ jobRead (fieldsOf (now (t .entry))) ⌝ }
 {
@@ -59,7 +60,11 @@ fn read_fields(t: &[u8]) -> JobRead
     let FieldRead::Field(radius, d) = read_field(behind_lambda, 255) else {
         return JobRead::NoJob;
     };
-    let NumberRead::Number(four) = text::read_number(&behind_lambda[d..], 1) else {
+    let behind_radius = &behind_lambda[d..];
+    let FieldRead::Field(four, e) = read_field(behind_radius, 1) else {
+        return JobRead::NoJob;
+    };
+    let NumberRead::Number(margin) = text::read_number(&behind_radius[e..], 4294967295) else {
         return JobRead::NoJob;
     };
     JobRead::Job(ListingJob {
@@ -68,6 +73,7 @@ fn read_fields(t: &[u8]) -> JobRead
         lambda,
         radius: radius as u8,
         four: four == 1,
+        margin: margin as u32,
     })
 }
 

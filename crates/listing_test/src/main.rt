@@ -27,7 +27,7 @@ fn show(name: &[u8], book: &[u8], codebook: &[u8], source: &[u8], reference: &[u
 
 // The job of the first card.
 fn card(name: &[u8], book: &[u8], codebook: &[u8], source: &[u8], reference: &[u8]) {
-    show(name, book, codebook, source, reference, b"16,16,32,8,1\n");
+    show(name, book, codebook, source, reference, b"16,16,32,8,1,0\n");
 }
 
 // The place of the next b from `at` on, or the end.
@@ -164,7 +164,7 @@ fn lengths(book: &[u8], codebook: &[u8], source: &[u8], reference: &[u8]) {
     card(b"reference too long", book, c, s, reference);
     card(b"codebook too short", book, part(c, 0, 23039), s, r);
     card(b"codebook too long", book, codebook, s, r);
-    show(b"1 and 2", book, c, b"", r, b"16,16,32,8,2\n");
+    show(b"1 and 2", book, c, b"", r, b"16,16,32,8,2,0\n");
     card(b"2 and 4", book, c, b"", b"");
     card(b"4 and 5", book, b"", s, b"");
     card(b"no file but the job", b"", b"", b"", b"");
@@ -172,33 +172,44 @@ fn lengths(book: &[u8], codebook: &[u8], source: &[u8], reference: &[u8]) {
 
 fn job_cases(book: &[u8], codebook: &[u8], source: &[u8], reference: &[u8]) {
     jobs(
-        b"first card|16,16,32,8,1\n|\
+        b"first card|16,16,32,8,1,0\n|\
         no job||\
-        no line feed|16,16,32,8,1|\
-        two lines|16,16,32,8,1\n16,16,32,8,1\n|\
-        an empty line behind|16,16,32,8,1\n\n|\
-        carriage return|16,16,32,8,1\r\n|\
-        four fields|16,16,32,8\n|\
-        six fields|16,16,32,8,1,0\n|\
-        an empty field|16,16,,8,1\n|\
-        a leading zero|016,16,32,8,1\n|\
-        two zeros|16,16,32,00,1\n|\
-        a plus|+16,16,32,8,1\n|\
-        a minus|16,16,-32,8,1\n|\
-        a blank before|16, 16,32,8,1\n|\
-        a blank behind|16,16,32,8,1 \n|\
-        a letter|16,16,3a,8,1\n|\
-        width 177|177,16,32,8,1\n|\
-        height 145|16,145,32,8,1\n|\
-        width 0|0,16,32,8,1\n|\
-        height 0|16,0,32,8,1\n|\
-        the largest size, source too short|176,144,32,8,1\n|\
-        lambda 2^64-1|16,16,18446744073709551615,8,1\n|\
-        lambda 2^64|16,16,18446744073709551616,8,1\n|\
-        radius 255|16,16,32,255,1\n|\
-        radius 256|16,16,32,256,1\n|\
-        four 0|16,16,32,8,0\n|\
-        four 2|16,16,32,8,2\n|",
+        no line feed|16,16,32,8,1,0|\
+        two lines|16,16,32,8,1,0\n16,16,32,8,1,0\n|\
+        an empty line behind|16,16,32,8,1,0\n\n|\
+        carriage return|16,16,32,8,1,0\r\n|\
+        the old job of five fields|16,16,32,8,1\n|\
+        a job of seven fields|16,16,32,8,1,0,0\n|\
+        a comma behind|16,16,32,8,1,0,\n|\
+        an empty field|16,16,,8,1,0\n|\
+        a leading zero|016,16,32,8,1,0\n|\
+        two zeros|16,16,32,00,1,0\n|\
+        a plus|+16,16,32,8,1,0\n|\
+        a minus|16,16,-32,8,1,0\n|\
+        a blank before|16, 16,32,8,1,0\n|\
+        a blank behind|16,16,32,8,1,0 \n|\
+        a letter|16,16,3a,8,1,0\n|\
+        width 177|177,16,32,8,1,0\n|\
+        height 145|16,145,32,8,1,0\n|\
+        width 0|0,16,32,8,1,0\n|\
+        height 0|16,0,32,8,1,0\n|\
+        the largest size, source too short|176,144,32,8,1,0\n|\
+        lambda 2^64-1|16,16,18446744073709551615,8,1,0\n|\
+        lambda 2^64|16,16,18446744073709551616,8,1,0\n|\
+        radius 255|16,16,32,255,1,0\n|\
+        radius 256|16,16,32,256,1,0\n|\
+        four 0|16,16,32,8,0,0\n|\
+        four 2|16,16,32,8,2,0\n|\
+        margin 1|16,16,32,8,1,1\n|\
+        margin 2^32-1|16,16,32,8,1,4294967295\n|\
+        margin 2^32|16,16,32,8,1,4294967296\n|\
+        margin 2^64|16,16,32,8,1,18446744073709551616\n|\
+        margin -1|16,16,32,8,1,-1\n|\
+        margin empty|16,16,32,8,1,\n|\
+        margin of two zeros|16,16,32,8,1,00\n|\
+        margin with a leading zero|16,16,32,8,1,01\n|\
+        margin a blank|16,16,32,8,1, \n|\
+        the longest line, source too short|176,144,18446744073709551615,255,1,4294967295\n|",
         book,
         codebook,
         source,
@@ -380,7 +391,7 @@ fn cut_planes(book: &[u8], codebook: &[u8], source: &[u8], reference: &[u8]) {
         codebook,
         part(source, 0, 1),
         part(reference, 0, 256),
-        b"1,1,18446744073709551615,8,1\n",
+        b"1,1,18446744073709551615,8,1,0\n",
     );
     show(
         b"17 by 16",
@@ -388,7 +399,7 @@ fn cut_planes(book: &[u8], codebook: &[u8], source: &[u8], reference: &[u8]) {
         codebook,
         part(source, 0, 272),
         part(reference, 0, 512),
-        b"17,16,18446744073709551615,8,1\n",
+        b"17,16,18446744073709551615,8,1,0\n",
     );
     show(
         b"16 by 17",
@@ -396,7 +407,7 @@ fn cut_planes(book: &[u8], codebook: &[u8], source: &[u8], reference: &[u8]) {
         codebook,
         part(source, 0, 272),
         part(reference, 0, 512),
-        b"16,17,18446744073709551615,8,1\n",
+        b"16,17,18446744073709551615,8,1,0\n",
     );
     show(
         b"15 by 1",
@@ -404,7 +415,7 @@ fn cut_planes(book: &[u8], codebook: &[u8], source: &[u8], reference: &[u8]) {
         codebook,
         part(source, 0, 15),
         part(reference, 0, 256),
-        b"15,1,18446744073709551615,8,1\n",
+        b"15,1,18446744073709551615,8,1,0\n",
     );
     show(
         b"176 by 143",
@@ -412,7 +423,7 @@ fn cut_planes(book: &[u8], codebook: &[u8], source: &[u8], reference: &[u8]) {
         codebook,
         part(source, 0, 25168),
         reference,
-        b"176,143,18446744073709551615,8,1\n",
+        b"176,143,18446744073709551615,8,1,0\n",
     );
     show(
         b"175 by 144",
@@ -420,7 +431,63 @@ fn cut_planes(book: &[u8], codebook: &[u8], source: &[u8], reference: &[u8]) {
         codebook,
         part(source, 0, 25200),
         reference,
-        b"175,144,18446744073709551615,8,1\n",
+        b"175,144,18446744073709551615,8,1,0\n",
+    );
+}
+
+// Columns of 103 and 97 over a reference of 0, at lambda 0, where cost is error alone. The codebook is 0 but for two vectors of one half's 8 by 8 blocks, in such columns too:
+// the first of stage 0, at `ones_at`, has 1 and -1, the first of stage 1, at `twos_at`, has 2 and -2.
+// - The mean of every block is 100, which leaves 3 at each sample: an error of 2,304, however the macroblock is split. In a block of 64 that is 576; stage 0 leaves 2, 256 in all,
+//   and stage 1 then nothing. So stage 0 stays where the margin is below 576 - 256 = 320, and stage 1 behind it where it is below 256.
+// - Bits under the house book: INTRA 5, INTER 3 with 2 for its vector; each block's flag 1; a leaf's stage count 3 (none or one) or 5 (two), its mean 13 (INTRA) or 15 (INTER),
+//   and 4 a stage. Without stages a split gains nothing: INTRA 5 + 1 + 3 + 13 = 22, INTER 5 + 1 + 3 + 15 = 24. With them the macroblock is split twice: INTRA
+//   5 + 3 + 4 * (1 + 3 + 13 + 4) = 92 with one, 5 + 3 + 4 * (1 + 5 + 13 + 8) = 116 with two; INTER 5 + 3 + 4 * (1 + 3 + 15 + 4) = 100 and 5 + 3 + 4 * (1 + 5 + 15 + 8) = 124.
+// - INTER_4MV has INTER's errors with more bits; SKIP has 128 * (103^2 + 97^2). So the half that has the vectors is written while a stage stays, else INTRA.
+// At 2^32-1 a sum of 32 bits would wrap, 256 + 2^32-1 to 255, and stage 0 would stay.
+fn stripes(cases: &[u8], book: &[u8], reference: &[u8], ones_at: usize, twos_at: usize) {
+    let source = b"gagagagagagagagagagagagagagagagagagagagagagagagagagagagagagagaga\
+        gagagagagagagagagagagagagagagagagagagagagagagagagagagagagagagaga\
+        gagagagagagagagagagagagagagagagagagagagagagagagagagagagagagagaga\
+        gagagagagagagagagagagagagagagagagagagagagagagagagagagagagagagaga";
+    let ones = b"\x01\xff\x01\xff\x01\xff\x01\xff\x01\xff\x01\xff\x01\xff\x01\xff\
+        \x01\xff\x01\xff\x01\xff\x01\xff\x01\xff\x01\xff\x01\xff\x01\xff\
+        \x01\xff\x01\xff\x01\xff\x01\xff\x01\xff\x01\xff\x01\xff\x01\xff\
+        \x01\xff\x01\xff\x01\xff\x01\xff\x01\xff\x01\xff\x01\xff\x01\xff";
+    let twos = b"\x02\xfe\x02\xfe\x02\xfe\x02\xfe\x02\xfe\x02\xfe\x02\xfe\x02\xfe\
+        \x02\xfe\x02\xfe\x02\xfe\x02\xfe\x02\xfe\x02\xfe\x02\xfe\x02\xfe\
+        \x02\xfe\x02\xfe\x02\xfe\x02\xfe\x02\xfe\x02\xfe\x02\xfe\x02\xfe\
+        \x02\xfe\x02\xfe\x02\xfe\x02\xfe\x02\xfe\x02\xfe\x02\xfe\x02\xfe";
+    let mut codebook = [0u8; 23040];
+    text::put_text(&mut codebook, ones_at, ones);
+    text::put_text(&mut codebook, twos_at, twos);
+    jobs(cases, book, &codebook, source, reference);
+}
+
+// The vectors in the intra page, and in the inter page behind it.
+fn margins(book: &[u8], reference: &[u8]) {
+    stripes(
+        b"intra stripes, margin 0|16,16,0,8,1,0\n|\
+        intra stripes, margin 255|16,16,0,8,1,255\n|\
+        intra stripes, margin 256|16,16,0,8,1,256\n|\
+        intra stripes, margin 319|16,16,0,8,1,319\n|\
+        intra stripes, margin 320|16,16,0,8,1,320\n|\
+        intra stripes, margin 2^32-1|16,16,0,8,1,4294967295\n|",
+        book,
+        reference,
+        0,
+        1024,
+    );
+    stripes(
+        b"inter stripes, margin 0|16,16,0,8,1,0\n|\
+        inter stripes, margin 255|16,16,0,8,1,255\n|\
+        inter stripes, margin 256|16,16,0,8,1,256\n|\
+        inter stripes, margin 319|16,16,0,8,1,319\n|\
+        inter stripes, margin 320|16,16,0,8,1,320\n|\
+        inter stripes, margin 2^32-1|16,16,0,8,1,4294967295\n|",
+        book,
+        reference,
+        6144,
+        7168,
     );
 }
 
@@ -440,6 +507,7 @@ fn run(house: &[u8], codebook: &[u8], source: &[u8], reference: &[u8]) {
     first_lines(house, c, s, r);
     middle_lines(house, c, s, r);
     last_lines(house, c, s, r);
+    margins(house, r);
 }
 
 // The planes that are cut, under the house book.

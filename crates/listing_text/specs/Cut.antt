@@ -1,13 +1,13 @@
--- What the listing program reads of its files: of each one byte more than the longest that its length does not refuse (document 01, "The book", "Refused for what came in", the listing program).
+-- What the listing program reads of its files: of each one byte more than the longest that its length does not refuse (document 01, "The book", "Refused for what came in", the listing program; document 02, §4).
 use Prim.Native.Nat.{ℕ, _+_, _*_}
 use lib.ListN.{take}
 use Rattle.book.specs.Book.{codebookBytes}
 use Rattle.listing_job.specs.Job.{mostWidth, mostHeight}
 use Rattle.listing_text.specs.Listing.{Files}
 
--- `176,144,18446744073709551615,255,1` and its line feed
+-- `176,144,18446744073709551615,255,1,4294967295` and its line feed
 abbrev pub longestJob : ℕ
-longestJob = 35
+longestJob = 46
 
 -- the longest book file that 5 does not refuse: every entry once, its length and its code of five digits. One that is accepted is shorter (`longestBookFile`)
 abbrev pub longestBook : ℕ

@@ -1,18 +1,19 @@
 -- Laws of how long a job line and a book file can be. Assumes nothing.
-use Prim.Native.Nat.{ℕ, zero, suc, _+_, _-_, _*_, _^_, _≤_, _<_}
+use Prim.Native.Nat.{ℕ, zero, suc, _+_, _*_, _^_, _≤_, _<_}
 use mathlib.Core.Path.{_≡_, refl, sym, ap}
-use mathlib.Core.Bool.{Bool, true, false}
-use mathlib.Core.List.{List, [], _∷_, _++_}
+use mathlib.Core.Bool.{Bool, true, false, _&&_}
+use mathlib.Core.List.{List, [], _∷_, _++_, map}
 use mathlib.Core.Option.{Option, none, some}
 use native.Mathlib.Nat.{zero-add, add-mul, pow-le-pow-right, lt-of-le-of-lt, lt-of-lt-of-le}
 use native.Mathlib.Omega.{arith}
-use lib.Dec.{eqb, lit<, lit≤}
+use lib.Dec.{eqb, ltb, lit<}
 use lib.ListN.{length, length-append}
-use borrow.Author.Tests.{ne-eqb, eqb-true, eqb-false}
+use borrow.Author.Tests.{ne-eqb, eqb-true, eqb-false, ltb-true}
 use Rattle.bits.specs.Basics.{pick, All, sum}
-use Rattle.text.specs.Text.{numberUpTo, linesOf, fieldsOf, digitsBefore, decimal, joined, lineOf}
+use Rattle.bits.specs.BasicsLaws.{both-true}
+use Rattle.text.specs.Text.{numberUpTo, linesOf, fieldsOf, digitsBefore, decimal, lineOf}
 use Rattle.text.specs.TextLaws.{none-some, number-le}
-use Rattle.text.specs.LengthLaws.{decimal-few, fieldsSize, line-size, append-size}
+use Rattle.text.specs.LengthLaws.{decimal-most, decimal-few, fieldsSize, line-size, append-size}
 use Rattle.text.specs.OneTextLaws.{number-decimal, joined-fields, ended, lines-ended}
 use Rattle.book.specs.Book.{bookEntries}
 use Rattle.book_file.specs.BookFile.{Line, fileTables, fileLines, mentions, onceEach, linesRefusal, refusalRead, fileRefusal}
@@ -23,7 +24,9 @@ use Rattle.book_file.specs.CallLaws.{entries-below, lines-missed}
 use Rattle.book_file.specs.OneFileLaws.{file-text}
 use Rattle.bits.specs.SumLaws.{sum-same}
 use Rattle.listing_text.specs.Cut.{longestJob, longestBook}
-use Rattle.listing_job.specs.Job.{Job, mostWidth, mostHeight, jobOf, jobRead, oneLine, jobIn}
+use Rattle.listing_job.specs.Job.{Job, bounds, oneLine, jobIn}
+use Rattle.listing_job.specs.JobForms.{Numbers, no-number, number}
+use Rattle.listing_job.specs.JobLaws.{job-numbers}
 
 -- ---- a book file
 -- the longest line of an entry: its name and position, and two numbers of five digits
@@ -119,52 +122,41 @@ book-short file h = go (fileLines file) refl h
     go (some ls) q k = rw (file-text file ls q) (lines-short ls (file-fits file ls q) (once ls k))
 
 -- ---- a job line
-field-long : (most k : ℕ) (w : List ℕ) → most < 10 ^ k → 1 ≤ k → k ≤ 20 → (v : ℕ) → numberUpTo most w ≡ some v → length w ≤ k
-field-long most k w h l m v q =
-    let small : v ≤ most = number-le most v w q in
-    let within : v < 10 ^ 20 = lt-of-lt-of-le (lt-of-le-of-lt small h) (pow-le-pow-right (lit< tt) m) in
-    rw (number-decimal most v w q within) (decimal-few k v (lt-of-le-of-lt small h) l)
+-- a bound is below 10^k, where k digits are written for it
+abbrev whole : ℕ → Bool
+whole m = ltb 0 (length (decimal m)) && ltb m (10 ^ length (decimal m))
 
-five-long : (a b c d e : List ℕ) → length a ≤ 3 → length b ≤ 3 → length c ≤ 20 → length d ≤ 3 → length e ≤ 1 → length (joined (a ∷ b ∷ c ∷ d ∷ e ∷ [])) ≤ 34
-unfolding joined
-five-long a b c d e p q r s t = simp length-append (omega arith)
+allWhole : List ℕ → Bool
+allWhole [] = true
+allWhole (m ∷ ms) = whole m && allWhole ms
 
-numbers-long : (w h l r f : List ℕ) (j : Job)
-    → jobOf (numberUpTo mostWidth w) (numberUpTo mostHeight h) (numberUpTo (2 ^ 64 - 1) l) (numberUpTo 255 r) (numberUpTo 1 f) ≡ some j
-    → length (joined (w ∷ h ∷ l ∷ r ∷ f ∷ [])) ≤ 34
-numbers-long w h l r f j =
-    go (numberUpTo mostWidth w) (numberUpTo mostHeight h) (numberUpTo (2 ^ 64 - 1) l) (numberUpTo 255 r) (numberUpTo 1 f)
-    (field-long mostWidth 3 w (lit< tt) (lit≤ tt) (lit≤ tt)) (field-long mostHeight 3 h (lit< tt) (lit≤ tt) (lit≤ tt)) (field-long (2 ^ 64 - 1) 20 l (lit< tt) (lit≤ tt) (lit≤ tt))
-    (field-long 255 3 r (lit< tt) (lit≤ tt) (lit≤ tt)) (field-long 1 1 f (lit< tt) (lit≤ tt) (lit≤ tt))
-  where
-    go : (a b c d e : Option ℕ) → ((v : ℕ) → a ≡ some v → length w ≤ 3) → ((v : ℕ) → b ≡ some v → length h ≤ 3) → ((v : ℕ) → c ≡ some v → length l ≤ 20)
-        → ((v : ℕ) → d ≡ some v → length r ≤ 3) → ((v : ℕ) → e ≡ some v → length f ≤ 1) → jobOf a b c d e ≡ some j → length (joined (w ∷ h ∷ l ∷ r ∷ f ∷ [])) ≤ 34
-    go none b c d e p q o n m z = none-some z
-    go (some a) none c d e p q o n m z = none-some z
-    go (some a) (some b) none d e p q o n m z = none-some z
-    go (some a) (some b) (some c) none e p q o n m z = none-some z
-    go (some a) (some b) (some c) (some d) none p q o n m z = none-some z
-    go (some a) (some b) (some c) (some d) (some e) p q o n m z = five-long w h l r f (p a refl) (q b refl) (o c refl) (n d refl) (m e refl)
+-- a number is no longer than its bound
+field-long : (m v : ℕ) (w : List ℕ) → whole m ≡ true → numberUpTo m w ≡ some v → length w ≤ length (decimal m)
+field-long m v w h q =
+    let two = both-true (ltb 0 (length (decimal m))) (ltb m (10 ^ length (decimal m))) h in
+    let below : v < 10 ^ length (decimal m) = lt-of-le-of-lt (number-le m v w q) (ltb-true m (10 ^ length (decimal m)) (two .1)) in
+    let within : v < 10 ^ 20 = lt-of-lt-of-le below (pow-le-pow-right (lit< tt) (decimal-most m)) in
+    rw (number-decimal m v w q within) (decimal-few (length (decimal m)) v below (ltb-true 0 (length (decimal m)) (two .0)))
 
-fields-long : (fs : List (List ℕ)) (j : Job) → jobRead fs ≡ some j → length (joined fs) ≤ 34
-unfolding jobRead
-fields-long [] j q = none-some q
-fields-long (w ∷ []) j q = none-some q
-fields-long (w ∷ (h ∷ [])) j q = none-some q
-fields-long (w ∷ (h ∷ (l ∷ []))) j q = none-some q
-fields-long (w ∷ (h ∷ (l ∷ (r ∷ [])))) j q = none-some q
-fields-long (w ∷ (h ∷ (l ∷ (r ∷ (f ∷ []))))) j q = numbers-long w h l r f j q
-fields-long (w ∷ (h ∷ (l ∷ (r ∷ (f ∷ (x ∷ xs)))))) j q = none-some q
+fields-long : {ms ns : List ℕ} {fs : List (List ℕ)} → Numbers ms fs ns → allWhole ms ≡ true → fieldsSize fs ≤ fieldsSize (map decimal ms)
+unfolding fieldsSize allWhole
+fields-long no-number h = omega arith
+fields-long (number {m} {n} {f} {ms} e rest) h =
+    let two = both-true (whole m) (allWhole ms) h in
+    omega (arith, field-long m n f (two .0) e, fields-long rest (two .1))
 
--- a line that is longer has another form
+-- so the longest line is that of the bounds
+numbers-long : {ns : List ℕ} {fs : List (List ℕ)} → Numbers bounds fs ns → length (lineOf fs) ≤ longestJob
+unfolding fieldsSize allWhole decimal digitsBefore
+numbers-long (number {f} {fs} e rest) = omega (arith, line-size f fs, fields-long (number e rest) refl)
+
+-- one that is longer has another form
 pub job-short : (t : List ℕ) (j : Job) → jobIn t ≡ some j → length t ≤ longestJob
-unfolding jobIn ended
+unfolding jobIn ended lineOf
 job-short t j q = go (linesOf t) refl q
   where
     go : (o : Option (List (List ℕ))) → linesOf t ≡ o → oneLine o ≡ some j → length t ≤ longestJob
     go none e k = none-some k
     go (some []) e k = none-some k
-    go (some (l ∷ [])) e k =
-        let line : length l ≤ 34 = rw (joined-fields l) at (fields-long (fieldsOf l) j k) in
-        omega (arith, ap length (lines-ended t (l ∷ []) e), length-append l (10 ∷ []), line)
+    go (some (l ∷ [])) e k = rw (lines-ended t (l ∷ []) e) (rw (joined-fields l) at (numbers-long (job-numbers (fieldsOf l) j k .1)))
     go (some (l ∷ (m ∷ ms))) e k = none-some k

@@ -1,4 +1,4 @@
--- What the listing program prints (document 01, "Refused for the state met", the listing program; "Bench cards"; document 02, §1, §2).
+-- What the listing program prints (document 01, "Refused for the state met", the listing program; "Bench cards"; document 02, §1, §2, §4).
 use Prim.Native.Nat.{ℕ, zero, suc, _*_, _/_, _%_}
 use mathlib.Core.List.{List, [], _∷_, _++_}
 use mathlib.Core.Option.{Option, none, some}
@@ -40,7 +40,7 @@ givenOf f j = record {
 }
 
 abbrev pub taskOf : Files → Job → Task
-taskOf f j = record { source = f .source; settings = record { lambda = j .lambda; radius = j .radius; four = j .allowFour }; limit = unlimited }
+taskOf f j = record { source = f .source; settings = record { lambda = j .lambda; radius = j .radius; four = j .allowFour; margin = j .margin }; limit = unlimited }
 
 -- the chain of its refusals, lowest number first but 30 before 6, by the lengths of the source and the codebook; 0 for none
 unfoldable pub filesRefusalBy : ℕ → ℕ → Canvas → ℕ → ℕ → List ℕ → ℕ

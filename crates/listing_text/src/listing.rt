@@ -218,6 +218,7 @@ fn list_job(
         lambda: job.lambda,
         radius: job.radius,
         four: job.four,
+        margin: job.margin,
     };
     list_plane(canvas, source, reference, &held, codebook, settings, text)
 }

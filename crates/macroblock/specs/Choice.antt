@@ -1,4 +1,4 @@
--- Which modes are tried for a macroblock, which of them fit, and which is written (document 01, `svq1_enc_inter.rs`, "Behind demand 3"; document 02, §5).
+-- Which modes are tried for a macroblock, which of them fit, and which is written (document 01, `svq1_enc_inter.rs`, "Behind demand 3"; document 02, §4 and §5).
 use Prim.Native.Nat.{ℕ, suc, _+_, _-_, _*_, _/_, _%_, min}
 use mathlib.Core.Bool.{Bool, true, false, _&&_, _||_}
 use mathlib.Core.List.{List, [], _∷_, _++_, map}
@@ -24,7 +24,7 @@ use Rattle.macroblock.specs.Macroblock.{Given, Motion, still, single, fo
 use Rattle.macroblock.specs.declared.svq1_enc_inter.Settings.{Settings}
 use Rattle.macroblock.specs.Limit.{Limit, unlimited, within, canSkipRest}
 
--- what the writer is given besides: the source, the settings (`lambda`, `radius` and whether `four` vectors are tried), and the limit on its bits
+-- what the writer is given besides: the source, the settings (`lambda`, `radius`, whether `four` vectors are tried, and the `margin` of its leaves' stages), and the limit on its bits
 pub record Task : Type 0 where
   pub source : List ℕ
   pub settings : Settings
@@ -101,16 +101,20 @@ abbrev pub skipsLeaves : Svq1Half → Bool
 skipsLeaves Intra = false
 skipsLeaves Inter = true
 
--- in a plane a leaf has every stage of its level open and, for the inter half, skip too
-abbrev pub planeTerms : Svq1Half → LeafTerms
-planeTerms h = record { half = h; cap = stagesPerPage; skip = skipsLeaves h }
+-- every stage of a level open
+abbrev pub openTerms : Svq1Half → Bool → ℕ → LeafTerms
+openTerms h allowSkip margin = record { half = h; cap = stagesPerPage; skip = allowSkip; margin = margin }
+
+-- in a plane a leaf has every stage of its level open and, for the inter half, skip too; the margin is the same for both halves (document 02, §4)
+abbrev pub planeTerms : ℕ → Svq1Half → LeafTerms
+planeTerms margin h = openTerms h (skipsLeaves h) margin
 
 -- the plan of macroblock k for a motion, over its baseline
 unfoldable pub planningFor : Given → Task → ℕ → Motion → Planning
 planningFor g t k m = record {
   tables = tablesOf (g .book) (halfOf m);
   vectors = vectorAt (g .codebook) (halfOf m);
-  terms = planeTerms (halfOf m);
+  terms = planeTerms (t .settings .margin) (halfOf m);
   lambda = t .settings .lambda;
   level = 5;
   target = target g t k;

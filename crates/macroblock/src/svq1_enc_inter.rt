@@ -28,11 +28,13 @@ impl Svq1MbMode {
     }
 }
 
-// How a plane is written: what a bit costs against the squared error, how far a motion search goes, and whether four vectors are tried.
+// How a plane is written: what a bit costs against the squared error, how far a motion search goes, whether four vectors are tried, and the margin of
+// its leaves' stages.
 pub struct Settings {
     pub lambda: u64,
     pub radius: u8,
     pub four: bool,
+    pub margin: u32,
 }
 
 // A macroblock's motion: none, one vector with its difference, as it is written or was read, or four, which lie in an array beside it.

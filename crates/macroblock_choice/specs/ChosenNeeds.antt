@@ -51,7 +51,7 @@ pub record Sourced (g : Given) (raised source : List ℕ) (k : ℕ) : Type 0 whe
 -- ---- one motion
 -- its plan, by the block and not by the source
 abbrev pub planningBy : Given → List ℕ → Settings → ℕ → Motion → Planning
-planningBy g block settings k m = planningIn (planeTerms (halfOf m)) (g .book) (g .codebook) (settings .lambda) 5 block (baseline g k m)
+planningBy g block settings k m = planningIn (planeTerms (settings .margin) (halfOf m)) (g .book) (g .codebook) (settings .lambda) 5 block (baseline g k m)
 
 -- the vectors beside a motion are those that it stores, and one vector goes with its difference
 pub record Carries (n : Near) (m : MbMotion) (vs : List Svq1Mv) : Type 0 where

@@ -42,7 +42,7 @@ use Rattle.macroblock_choice.specs.ChosenNeeds.{taskIn, planningBy, Plac
 
 -- ---- a motion's plan
 bare : Task
-bare = record { source = []; settings = record { lambda = 0; radius = 0; four = false }; limit = unlimited }
+bare = record { source = []; settings = record { lambda = 0; radius = 0; four = false; margin = 0 }; limit = unlimited }
 
 module _ (g : Given) (raised : List ℕ) (k : ℕ) (block : List ℕ) (ready : Placing g raised k block) (bytes : Bytes block) (reference : Bytes (g .reference .samples)) (settings : Settings) (m : Motion) where
   fine : Fine g bare
@@ -68,7 +68,7 @@ module _ (g : Given) (raised : List ℕ) (k : ℕ) (block : List ℕ) (ready : P
   }
 
   -- what planning asks
-  pub plan-ready : (terms : LeafTerms) (under : List ℕ) → terms ≡ planeTerms (halfOf m) → length under ≡ 256 → PlanReady terms (g .book) (g .codebook) raised 5 block under
+  pub plan-ready : (terms : LeafTerms) (under : List ℕ) → terms ≡ planeTerms (settings .margin) (halfOf m) → length under ≡ 256 → PlanReady terms (g .book) (g .codebook) raised 5 block under
   plan-ready terms under et eu = rw et (record {
     good = book-passes g raised (ready .ok);
     whole = data-passes (g .book) (g .codebook) (ready .ok .tables) .0;
@@ -105,7 +105,7 @@ module _ (g : Given) (raised : List ℕ) (k : ℕ) (block : List ℕ) (ready : P
   planned-same t eb el = rw (eb, el)
 
   -- a plan by the terms and the baseline as they were computed
-  pub found-by : (p : MbPlan) (terms : LeafTerms) (under : List ℕ) → terms ≡ planeTerms (halfOf m) → under ≡ baseline g k m
+  pub found-by : (p : MbPlan) (terms : LeafTerms) (under : List ℕ) → terms ≡ planeTerms (settings .margin) (halfOf m) → under ≡ baseline g k m
       → PlanFound (planningIn terms (g .book) (g .codebook) (settings .lambda) 5 block under) p → PlanFound (planningBy g block settings k m) p
   found-by p terms under et eu f = rw (et, eu) at f
 

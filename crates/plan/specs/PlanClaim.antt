@@ -1,4 +1,4 @@
--- What is claimed of a plan that is called directly, at any level (document 01, "Behind demand 3": its sentence on plans).
+-- What is claimed of a plan that is called directly, at any level (document 01, "Behind demand 3": its sentence on plans; document 02, §4).
 use Prim.Native.Nat.{ℕ, _+_, _*_, _^_, _≤_}
 use mathlib.Core.Bool.{Bool}
 use mathlib.Core.List.{List, _++_}
@@ -27,7 +27,7 @@ module _ (b : BlockIn) (lambda : ℕ) where
     pub error :
         planWeight (planningOf b lambda) .err
         ≡ sse (b .target) (treeShown (planningOf b lambda .vectors) (b .level) (b .predictor) (planTree (planningOf b lambda)))
-    -- up to this lambda every other pruning over the same leaf choices costs at least as much
+    -- up to this lambda every other pruning over the same leaf choices, those that the block's margin gives, costs at least as much
     pub no-pruning-cheaper : lambda ≤ largestLambda → (cut : ℕ → Bool) → planCost (planningOf b lambda) ≤ prunedCost (planningOf b lambda) cut
     -- its bits, in front of any others, read as the same tree
     pub reads : (rest : List ℕ) → readTree (planningOf b lambda .tables) (b .level) (treeBits (planningOf b lambda .tables) (planTree (planningOf b lambda)) ++ rest) ≡ got (planTree (planningOf b lambda)) rest

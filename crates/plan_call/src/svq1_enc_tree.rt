@@ -1,5 +1,6 @@
 // The plan as a call.
 ghost use mathlib.Core.Path.{_≡_};
+ghost use Rattle.leaf.specs.LeafCall.{blockBy};
 ghost use Rattle.plan_call.specs.PlanCall.{refusedPlan, Plannable, PlanShown, PlanAnswered};
 use book::inner::CODEBOOK_BYTES;
 use codebook::svq1_codebook::inner::raise_codebook;
@@ -70,8 +71,9 @@ pub fn plan_macroblock(
     cap: u8,
     skip: bool,
     lambda: u64,
+    margin: u32,
 ) -> PlanAnswer
-    ensures { λ r. ⌜ PlanAnswered (record { book = now (book .entry); codebook = now (codebook .entry); level = level; half = half; cap = cap; allowSkip = skip; target = now (target .entry); predictor = now (predictor .entry) }) lambda r ⌝ }
+    ensures { λ r. ⌜ PlanAnswered (blockBy (now (book .entry)) (now (codebook .entry)) level half (now (target .entry)) (now (predictor .entry)) cap skip margin) lambda r ⌝ }
 {
     let refusal = block_refusal(book, codebook, level, half, target, predictor, cap, skip);
     if refusal != 0 {
@@ -84,7 +86,7 @@ pub fn plan_macroblock(
         codebook,
         &mut raised,
         level as usize,
-        terms_of(half, cap, skip),
+        terms_of(half, cap, skip, margin),
         target,
         predictor,
         lambda,

@@ -41,7 +41,7 @@ flatGiven j reference = record {
 }
 
 abbrev pub flatTask : Job → ℕ → Task
-flatTask j source = record { source = replicate (j .width * j .height) source; settings = record { lambda = j .lambda; radius = j .radius; four = j .allowFour }; limit = unlimited }
+flatTask j source = record { source = replicate (j .width * j .height) source; settings = record { lambda = j .lambda; radius = j .radius; four = j .allowFour; margin = j .margin }; limit = unlimited }
 
 -- a search of a block in a flat square plane whose samples, and the target's, are all 100
 abbrev pub flatSearch : ℕ → ℕ → ℕ → ℕ → ℕ → Svq1Mv → Search
@@ -85,12 +85,12 @@ Holds (two a b m) = mean2 a b ≡ m
 Holds (four a b c d m) = mean4 a b c d ≡ m
 Holds (search size radius side x y p v) = searchAnswer (flatSearch size radius side x y p) ≡ done v
 
--- the jobs of the first two cards
+-- the jobs of the first two cards, at margin 0 (document 02, §4)
 abbrev pub firstLine : List ℕ
-firstLine = ascii "16,16,32,8,1\n"
+firstLine = ascii "16,16,32,8,1,0\n"
 
 abbrev pub largestLine : List ℕ
-largestLine = ascii "16,16,18446744073709551615,8,1\n"
+largestLine = ascii "16,16,18446744073709551615,8,1,0\n"
 
 -- what is listed for each
 abbrev pub firstText : List ℕ
@@ -102,8 +102,8 @@ largestText = ascii "0,0,SKIP,1,2560000\ntotal,1,2560000\n"
 -- the table
 abbrev pub cards : List Card
 cards =
-    plane firstLine (record { width = 16; height = 16; lambda = 32; radius = 8; allowFour = true }) 100 0 (0x21 ∷ 0x01 ∷ 0x94 ∷ []) firstText
-    ∷ plane largestLine (record { width = 16; height = 16; lambda = 18446744073709551615; radius = 8; allowFour = true }) 100 0 (0x80 ∷ []) largestText
+    plane firstLine (record { width = 16; height = 16; lambda = 32; radius = 8; allowFour = true; margin = 0 }) 100 0 (0x21 ∷ 0x01 ∷ 0x94 ∷ []) firstText
+    ∷ plane largestLine (record { width = 16; height = 16; lambda = 18446744073709551615; radius = 8; allowFour = true; margin = 0 }) 100 0 (0x80 ∷ []) largestText
     ∷ mean (pos 4) 8 (pos 1)
     ∷ mean (pos 3) 8 (pos 0)
     ∷ mean (negsuc 2) 8 (pos 0)

@@ -102,7 +102,7 @@ abbrev pub flatPlanning : Svq1Half → ℕ → Planning
 flatPlanning h lambda = record {
   tables = tablesOf houseBook h;
   vectors = vectorAt houseCodebook h;
-  terms = planeTerms h;
+  terms = planeTerms 0 h;
   lambda = lambda;
   level = 5;
   target = flat 256 100;
@@ -126,8 +126,8 @@ unfolding leafAt leafRule leafShown staged
 leaf-is h lambda i l =
     let d = level i in
     let e = exact h d (omega (arith, level-le i)) in
-    let c = coded-exact (termsAt d (planeTerms h)) (vectorAt houseCodebook h d) (flat (area d) 100) (flat (area d) 0) (pos 100) (e .mean) (e .met) in
-    rw (block-is 100 i flat-100 l, block-is 0 i flat-0 l) (rw (c, e .met, skip-loses (planeTerms h .skip) (leb (sse (flat (area d) 100) (flat (area d) 0)) 0) (e .beaten)))
+    let c = coded-exact (termsAt d (planeTerms 0 h)) (vectorAt houseCodebook h d) (flat (area d) 100) (flat (area d) 0) (pos 100) (e .mean) (e .met) in
+    rw (block-is 100 i flat-100 l, block-is 0 i flat-0 l) (rw (c, e .met, skip-loses (planeTerms 0 h .skip) (leb (sse (flat (area d) 100) (flat (area d) 0)) 0) (e .beaten)))
 
 weight-is : (h : Svq1Half) (lambda i : ℕ) → i < 63 → weightAt (flatPlanning h lambda) i ≡ leafWeight h (level i)
 unfolding weightAt shownAt leafShown staged

@@ -16,7 +16,7 @@ use Rattle.macroblock.specs.Macroblock.{Given, Motion, still, single, four, Cho
 use Rattle.macroblock.specs.Choice.{Task, paddedSource, targetOf, target, singleTried, fourTried, motionsTried, planningFor, tried, fitting, weightOf, beats, bestOf, chosen}
 use Rattle.macroblock.specs.Slices.{near, laid}
 use Rattle.tree.specs.TreeBits.{Node, planTree, nodeBits, emit, treeBits, treeShown}
-use Rattle.listing_job.specs.Job.{Job, jobRead, jobIn}
+use Rattle.listing_job.specs.Job.{Job, eachUpTo, jobRead, jobIn}
 use Rattle.listing_text.specs.Listing.{noSlices, planeShowing, outputBytes, totalLine, macroblockLine, linesTo, textWith, textInto, planeText}
 use Rattle.visible_error.specs.Visible.{squareAt, visibleError, visibleTotal}
 use Rattle.starred_cards.specs.Cards.{flatGiven, flatTask, plane, firstLine, firstText, largestLine, largestText, Holds, cards}
@@ -41,7 +41,7 @@ use Rattle.tree.specs.Plan.{shownAt}
 
 -- the plane of the first two cards, at any lambda
 abbrev job : ℕ → Job
-job lambda = record { width = 16; height = 16; lambda = lambda; radius = 8; allowFour = true }
+job lambda = record { width = 16; height = 16; lambda = lambda; radius = 8; allowFour = true; margin = 0 }
 
 abbrev given : ℕ → Given
 given lambda = flatGiven (job lambda) 0
@@ -144,11 +144,11 @@ room n h =
     (omega (arith, length-bitsOf (replicate outputBytes 0), length-replicate {A = ℕ} outputBytes 0))
 
 first-card : Holds (plane firstLine (job 32) 100 0 (0x21 ∷ 0x01 ∷ 0x94 ∷ []) firstText)
-unfolding jobIn jobRead linesOf fieldsOf pieces allEnded numberUpTo isNumber valueFrom every writePlane run after written weightOf putBits afterBits cleared bitsOf planeText codesOf msb houseBook houseFrom rank signedRank logUnder vectorBits motionBits choiceBits nodeBits emit treeBits leafBits stageBits shown treeShown rebuilt paintAt paint blockOf gather place placeUnder shownAt leafShown staged samples seeded saturate baseline movedBlock valuesFrom halfSample sampleAt referenceBlock part sse paddedSource targetOf
+unfolding jobIn jobRead eachUpTo linesOf fieldsOf pieces allEnded numberUpTo isNumber valueFrom every writePlane run after written weightOf putBits afterBits cleared bitsOf planeText codesOf msb houseBook houseFrom rank signedRank logUnder vectorBits motionBits choiceBits nodeBits emit treeBits leafBits stageBits shown treeShown rebuilt paintAt paint blockOf gather place placeUnder shownAt leafShown staged samples seeded saturate baseline movedBlock valuesFrom halfSample sampleAt referenceBlock part sse paddedSource targetOf
 first-card = (refl, rw chosen-at-32, text-at-32 (bitsOf (replicate outputBytes 0)) (room 22 (omega arith)))
 
 largest-card : Holds (plane largestLine (job largest) 100 0 (0x80 ∷ []) largestText)
-unfolding jobIn jobRead linesOf fieldsOf pieces allEnded numberUpTo isNumber valueFrom every writePlane run after written weightOf putBits afterBits cleared bitsOf planeText codesOf msb houseBook houseFrom rank signedRank logUnder vectorBits motionBits choiceBits nodeBits emit treeBits leafBits stageBits shown treeShown rebuilt paintAt paint blockOf gather place placeUnder shownAt leafShown staged samples seeded saturate baseline movedBlock valuesFrom halfSample sampleAt referenceBlock part sse paddedSource targetOf
+unfolding jobIn jobRead eachUpTo linesOf fieldsOf pieces allEnded numberUpTo isNumber valueFrom every writePlane run after written weightOf putBits afterBits cleared bitsOf planeText codesOf msb houseBook houseFrom rank signedRank logUnder vectorBits motionBits choiceBits nodeBits emit treeBits leafBits stageBits shown treeShown rebuilt paintAt paint blockOf gather place placeUnder shownAt leafShown staged samples seeded saturate baseline movedBlock valuesFrom halfSample sampleAt referenceBlock part sse paddedSource targetOf
 largest-card = (refl, rw chosen-at-largest, text-at-largest (bitsOf (replicate outputBytes 0)) (room 1 (omega arith)))
 
 -- THE CARDS

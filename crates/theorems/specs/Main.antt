@@ -22,6 +22,8 @@ use Rattle.house.specs.HouseLaws.{houseTest, by-test, Logarithm, house-log, hou
 use Rattle.codebook.specs.Raster.{RasterOrder}
 use Rattle.codebook.specs.RasterLaws.{rasterTest, raster-by-test}
 use Rattle.leaf.specs.LeafCall.{BlockIn}
+use Rattle.leaf.specs.Margin.{Margins}
+use Rattle.leaf.specs.MarginLaws.{margins}
 use Rattle.plan.specs.PlanClaim.{PlanClaimed}
 use Rattle.plan.specs.PlanClaimLaws.{plan-claimed}
 use Rattle.canvas.specs.Canvas.{blocksAlong}
@@ -46,12 +48,12 @@ use Rattle.theorems.specs.HousePrinted.{HousePrinted, house-printed}
 use Rattle.starred_cards.specs.Cards.{Holds, cards}
 use Rattle.starred_cards.specs.Proof.{starred}
 
--- Demand 3, of every plane of bytes that no refusal meets, with lambda at most 2^48 and an allowance, if any, that holds a SKIP code for each macroblock,
--- written to its last macroblock: the seven sentences are the fields of `Claim` (claim/Claim). Of memory: `round_trip_inter_plane`.
+-- Demand 3, of every plane of bytes that no refusal meets, with lambda at most 2^48, at any margin, and with an allowance, if any, that holds a SKIP code for
+-- each macroblock, written to its last macroblock: the seven sentences are the fields of `Claim` (claim/Claim). Of memory: `round_trip_inter_plane`.
 pub a-plane-written-and-read : (g : Given) (t : Task) (out : List ℕ) (start : ℕ) (a : Slices) → Claimed g t out start a
 a-plane-written-and-read = claimed
 
--- Its sentence on plans, of every plan that is called directly. Of memory: `plan_macroblock`.
+-- Its sentence on plans, of every plan that is called directly, at any margin. Of memory: `plan_macroblock`.
 pub a-plan-called-directly : (b : BlockIn) (lambda : ℕ) → PlanClaimed b lambda
 a-plan-called-directly = plan-claimed
 
@@ -105,6 +107,11 @@ a-code-written-and-read = pushed-read
 -- Of memory: `read_book_file`, `write_book_file`.
 pub a-book-filed-and-read : BookFiles
 a-book-filed-and-read = book-files
+
+-- What document 02, §4, makes of a leaf, sentence by sentence: the fields of `Margins` (leaf/Margin). Of memory: `search_leaf`, which answers the leaf by
+-- these rules.
+pub a-stage-earns-its-bits : Margins
+a-stage-earns-its-bits = margins
 
 -- Where an allowance holds a SKIP code for each macroblock, and each mode that is written without a limit on bits fits it, the plane within it is the plane
 -- without one (document 02, §5; nothing calls it yet).

@@ -38,7 +38,7 @@ fn print_mean(
     ensures { λ r. ⌜ r ≤ 1 ⌝ }
 {
     let asked = put_residual(line, residual_sum(&target, &predictor));
-    let found = search_leaf(book, codebook, 0, 1, &target, &predictor, 0, false);
+    let found = search_leaf(book, codebook, 0, 1, &target, &predictor, 0, false, 0);
     let code = found.code;
     let all = put_mean(line, asked, found.refused, code);
     print_line(line, all)

@@ -69,6 +69,22 @@ pub fn put_bytes(line: &mut [u8], at: usize, bytes: &[u8]) -> usize {
     end
 }
 
+// A byte as a number behind a space.
+fn put_byte(line: &mut [u8], at: usize, b: u8) -> usize {
+    put_number(line, at, b" ", b as u64)
+}
+
+// Every byte of a slice so.
+pub fn put_numbers(line: &mut [u8], at: usize, bytes: &[u8]) -> usize {
+    let mut end = at;
+    let mut i = 0;
+    while i < bytes.len() {
+        end = put_byte(line, end, bytes[i]);
+        i += 1;
+    }
+    end
+}
+
 // The first n bytes written out, with a line feed behind them: 1 for a line that was printed, else 0.
 pub fn print_line(line: &mut [u8], n: usize) -> usize
     ensures { λ r. ⌜ r ≤ 1 ⌝ }
@@ -92,11 +108,13 @@ pub fn print_counts(
     levels: usize,
     sums: usize,
     texts: usize,
+    margins: usize,
 ) {
     let a = put_number(line, 0, b"cards ", cards as u64);
     let b = put_number(line, a, b", read back ", back as u64);
     let c = put_number(line, b, b", levels ", levels as u64);
     let d = put_number(line, c, b", sums ", sums as u64);
-    let all = put_number(line, d, b", texts ", texts as u64);
+    let e = put_number(line, d, b", texts ", texts as u64);
+    let all = put_number(line, e, b", margins ", margins as u64);
     print_line(line, all);
 }

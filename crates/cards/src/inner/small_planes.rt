@@ -45,6 +45,7 @@ fn write_plane(book: &[u8], codebook: &[u8], lambda: u64, out: &mut [u8], start:
         lambda,
         radius: RADIUS,
         four: true,
+        margin: 0,
     };
     encode_inter_plane(
         CANVAS,

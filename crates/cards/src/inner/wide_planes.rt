@@ -28,7 +28,7 @@ fn write_plane(
     out: &mut [u8],
     recon: &mut [u8],
 ) -> WriteEnd
-    ensures { λ r. ⌜ CardWrote (givenBy canvas (now (reference .entry)) (now (book .entry)) (now (codebook .entry))) (taskBy (now (source .entry)) (record { lambda = 32; radius = 8; four = true })) (now (out .entry)) 0 (wideSlices (now (recon .entry))) (writeEndOf r) (now (out .exit)) ⌝ }
+    ensures { λ r. ⌜ CardWrote (givenBy canvas (now (reference .entry)) (now (book .entry)) (now (codebook .entry))) (taskBy (now (source .entry)) (record { lambda = 32; radius = 8; four = true; margin = 0 })) (now (out .entry)) 0 (wideSlices (now (recon .entry))) (writeEndOf r) (now (out .exit)) ⌝ }
 {
     let mut vx = [0u8; 260];
     let mut vy = [0u8; 260];
@@ -36,6 +36,7 @@ fn write_plane(
         lambda: LAMBDA,
         radius: RADIUS,
         four: true,
+        margin: 0,
     };
     encode_inter_plane(
         canvas,

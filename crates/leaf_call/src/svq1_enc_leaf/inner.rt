@@ -16,14 +16,15 @@ fn half_of(half: u8) -> Svq1Half
     }
 }
 
-// The terms by a call's half, cap and flag, which 8 passes.
-pub fn terms_of(half: u8, cap: u8, skip: bool) -> LeafTerms
+// The terms by a call's half, cap and flag, which 8 passes, and its margin.
+pub fn terms_of(half: u8, cap: u8, skip: bool, margin: u32) -> LeafTerms
     requires { ⌜ half < 2 ⌝ }
-    ensures { λ r. ⌜ r ≡ termsBy half cap skip ⌝ }
+    ensures { λ r. ⌜ r ≡ termsBy half cap skip margin ⌝ }
 {
     LeafTerms {
         half: half_of(half),
         cap: cap as usize,
         skip,
+        margin,
     }
 }

@@ -6,7 +6,7 @@ ghost use lib.ListN.{length};
 ghost use lib.IntN.{subℕ};
 ghost use Rattle.book.specs.Level.{levelNumber};
 ghost use Rattle.codebook.specs.Mean.{residual, meanOf};
-ghost use Rattle.leaf.specs.Leaf.{sse, samples, argmin, capAt, termsAt};
+ghost use Rattle.leaf.specs.Leaf.{sse, samples, argmin, stays, capAt, termsAt};
 ghost use Rattle.leaf.specs.LeafForms.{less, vectorError, Below, Stage, sampleSum};
 ghost use Rattle.leaf.specs.LeafNeeds.{SearchReady, Coding, Chosen};
 ghost use Rattle.leaf_search.specs.LevelLeafNeeds.{LevelReady, LevelChosen};
@@ -117,34 +117,41 @@ pub struct Stages {
     pub index: [u8; 6],
 }
 
-// Up to `cap` stages, each the best vector where that leaves strictly less error. `a` ends with their vectors added.
+// Whether a stage earns its bits: the error before it is greater than the error after it plus the margin. The sum may pass 32 bits.
+fn stays(margin: u32, before: u32, after: u32) -> bool
+    ensures { λ r. ⌜ r ≡ stays margin before after ⌝ }
+{
+    (after as u64) + (margin as u64) < (before as u64)
+}
+
+// Up to the terms' cap of stages, each the best vector, as long as they stay. `a` ends with their vectors added.
 fn search_stages(
     t: &[u8],
     a: &mut [u16],
     book: &[u8],
     base: usize,
     bias: u16,
-    cap: usize,
+    terms: LeafTerms,
     error: u32,
 ) -> Stages
     requires { ⌜ (length (now t) ≤ 256) × (length (now a) ≡ length (now t)) × Below 1000 (now a) × (bias ≤ 1000) ⌝ }
-    requires { ⌜ (cap ≤ 6) × (base + length (now t) * 16 * cap ≤ length (now book)) × (error ≡ sse (now t) (samples (less bias (now a)))) ⌝ }
-    ensures { λ r. ⌜ Searched (record { target = now (t .entry); sums = now (a .entry); codebook = now (book .entry); base = base; bias = bias; cap = cap }) (now (a .exit)) r ⌝ }
+    requires { ⌜ (terms .cap ≤ 6) × (base + length (now t) * 16 * terms .cap ≤ length (now book)) × (error ≡ sse (now t) (samples (less bias (now a)))) ⌝ }
+    ensures { λ r. ⌜ Searched (record { target = now (t .entry); sums = now (a .entry); codebook = now (book .entry); base = base; bias = bias; terms = terms }) (now (a .exit)) r ⌝ }
 {
     let n = t.len();
     let mut index = [0u8; 6];
     let mut count = 0;
     let mut at = base;
     let mut plus = bias;
-    let mut least = error;
-    while count < cap {
+    let mut current = error;
+    while count < terms.cap {
         let best = best_vector(t, a, book, at, plus);
         let e = best.error;
         let j = best.index;
-        if least <= e {
+        if !stays(terms.margin, current, e) {
             return Stages {
                 count,
-                error: least,
+                error: current,
                 index,
             };
         }
@@ -153,16 +160,16 @@ fn search_stages(
         count += 1;
         at += n * 16;
         plus += 128;
-        least = e;
+        current = e;
     }
     Stages {
         count,
-        error: least,
+        error: current,
         index,
     }
 }
 
-// The coded leaf of least error; its samples go into `out`, and `a` is scratch. `book` is the raised codebook, and the page begins at `base`.
+// The coded leaf by the leaf rules; its samples go into `out`, and `a` is scratch. `book` is the raised codebook, and the page begins at `base`.
 fn search_coded(
     terms: LeafTerms,
     t: &[u8],
@@ -179,7 +186,7 @@ fn search_coded(
     let mean = residual_mean(half, t, p);
     seed(a, p, mean);
     let first = sums_error(t, a, 256);
-    let s = search_stages(t, a, book, base, 256, terms.cap, first);
+    let s = search_stages(t, a, book, base, 256, terms, first);
     let count = s.count;
     let stages = s.index;
     show(a, bias_of(count), out);

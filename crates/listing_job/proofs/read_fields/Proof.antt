@@ -1,41 +1,29 @@
 -- Each field that is read leaves the text behind it; the first that is none decides. Assumes nothing.
 use native.Mathlib.Omega.{arith}
-use mathlib.Core.Path.{sym, _∙_}
-use mathlib.Core.List.{List}
-use Rattle.bits.specs.BasicsLaws.{partFrom}
-use Rattle.listing_job.specs.declared.FieldRead.the-variants.{Field, NoField}
-use Rattle.listing_job.specs.JobForms.{FieldFound, fieldsIn}
-use Rattle.listing_job.specs.JobLaws.{job-fields, field-le}
-use Prim.Native.Nat.{ℕ, _-_, _^_}
+use mathlib.Core.Path.{sym}
+use lib.ListN.{drop}
+use Rattle.listing_job.specs.Job.{bounds}
+use Rattle.listing_job.specs.JobForms.{FieldsRead}
+use Rattle.listing_job.specs.JobLaws.{none-read, then-field, then-none, then-last, fields-small}
 use borrow.Author.Needs.{needs}
 use Rattle.listing_job.proofs.read_fields.Statement.{statement}
 use Rattle.listing_job.proofs.read_fields.Tie as tie
 
--- the text, and what stands behind its first field, its second and its third
-abbrev whole : tie.After-known-told → List ℕ
-whole d = d .before .before .before .before .before .args .t .now
+-- the line, read as far as behind a field
+abbrev behind-width : tie.After-known-told → FieldsRead (drop 1 bounds)
+behind-width d = then-field (none-read (d .before .before .before .before .before .args .t .now)) (rw (d .before .width .given .1) at (d .before .before .before .read-field .ensures))
 
-abbrev second : tie.After-known-told → List ℕ
-second d = partFrom (d .before .width .given .0 .1 .0) (whole d)
+abbrev behind-height : tie.After-known-told2 → FieldsRead (drop 2 bounds)
+behind-height d = then-field (behind-width (d .before .before .before .before .before)) (rw (d .before .height .given .1) at (d .before .before .before .read-field2 .ensures))
 
-abbrev third : tie.After-known-told2 → List ℕ
-third d = partFrom (d .before .height .given .0 .1 .0) (second (d .before .before .before .before .before))
+abbrev behind-lambda : tie.After-known-told3 → FieldsRead (drop 3 bounds)
+behind-lambda d = then-field (behind-height (d .before .before .before .before .before)) (rw (d .before .lambda .given .1) at (d .before .before .before .read-field3 .ensures))
 
-abbrev fourth : tie.After-known-told3 → List ℕ
-fourth d = partFrom (d .before .lambda .given .0 .1 .0) (third (d .before .before .before .before .before))
+abbrev behind-radius : tie.After-known-told4 → FieldsRead (drop 4 bounds)
+behind-radius d = then-field (behind-lambda (d .before .before .before .before .before)) (rw (d .before .radius .given .1) at (d .before .before .before .read-field4 .ensures))
 
--- each field that was read
-width-read : (d : tie.After-known-told) → FieldFound 176 (whole d) (Field (d .before .width .given .0 .0) (d .before .width .given .0 .1 .0))
-width-read d = rw (d .before .width .given .1) at (d .before .before .before .read-field .ensures)
-
-height-read : (d : tie.After-known-told2) → FieldFound 144 (second (d .before .before .before .before .before)) (Field (d .before .height .given .0 .0) (d .before .height .given .0 .1 .0))
-height-read d = rw (d .before .height .given .1) at (d .before .before .before .read-field2 .ensures)
-
-lambda-read : (d : tie.After-known-told3) → FieldFound (2 ^ 64 - 1) (third (d .before .before .before .before .before)) (Field (d .before .lambda .given .0 .0) (d .before .lambda .given .0 .1 .0))
-lambda-read d = rw (d .before .lambda .given .1) at (d .before .before .before .read-field3 .ensures)
-
-radius-read : (d : tie.After-known-told4) → FieldFound 255 (fourth (d .before .before .before .before .before)) (Field (d .before .radius .given .0 .0) (d .before .radius .given .0 .1 .0))
-radius-read d = rw (d .before .radius .given .1) at (d .before .before .before .read-field4 .ensures)
+abbrev behind-four : tie.After-known-told5 → FieldsRead (drop 5 bounds)
+behind-four d = then-field (behind-radius (d .before .before .before .before .before)) (rw (d .before .four .given .1) at (d .before .before .before .read-field5 .ensures))
 
 read-field-requires : tie.Need-read-field-requires
 read-field-requires c κs = search needs
@@ -47,16 +35,13 @@ enum-told : tie.Need-enum-told
 enum-told c = search needs
 
 returns : tie.Need-returns
-unfolding fieldsIn
-returns c =
-    let none : FieldFound 176 (c .before .before .before .before .args .t .now) NoField = rw (c .enum-told .given .1) at (c .before .before .read-field .ensures) in
-    sym (job-fields (c .before .before .before .before .args .t .now) ∙ rw (← none .is))
+returns c = then-none (none-read (c .before .before .before .before .args .t .now)) (rw (c .enum-told .given .1) at (c .before .before .read-field .ensures))
 
 sub-behind-width : tie.Need-sub-behind-width
-sub-behind-width c = omega (arith, width-read c .within)
+sub-behind-width c = omega (arith, behind-width c .within)
 
 part-behind-width-start : tie.Need-part-behind-width-start
-part-behind-width-start c = omega (arith, width-read c .within)
+part-behind-width-start c = omega (arith, behind-width c .within)
 
 part-behind-width-end : tie.Need-part-behind-width-end
 part-behind-width-end c = search needs
@@ -71,17 +56,13 @@ enum-told-2 : tie.Need-enum-told-2
 enum-told-2 c = search needs
 
 returns-2 : tie.Need-returns-2
-unfolding fieldsIn
-returns-2 c =
-    let d = c .before .before .before .before in
-    let none : FieldFound 144 (second d) NoField = rw (c .enum-told2 .given .1) at (c .before .before .read-field2 .ensures) in
-    sym (job-fields (whole d) ∙ rw (← width-read d .is, ← none .is))
+returns-2 c = then-none (behind-width (c .before .before .before .before)) (rw (c .enum-told2 .given .1) at (c .before .before .read-field2 .ensures))
 
 sub-behind-height : tie.Need-sub-behind-height
-sub-behind-height c = omega (arith, height-read c .within)
+sub-behind-height c = omega (arith, behind-height c .within)
 
 part-behind-height-start : tie.Need-part-behind-height-start
-part-behind-height-start c = omega (arith, height-read c .within)
+part-behind-height-start c = omega (arith, behind-height c .within)
 
 part-behind-height-end : tie.Need-part-behind-height-end
 part-behind-height-end c = search needs
@@ -96,18 +77,13 @@ enum-told-3 : tie.Need-enum-told-3
 enum-told-3 c = search needs
 
 returns-3 : tie.Need-returns-3
-unfolding fieldsIn
-returns-3 c =
-    let e = c .before .before .before .before in
-    let d = e .before .before .before .before .before in
-    let none : FieldFound (2 ^ 64 - 1) (third e) NoField = rw (c .enum-told3 .given .1) at (c .before .before .read-field3 .ensures) in
-    sym (job-fields (whole d) ∙ rw (← width-read d .is, ← height-read e .is, ← none .is))
+returns-3 c = then-none (behind-height (c .before .before .before .before)) (rw (c .enum-told3 .given .1) at (c .before .before .read-field3 .ensures))
 
 sub-behind-lambda : tie.Need-sub-behind-lambda
-sub-behind-lambda c = omega (arith, lambda-read c .within)
+sub-behind-lambda c = omega (arith, behind-lambda c .within)
 
 part-behind-lambda-start : tie.Need-part-behind-lambda-start
-part-behind-lambda-start c = omega (arith, lambda-read c .within)
+part-behind-lambda-start c = omega (arith, behind-lambda c .within)
 
 part-behind-lambda-end : tie.Need-part-behind-lambda-end
 part-behind-lambda-end c = search needs
@@ -122,25 +98,19 @@ enum-told-4 : tie.Need-enum-told-4
 enum-told-4 c = search needs
 
 returns-4 : tie.Need-returns-4
-unfolding fieldsIn
-returns-4 c =
-    let f = c .before .before .before .before in
-    let e = f .before .before .before .before .before in
-    let d = e .before .before .before .before .before in
-    let none : FieldFound 255 (fourth f) NoField = rw (c .enum-told4 .given .1) at (c .before .before .read-field4 .ensures) in
-    sym (job-fields (whole d) ∙ rw (← width-read d .is, ← height-read e .is, ← lambda-read f .is, ← none .is))
+returns-4 c = then-none (behind-lambda (c .before .before .before .before)) (rw (c .enum-told4 .given .1) at (c .before .before .read-field4 .ensures))
 
-sub-read-number : tie.Need-sub-read-number
-sub-read-number c = omega (arith, radius-read c .within)
+sub-behind-radius : tie.Need-sub-behind-radius
+sub-behind-radius c = omega (arith, behind-radius c .within)
 
-part-read-number-start : tie.Need-part-read-number-start
-part-read-number-start c = omega (arith, radius-read c .within)
+part-behind-radius-start : tie.Need-part-behind-radius-start
+part-behind-radius-start c = omega (arith, behind-radius c .within)
 
-part-read-number-end : tie.Need-part-read-number-end
-part-read-number-end c = search needs
+part-behind-radius-end : tie.Need-part-behind-radius-end
+part-behind-radius-end c = search needs
 
-read-number-requires : tie.Need-read-number-requires
-read-number-requires c κs = search needs
+read-field-requires-5 : tie.Need-read-field-requires-5
+read-field-requires-5 c κs = search needs
 
 enum-known-four : tie.Need-enum-known-four
 enum-known-four c = search needs
@@ -149,25 +119,37 @@ enum-told-5 : tie.Need-enum-told-5
 enum-told-5 c = search needs
 
 returns-5 : tie.Need-returns-5
-unfolding fieldsIn
-returns-5 c =
-    let g = c .before .before .before .before in
-    let f = g .before .before .before .before .before in
-    let e = f .before .before .before .before .before in
-    let d = e .before .before .before .before .before in
-    sym (job-fields (whole d) ∙ rw (← width-read d .is, ← height-read e .is, ← lambda-read f .is, ← radius-read g .is, ← c .before .before .read-number .ensures, c .enum-told5 .given .1))
+returns-5 c = then-none (behind-radius (c .before .before .before .before)) (rw (c .enum-told5 .given .1) at (c .before .before .read-field5 .ensures))
 
-cast-t30 : tie.Need-cast-t30
-cast-t30 c = omega (arith, field-le 255 _ _ _ (radius-read (c .before .before .before .before .before)))
+sub-read-number : tie.Need-sub-read-number
+sub-read-number c = omega (arith, behind-four c .within)
+
+part-read-number-start : tie.Need-part-read-number-start
+part-read-number-start c = omega (arith, behind-four c .within)
+
+part-read-number-end : tie.Need-part-read-number-end
+part-read-number-end c = search needs
+
+read-number-requires : tie.Need-read-number-requires
+read-number-requires c κs = search needs
+
+enum-known-margin : tie.Need-enum-known-margin
+enum-known-margin c = search needs
+
+enum-told-6 : tie.Need-enum-told-6
+enum-told-6 c = search needs
 
 returns-6 : tie.Need-returns-6
-unfolding fieldsIn
-returns-6 c =
-    let g = c .before .before .before .before .before in
-    let f = g .before .before .before .before .before in
-    let e = f .before .before .before .before .before in
-    let d = e .before .before .before .before .before in
-    sym (job-fields (whole d) ∙ rw (← width-read d .is, ← height-read e .is, ← lambda-read f .is, ← radius-read g .is, ← c .before .before .before .read-number .ensures, c .before .four .given .1))
+returns-6 c = then-last (behind-four (c .before .before .before .before)) (rw (c .enum-told6 .given .1) at (c .before .before .read-number .ensures))
+
+returns-7 : tie.Need-returns-7
+returns-7 c = then-last (behind-four (c .before .before .before .before .before)) (rw (c .before .margin .given .1) at (c .before .before .before .read-number .ensures))
+
+cast-t36 : tie.Need-cast-t36
+cast-t36 c = omega (arith, fields-small _ _ (sym (returns-7 c)) .2)
+
+cast-t38 : tie.Need-cast-t38
+cast-t38 c = omega (arith, fields-small _ _ (sym (returns-7 c)) .3)
 
 pub read-fields-spec : {M : Type 1} → statement M
 read-fields-spec =
@@ -198,12 +180,20 @@ read-fields-spec =
     enum-known-radius
     enum-told-4
     returns-4
+    sub-behind-radius
+    part-behind-radius-start
+    part-behind-radius-end
+    read-field-requires-5
+    enum-known-four
+    enum-told-5
+    returns-5
     sub-read-number
     part-read-number-start
     part-read-number-end
     read-number-requires
-    enum-known-four
-    enum-told-5
-    returns-5
-    cast-t30
-    returns-6)
+    enum-known-margin
+    enum-told-6
+    returns-6
+    cast-t36
+    cast-t38
+    returns-7)

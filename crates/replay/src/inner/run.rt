@@ -39,6 +39,7 @@ fn write_job(
         lambda: j.lambda,
         radius: j.radius,
         four: j.four,
+        margin: 0,
     };
     encode_inter_plane_stated(
         canvas,

@@ -3,7 +3,7 @@ ghost use mathlib.Core.Path.{_≡_};
 ghost use lib.ListN.{length};
 ghost use Rattle.mv_cache.specs.CacheNeeds.{nearFrom};
 ghost use Rattle.macroblock.specs.MacroblockLaws.{Codables};
-ghost use Rattle.macroblock.specs.Choice.{skipsLeaves, planeTerms};
+ghost use Rattle.macroblock.specs.Choice.{openTerms, planeTerms};
 ghost use Rattle.macroblock.specs.MotionForms.{motionOf};
 ghost use Rattle.macroblock.specs.MacroblockNeeds.{givenBy};
 ghost use Rattle.macroblock_choice.specs.ChosenNeeds.{planningBy, Placing, Carries, Made};
@@ -22,24 +22,25 @@ use plan::svq1_enc_tree::MbPlan;
 use plan::svq1_enc_tree::inner::plan;
 use vectors::svq1_motion_predictor::Svq1Mv;
 
-// Leaves may skip in the inter half.
-fn skips_leaves(half: Svq1Half) -> bool
-    ensures { λ r. ⌜ r ≡ skipsLeaves half ⌝ }
-{
-    match half {
-        Svq1Half::Intra => false,
-        Svq1Half::Inter => true,
-    }
-}
-
-// In a plane every stage of a level is open.
-fn plane_terms(half: Svq1Half) -> LeafTerms
-    ensures { λ r. ⌜ r ≡ planeTerms half ⌝ }
+// Terms with every stage of a level open.
+fn open_terms(half: Svq1Half, skip: bool, margin: u32) -> LeafTerms
+    ensures { λ r. ⌜ r ≡ openTerms half skip margin ⌝ }
 {
     LeafTerms {
         half,
         cap: 6,
-        skip: skips_leaves(half),
+        skip,
+        margin,
+    }
+}
+
+// In a plane leaves may skip in the inter half; the margin is the same in both.
+fn plane_terms(margin: u32, half: Svq1Half) -> LeafTerms
+    ensures { λ r. ⌜ r ≡ planeTerms margin half ⌝ }
+{
+    match half {
+        Svq1Half::Intra => open_terms(half, false, margin),
+        Svq1Half::Inter => open_terms(half, true, margin),
     }
 }
 
@@ -60,7 +61,7 @@ fn plan_over(
     requires { ⌜ Placing (givenBy canvas (now reference) (now book) (now codebook)) (now raised) k (now target) × (length (now under) ≡ 256) ⌝ }
     ensures { λ r. ⌜ PlanFound (planningBy (givenBy canvas (now (reference .entry)) (now (book .entry)) (now (codebook .entry))) (now (target .entry)) settings k (motionOf motion vectors)) r ⌝ }
 {
-    let terms = plane_terms(half_of(motion));
+    let terms = plane_terms(settings.margin, half_of(motion));
     baseline_of(canvas, reference, k, motion, vectors, under);
     plan(
         terms,

@@ -2,7 +2,7 @@
 use mathlib.Core.Path.{_≡_, refl, _∙_, sym}
 use native.Mathlib.Omega.{arith}
 use Rattle.bits.specs.Basics.{Bytes}
-use Rattle.leaf.specs.LeafCall.{BlockIn, blockRefusal}
+use Rattle.leaf.specs.LeafCall.{BlockIn, blockBy, blockRefusal}
 use Rattle.leaf_call.specs.LeafAnswerLaws.{block-passes}
 use Rattle.plan_call.specs.PlanCallLaws.{plan-refused, plan-answered}
 use borrow.Author.Needs.{needs}
@@ -18,8 +18,8 @@ refused-plan-requires c κs = search needs
 returns : tie.Need-returns
 returns c =
     let a = c .before .before .before .before .before .before .before .args in
-    let b : BlockIn = record { book = a .book .now; codebook = a .codebook .now; level = a .level; half = a .half; cap = a .cap; allowSkip = a .skip; target = a .target .now; predictor = a .predictor .now } in
-    rw (c .refused-plan .ensures) (plan-refused b (a .lambda) _ (c .before .before .block-refusal .ensures) (c .before .if1 .taken))
+    let b : BlockIn = blockBy (a .book .now) (a .codebook .now) (a .level) (a .half) (a .target .now) (a .predictor .now) (a .cap) (a .skip) (a .margin) in
+    rw (c .refused-plan .ensures) (plan-refused b (a .lambda) _ (c .before .before .block-refusal .ensures (a .margin)) (c .before .if1 .taken))
 
 slice-aggregate-planned : tie.Need-slice-aggregate-planned
 slice-aggregate-planned c = search needs
@@ -27,8 +27,8 @@ slice-aggregate-planned c = search needs
 terms-of-requires : tie.Need-terms-of-requires
 terms-of-requires c κs =
     let a = c .before .before .before .before .before .before .before .args in
-    let b : BlockIn = record { book = a .book .now; codebook = a .codebook .now; level = a .level; half = a .half; cap = a .cap; allowSkip = a .skip; target = a .target .now; predictor = a .predictor .now } in
-    let none : blockRefusal b ≡ 0 = sym (c .before .before .block-refusal .ensures) ∙ c .before .if1 .left in
+    let b : BlockIn = blockBy (a .book .now) (a .codebook .now) (a .level) (a .half) (a .target .now) (a .predictor .now) (a .cap) (a .skip) (a .margin) in
+    let none : blockRefusal b ≡ 0 = sym (c .before .before .block-refusal .ensures (a .margin)) ∙ c .before .if1 .left in
     let p = block-passes b none in
     omega (arith, p .half)
 
@@ -38,8 +38,8 @@ slice-aggregate-planned-2 c = search needs
 planned-requires : tie.Need-planned-requires
 planned-requires c κs =
     let a = c .before .before .before .before .before .before .before .before .before .args in
-    let b : BlockIn = record { book = a .book .now; codebook = a .codebook .now; level = a .level; half = a .half; cap = a .cap; allowSkip = a .skip; target = a .target .now; predictor = a .predictor .now } in
-    let none : blockRefusal b ≡ 0 = sym (c .before .before .before .before .block-refusal .ensures) ∙ c .before .before .before .if1 .left in
+    let b : BlockIn = blockBy (a .book .now) (a .codebook .now) (a .level) (a .half) (a .target .now) (a .predictor .now) (a .cap) (a .skip) (a .margin) in
+    let none : blockRefusal b ≡ 0 = sym (c .before .before .before .before .block-refusal .ensures (a .margin)) ∙ c .before .before .before .if1 .left in
     let p = block-passes b none in
     record {
       ready = record {
@@ -58,8 +58,8 @@ planned-requires c κs =
 returns-2 : tie.Need-returns-2
 returns-2 c =
     let a = c .before .before .before .before .before .before .before .before .before .before .before .before .before .args in
-    let b : BlockIn = record { book = a .book .now; codebook = a .codebook .now; level = a .level; half = a .half; cap = a .cap; allowSkip = a .skip; target = a .target .now; predictor = a .predictor .now } in
-    let none : blockRefusal b ≡ 0 = sym (c .before .before .before .before .before .before .before .before .block-refusal .ensures) ∙ c .before .before .before .before .before .before .before .if1 .left in
+    let b : BlockIn = blockBy (a .book .now) (a .codebook .now) (a .level) (a .half) (a .target .now) (a .predictor .now) (a .cap) (a .skip) (a .margin) in
+    let none : blockRefusal b ≡ 0 = sym (c .before .before .before .before .before .before .before .before .block-refusal .ensures (a .margin)) ∙ c .before .before .before .before .before .before .before .if1 .left in
     let bt : Bytes (a .target .now) = λ k. omega (arith, c .before .before .before .before .before .before .before .before .before .before .shared-slice-known3 .given k) in
     let bp : Bytes (a .predictor .now) = λ k. omega (arith, c .before .before .before .before .before .before .before .before .before .shared-slice-known4 .given k) in
     plan-answered b (a .lambda) bt bp none _ (c .before .before .before .before .before .terms-of .ensures) (c .before .before .before .planned .result) _ (c .before .before .before .planned .ensures)

@@ -2,8 +2,8 @@
 use mathlib.Core.Path.{ap}
 use Rattle.cabunlis.specs.Host.{hostVisible}
 use borrow.Author.Needs.{needs}
-use Rattle.cabunlis.proofs.errors.cabunlis1_visible_error.Statement.{statement}
-use Rattle.cabunlis.proofs.errors.cabunlis1_visible_error.Tie as tie
+use Rattle.cabunlis.proofs.errors.cabunlis2_visible_error.Statement.{statement}
+use Rattle.cabunlis.proofs.errors.cabunlis2_visible_error.Tie as tie
 
 visible-error-requires : tie.Need-visible-error-requires
 visible-error-requires c κs = search needs
@@ -14,5 +14,5 @@ cast-t9 c = search needs
 returns : tie.Need-returns
 returns c = ap hostVisible (c .before .visible-error .ensures)
 
-pub cabunlis1-visible-error-spec : {M : Type 1} → statement M
-cabunlis1-visible-error-spec = tie.close (tie.spec visible-error-requires cast-t9 returns)
+pub cabunlis2-visible-error-spec : {M : Type 1} → statement M
+cabunlis2-visible-error-spec = tie.close (tie.spec visible-error-requires cast-t9 returns)

@@ -1,11 +1,11 @@
 -- The writer's contract, its answer as the struct. Assumes nothing.
 use Rattle.cabunlis.specs.HostLaws.{host-written}
 use borrow.Author.Needs.{needs}
-use Rattle.cabunlis.proofs.planes.cabunlis1_encode_inter_plane.Statement.{statement}
-use Rattle.cabunlis.proofs.planes.cabunlis1_encode_inter_plane.Tie as tie
+use Rattle.cabunlis.proofs.planes.cabunlis2_encode_inter_plane.Statement.{statement}
+use Rattle.cabunlis.proofs.planes.cabunlis2_encode_inter_plane.Tie as tie
 
-tries-four-requires : tie.Need-tries-four-requires
-tries-four-requires c κs = search needs
+settings-of-requires : tie.Need-settings-of-requires
+settings-of-requires c κs = search needs
 
 encode-inter-plane-requires : tie.Need-encode-inter-plane-requires
 encode-inter-plane-requires c κs = search needs
@@ -28,13 +28,13 @@ same-length-4 c = search needs
 returns : tie.Need-returns
 returns c =
     let e = c .before .before .before .before .before .before .before .before .before in
-    host-written _ _ _ _ _ _ _ (rw (e .before .before .before .before .before .tries-four .ensures) at (e .encode-inter-plane .ensures)) (c .answer .ensures)
+    host-written _ _ _ _ _ _ _ (rw (e .before .before .before .before .before .settings-of .ensures) at (e .encode-inter-plane .ensures)) (c .answer .ensures)
 
-pub cabunlis1-encode-inter-plane-spec : {M : Type 1} → statement M
-cabunlis1-encode-inter-plane-spec =
+pub cabunlis2-encode-inter-plane-spec : {M : Type 1} → statement M
+cabunlis2-encode-inter-plane-spec =
     tie.close
     (tie.spec
-    tries-four-requires
+    settings-of-requires
     encode-inter-plane-requires
     answer-requires
     same-length

@@ -1,11 +1,11 @@
 -- The contract of the writer that tells, its answer as the struct. Assumes nothing.
 use Rattle.cabunlis.specs.HostLaws.{host-stated}
 use borrow.Author.Needs.{needs}
-use Rattle.cabunlis.proofs.planes.cabunlis1_encode_inter_plane_stated.Statement.{statement}
-use Rattle.cabunlis.proofs.planes.cabunlis1_encode_inter_plane_stated.Tie as tie
+use Rattle.cabunlis.proofs.planes.cabunlis2_encode_inter_plane_stated.Statement.{statement}
+use Rattle.cabunlis.proofs.planes.cabunlis2_encode_inter_plane_stated.Tie as tie
 
-tries-four-requires : tie.Need-tries-four-requires
-tries-four-requires c κs = search needs
+settings-of-requires : tie.Need-settings-of-requires
+settings-of-requires c κs = search needs
 
 encode-inter-plane-stated-requires : tie.Need-encode-inter-plane-stated-requires
 encode-inter-plane-stated-requires c κs = search needs
@@ -31,13 +31,13 @@ same-length-5 c = search needs
 returns : tie.Need-returns
 returns c =
     let e = c .before .before .before .before .before .before .before .before .before .before .before in
-    host-stated _ _ _ _ _ _ _ _ _ (rw (e .before .before .before .before .before .before .tries-four .ensures) at (e .encode-inter-plane-stated .ensures)) (c .answer .ensures)
+    host-stated _ _ _ _ _ _ _ _ _ (rw (e .before .before .before .before .before .before .settings-of .ensures) at (e .encode-inter-plane-stated .ensures)) (c .answer .ensures)
 
-pub cabunlis1-encode-inter-plane-stated-spec : {M : Type 1} → statement M
-cabunlis1-encode-inter-plane-stated-spec =
+pub cabunlis2-encode-inter-plane-stated-spec : {M : Type 1} → statement M
+cabunlis2-encode-inter-plane-stated-spec =
     tie.close
     (tie.spec
-    tries-four-requires
+    settings-of-requires
     encode-inter-plane-stated-requires
     answer-requires
     same-length
