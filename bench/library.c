@@ -4,7 +4,14 @@
  *     library growth               the writer against the number of macroblocks and against the radius
  *     library reading              the reader, and what a call's checks take
  *     library margin               the writer at several margins
- *     library noise [COUNTS]       the writer on noise; COUNTS names a file of counted instructions
+ *     library picture [COUNTS]     three plane calls against one picture call, and that with half the bits; COUNTS names a file of
+ *                                  counted instructions
+ *     library pictures             the words for SCENE and SIZE, one case a line
+ *     library picture-planes SCENE SIZE
+ *     library picture-call SCENE SIZE
+ *     library picture-made SCENE SIZE
+ *                                  one picture made and written by either, or only made, for counting instructions
+ *     library noise [COUNTS]       the writer on noise; COUNTS as above
  *     library noises               the words for SIZE and RADIUS, one case a line
  *     library noise-plane SIZE RADIUS
  *     library noise-made SIZE RADIUS
@@ -207,6 +214,176 @@ static void margin(void)
                 margin_row(scene, size, MARGINS[k]);
 }
 
+/* ---- pictures */
+
+/* Three planes, and one string for all of them. */
+struct picture { struct plane planes[PLANES]; uint8_t *bytes; size_t length; };
+
+/* What a picture came to. */
+struct outcome { uint64_t bits; double seconds; };
+
+static struct picture picture_of(size_t size)
+{
+    struct picture p;
+    p.length = 0;
+    for (int k = 0; k < PLANES; k++) {
+        p.planes[k] = plane_of_picture(SIZES[size].width, SIZES[size].height, k);
+        p.length += p.planes[k].room;
+    }
+    p.bytes = host_memory(p.length);
+    return p;
+}
+
+static void picture_free(struct picture *p)
+{
+    for (int k = 0; k < PLANES; k++)
+        plane_free(&p->planes[k]);
+    free(p->bytes);
+}
+
+static void picture_draw(struct picture *p, size_t scene, unsigned n)
+{
+    for (int k = 0; k < PLANES; k++)
+        scene_draw(p->planes[k].source, p->planes[k].width, p->planes[k].height, (enum scene_plane)k, SCENES[scene].eye, n);
+}
+
+static void picture_go_on(struct picture *p)
+{
+    for (int k = 0; k < PLANES; k++)
+        go_on(&p->planes[k]);
+}
+
+static const struct cabunlis_settings PICTURE_SETTINGS = {LAMBDA, RADIUS, 1, 0}; /* 1: four vectors; margin 0 */
+
+/* Three plane calls, each from the bit where the one before ended. */
+static struct outcome planes_written(struct picture *p)
+{
+    struct cabunlis_tables tables = {book, sizeof book, codebook, sizeof codebook};
+    struct cabunlis_output output = {p->bytes, p->length, 0};
+    struct outcome o = {0, processor_seconds()};
+    for (int k = 0; k < PLANES; k++) {
+        struct cabunlis_plane lent = plane_lent(&p->planes[k]);
+        struct cabunlis_answer a = cabunlis_write(&lent, &tables, &PICTURE_SETTINGS, &output);
+        if (a.refusal)
+            fail("a plane was not written");
+        output.start = a.next;
+    }
+    o.seconds = processor_seconds() - o.seconds;
+    o.bits = output.start;
+    return o;
+}
+
+static struct outcome picture_written(struct picture *p, uint64_t allowance)
+{
+    struct cabunlis_tables tables = {book, sizeof book, codebook, sizeof codebook};
+    struct cabunlis_output output = {p->bytes, p->length, 0};
+    struct cabunlis_plane lent[PLANES];
+    struct outcome o = {0, processor_seconds()};
+    for (int k = 0; k < PLANES; k++)
+        lent[k] = plane_lent(&p->planes[k]);
+    struct cabunlis_picture_answer a = cabunlis_write_picture(lent, &tables, &PICTURE_SETTINGS, allowance, &output);
+    if (a.refusal)
+        fail("a picture was not written");
+    o.seconds = processor_seconds() - o.seconds;
+    o.bits = a.planes[PLANES - 1].next;
+    return o;
+}
+
+static double luma_db_of(const struct picture *p)
+{
+    const struct plane *luma = &p->planes[SCENE_LUMA];
+    return psnr(plane_visible(luma).error, luma->width * luma->height);
+}
+
+static void add(struct outcome *sum, struct outcome o)
+{
+    sum->bits += o.bits;
+    sum->seconds += o.seconds;
+}
+
+/* The instructions of one picture by either, in a file with a line for each case: scene, size, both counts. */
+static void counted_pictures(const char *name, size_t scene, size_t size)
+{
+    char word[16];
+    size_t w, h;
+    double by_planes, by_picture;
+    FILE *f = fopen(name, "r");
+    if (!f) {
+        perror(name);
+        exit(1);
+    }
+    while (fscanf(f, "%15s %zux%zu %lf %lf", word, &w, &h, &by_planes, &by_picture) == 5)
+        if (strcmp(word, SCENES[scene].name) == 0 && w == SIZES[size].width && h == SIZES[size].height)
+            printf(" %.2f | %.2f | %.4f |", by_planes / 1e6, by_picture / 1e6, by_picture / by_planes);
+    fclose(f);
+}
+
+/* A row: the same pictures by three plane calls and by the picture call without a limit, which have to give the same bytes; and inside half the bits
+ * that they took, against its own pictures before. The first picture, against gray, does not count. */
+static void picture_row(size_t scene, size_t size, const char *counts)
+{
+    enum { PICTURES = 30 };
+    struct picture planes = picture_of(size), picture = picture_of(size), half = picture_of(size);
+    struct outcome by_planes = {0, 0}, by_picture = {0, 0}, by_half = {0, 0};
+    double db = 0, half_db = 0;
+    for (unsigned n = 0; n <= PICTURES; n++) {
+        picture_draw(&planes, scene, n);
+        picture_draw(&picture, scene, n);
+        picture_draw(&half, scene, n);
+        /* either goes first as often as the other */
+        struct outcome b = {0, 0};
+        if (n % 2)
+            b = picture_written(&picture, UINT64_MAX);
+        struct outcome a = planes_written(&planes);
+        if (n % 2 == 0)
+            b = picture_written(&picture, UINT64_MAX);
+        if (a.bits != b.bits || memcmp(planes.bytes, picture.bytes, (size_t)(a.bits + 7) / 8) != 0)
+            fail("the picture call writes other bits than the plane calls");
+        struct outcome c = picture_written(&half, n ? a.bits / 2 : UINT64_MAX);
+        if (n > 0) {
+            if (c.bits > a.bits / 2)
+                fail("the picture call passes its allowance");
+            add(&by_planes, a);
+            add(&by_picture, b);
+            add(&by_half, c);
+            db += luma_db_of(&picture);
+            half_db += luma_db_of(&half);
+        }
+        picture_go_on(&planes);
+        picture_go_on(&picture);
+        picture_go_on(&half);
+    }
+    printf("| %s | %zux%zu | %.0f | %.2f | %.2f | %.2f | %.3f |", SCENES[scene].name, SIZES[size].width, SIZES[size].height, (double)by_picture.bits / PICTURES, db / PICTURES,
+        1e3 * by_planes.seconds / PICTURES, 1e3 * by_picture.seconds / PICTURES, by_picture.seconds / by_planes.seconds);
+    printf(" %.0f | %.2f | %.2f |", (double)by_half.bits / PICTURES, half_db / PICTURES, 1e3 * by_half.seconds / PICTURES);
+    if (counts)
+        counted_pictures(counts, scene, size);
+    printf("\n");
+    fflush(stdout);
+    picture_free(&planes);
+    picture_free(&picture);
+    picture_free(&half);
+}
+
+static void pictures(const char *counts)
+{
+    printf("three planes a picture, lambda %d, radius %d, four vectors, the mean of thirty pictures: three plane calls, one picture call without a limit, one inside half the bits\n\n",
+        LAMBDA, RADIUS);
+    printf("| scene | luma | bits a picture | luma dB | ms a picture, plane calls | picture call | ratio | inside half: bits | luma dB | ms |%s\n",
+        counts ? " million instructions, plane calls | picture call | ratio |" : "");
+    printf("|---|---|---|---|---|---|---|---|---|---|%s\n", counts ? "---|---|---|" : "");
+    for (size_t size = 0; size < COUNT(SIZES); size++)
+        for (size_t scene = 0; scene < COUNT(SCENES); scene++)
+            picture_row(scene, size, counts);
+}
+
+static void picture_cases(void)
+{
+    for (size_t size = 0; size < COUNT(SIZES); size++)
+        for (size_t scene = 0; scene < COUNT(SCENES); scene++)
+            printf("%s %zux%zu\n", SCENES[scene].name, SIZES[size].width, SIZES[size].height);
+}
+
 /* ---- noise */
 
 /* SplitMix64. */
@@ -307,6 +484,34 @@ static size_t size_named(const char *name)
     return 0;
 }
 
+static size_t scene_named(const char *name)
+{
+    for (size_t k = 0; k < COUNT(SCENES); k++)
+        if (strcmp(name, SCENES[k].name) == 0)
+            return k;
+    fail("there is no such scene");
+    return 0;
+}
+
+/* The second picture of a scene; its reference is the first as drawn, so that only one is written. */
+static void one_picture(const char *scene, const char *size, struct outcome (*write)(struct picture *))
+{
+    size_t s = scene_named(scene);
+    struct picture p = picture_of(size_named(size));
+    picture_draw(&p, s, 0);
+    for (int k = 0; k < PLANES; k++)
+        for (size_t y = 0; y < p.planes[k].height; y++)
+            memcpy(p.planes[k].reference + y * p.planes[k].stride, p.planes[k].source + y * p.planes[k].width, p.planes[k].width);
+    picture_draw(&p, s, 1);
+    printf("%" PRIu64 "\n", write ? write(&p).bits : 0);
+    picture_free(&p);
+}
+
+static struct outcome picture_unlimited(struct picture *p)
+{
+    return picture_written(p, UINT64_MAX);
+}
+
 static void noise_plane(const char *size, const char *radius, int write)
 {
     size_t k = size_named(size);
@@ -320,13 +525,9 @@ static void noise_plane(const char *size, const char *radius, int write)
 
 static void raw(const char *scene, const char *size, const char *count)
 {
-    size_t s = 0, z = size_named(size);
-    unsigned long pictures = strtoul(count, NULL, 10);
-    while (s < COUNT(SCENES) && strcmp(SCENES[s].name, scene) != 0)
-        s++;
-    if (s == COUNT(SCENES))
-        fail("there is no such scene");
-    for (unsigned n = 0; n < pictures; n++)
+    size_t s = scene_named(scene), z = size_named(size);
+    unsigned long drawn = strtoul(count, NULL, 10);
+    for (unsigned n = 0; n < drawn; n++)
         for (int k = 0; k < PLANES; k++) {
             struct plane p = plane_of_picture(SIZES[z].width, SIZES[z].height, k);
             scene_draw(p.source, p.width, p.height, (enum scene_plane)k, SCENES[s].eye, n);
@@ -347,6 +548,16 @@ int main(int argc, char **argv)
         reading();
     else if (argc == 2 && strcmp(what, "margin") == 0)
         margin();
+    else if ((argc == 2 || argc == 3) && strcmp(what, "picture") == 0)
+        pictures(argc == 3 ? argv[2] : NULL);
+    else if (argc == 2 && strcmp(what, "pictures") == 0)
+        picture_cases();
+    else if (argc == 4 && strcmp(what, "picture-planes") == 0)
+        one_picture(argv[2], argv[3], planes_written);
+    else if (argc == 4 && strcmp(what, "picture-call") == 0)
+        one_picture(argv[2], argv[3], picture_unlimited);
+    else if (argc == 4 && strcmp(what, "picture-made") == 0)
+        one_picture(argv[2], argv[3], NULL);
     else if (argc <= 3 && strcmp(what, "noise") == 0)
         noise(argc == 3 ? argv[2] : NULL);
     else if (argc == 2 && strcmp(what, "noises") == 0)
@@ -358,6 +569,6 @@ int main(int argc, char **argv)
     else if (argc == 5 && strcmp(what, "raw") == 0)
         raw(argv[2], argv[3], argv[4]);
     else
-        fail("usage: library growth | reading | margin | noise [COUNTS] | noises | noise-plane SIZE RADIUS | noise-made SIZE RADIUS | raw SCENE SIZE N");
+        fail("usage: library growth | reading | margin | picture [COUNTS] | pictures | picture-planes SCENE SIZE | picture-call SCENE SIZE | picture-made SCENE SIZE | noise [COUNTS] | noises | noise-plane SIZE RADIUS | noise-made SIZE RADIUS | raw SCENE SIZE N");
     return 0;
 }

@@ -52,6 +52,8 @@ void test_cards(void);
 void test_refusals(void);
 void test_round_trips(void);
 void test_margins(void);
+void test_pictures(void);
+void test_picture_refusals(void);
 void test_damaged(void);
 void test_visible(void);
 void test_rooms(void);

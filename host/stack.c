@@ -13,6 +13,11 @@ enum { SIDE = 64, STACK = 1 << 20, PAINT = 0xd7 };
 
 struct lent {
     struct plane p;
+    struct plane others[2]; /* with p a picture */
+    struct cabunlis_plane planes[3];
+    struct cabunlis_tables tables;
+    struct cabunlis_settings settings;
+    struct cabunlis_output output; /* room for its planes */
     uint8_t book[CABUNLIS_BOOK_BYTES], codebook[CABUNLIS_CODEBOOK_BYTES];
     char file[BOOK_FILE_MOST];
     size_t file_length;
@@ -32,6 +37,13 @@ static void *encode(void *lent)
         p->width, p->height, p->stride, p->rows, p->source, p->width * p->height, p->reference, p->stride * p->rows, tables()->book, CABUNLIS_BOOK_BYTES,
         tables()->codebook, CABUNLIS_CODEBOOK_BYTES, 8, 8, 1, 0, p->out, p->room, 0, p->recon, p->stride * p->rows, p->vx, 4 * p->macroblocks, p->vy, 4 * p->macroblocks,
         p->stated, 3 * p->macroblocks);
+    return NULL;
+}
+
+static void *picture(void *lent)
+{
+    struct lent *l = lent;
+    cabunlis_write_picture(l->planes, &l->tables, &l->settings, 2 * l->output.length, &l->output);
     return NULL;
 }
 
@@ -103,17 +115,44 @@ static size_t touched(void *(*work)(void *), struct lent *l)
     return STACK - left;
 }
 
+/* Noise that a reference of noise predicts in part. */
+static void fill(struct plane *p, uint64_t *state)
+{
+    for (size_t k = 0; k < SIDE * SIDE; k++)
+        p->source[k] = p->reference[(k + 3) % (SIDE * SIDE)] = (uint8_t)(random_next(state) % 128);
+}
+
+/* The picture call's arguments lie here and not on the stack that is measured. */
+static void lend_picture(struct lent *l)
+{
+    l->planes[0] = plane_lent(&l->p);
+    l->planes[1] = plane_lent(&l->others[0]);
+    l->planes[2] = plane_lent(&l->others[1]);
+    l->tables.book = tables()->book;
+    l->tables.book_length = CABUNLIS_BOOK_BYTES;
+    l->tables.codebook = tables()->codebook;
+    l->tables.codebook_length = CABUNLIS_CODEBOOK_BYTES;
+    l->settings.lambda = l->settings.radius = 8;
+    l->settings.four = 1;
+    l->output.length = 3 * l->p.room;
+    l->output.bytes = host_memory(l->output.length);
+}
+
 int main(void)
 {
     static const struct { const char *name; void *(*work)(void *); } CALLS[] = {
-        {"encode_inter_plane", encode}, {"decode_inter_plane", decode}, {"visible_error", visible}, {"plane_room", room}, {"read_book_file", read_file},
-        {"write_book_file", write_file}, {"house", house},
+        {"encode_inter_plane", encode}, {"encode_picture", picture}, {"decode_inter_plane", decode}, {"visible_error", visible}, {"plane_room", room},
+        {"read_book_file", read_file}, {"write_book_file", write_file}, {"house", house},
     };
     uint64_t state = 9;
     struct lent *l = host_memory(sizeof *l);
     l->p = plane_of(SIDE, SIDE);
-    for (size_t k = 0; k < SIDE * SIDE; k++)
-        l->p.source[k] = l->p.reference[(k + 3) % (SIDE * SIDE)] = (uint8_t)(random_next(&state) % 128);
+    l->others[0] = plane_of(SIDE, SIDE);
+    l->others[1] = plane_of(SIDE, SIDE);
+    fill(&l->p, &state);
+    fill(&l->others[0], &state);
+    fill(&l->others[1], &state);
+    lend_picture(l);
     l->file_length = book_file_of(l->file, tables()->book);
     size_t thread_alone = touched(nothing, l);
     for (size_t k = 0; k < sizeof CALLS / sizeof *CALLS; k++) {
@@ -123,6 +162,9 @@ int main(void)
         CHECK(bytes <= CABUNLIS_STACK_BYTES);
     }
     plane_free(&l->p);
+    plane_free(&l->others[0]);
+    plane_free(&l->others[1]);
+    free(l->output.bytes);
     free(l);
     return check_group("stack") != 0;
 }

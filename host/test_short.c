@@ -5,7 +5,7 @@
 #include "check.h"
 
 /* 20 x 36: a canvas of 32 x 48, six macroblocks; every length and every number here is another one. */
-enum { W = 20, H = 36, STRIDE = 32, ROWS = 48, CANVAS = STRIDE * ROWS, BLOCKS = 6, OUT = 4096, SPARE = 8 };
+enum { W = 20, H = 36, STRIDE = 32, ROWS = 48, CANVAS = STRIDE * ROWS, BLOCKS = 6, OUT = 4096, SPARE = 8, PLANES = 3 };
 
 /* All that a call is lent, twice over: a pointer is varied by lending the second. */
 struct memory {
@@ -15,7 +15,7 @@ struct memory {
     uint32_t stated[2][3 * BLOCKS];
 };
 
-/* The arguments of a plane entry, as this test passes them to it. */
+/* The arguments of a plane entry, as this test passes them to it, and the picture's allowance. */
 struct arguments {
     size_t width, height, stride, rows;
     int source, reference, book, codebook, bytes, recon, vx, vy, stated; /* which of the two */
@@ -23,14 +23,15 @@ struct arguments {
     uint64_t lambda;
     uint8_t radius, four;
     uint32_t margin;
+    uint64_t allowance;
 };
 
 enum field {
     NONE, WIDTH, HEIGHT, STRIDE_, ROWS_, SOURCE, SOURCE_LENGTH, REFERENCE, REFERENCE_LENGTH, RECON, RECON_LENGTH, VX, VX_LENGTH, VY, VY_LENGTH,
-    BOOK, BOOK_LENGTH, CODEBOOK, CODEBOOK_LENGTH, BYTES, LENGTH, START, LAMBDA, RADIUS, FOUR, MARGIN, STATED, STATED_LENGTH, FIELDS
+    BOOK, BOOK_LENGTH, CODEBOOK, CODEBOOK_LENGTH, BYTES, LENGTH, START, LAMBDA, RADIUS, FOUR, MARGIN, ALLOWANCE, STATED, STATED_LENGTH, FIELDS
 };
 
-enum call { WRITE, WRITE_STATED, READ };
+enum call { WRITE, WRITE_STATED, READ, PICTURE };
 
 static struct arguments usual(void)
 {
@@ -41,6 +42,7 @@ static struct arguments usual(void)
     a.book_length = CABUNLIS_BOOK_BYTES, a.codebook_length = CABUNLIS_CODEBOOK_BYTES;
     a.bytes_length = OUT, a.start = 3, a.vx_length = 4 * BLOCKS, a.vy_length = 4 * BLOCKS, a.stated_length = 3 * BLOCKS;
     a.lambda = 1, a.radius = 1, a.four = 1, a.margin = 0;
+    a.allowance = UINT64_C(1) << 40; /* an allowance cut short would be 0, and refused */
     return a;
 }
 
@@ -73,6 +75,7 @@ static void vary(struct arguments *a, enum field f)
     case RADIUS: a->radius = 6; break;
     case FOUR: a->four = 0; break;
     case MARGIN: a->margin = UINT32_C(1) << 31; break; /* no stage stays; the highest bit, so a margin cut short would be 0 */
+    case ALLOWANCE: a->allowance = 700; break;
     case STATED: a->stated = 1; break;
     case STATED_LENGTH: a->stated_length = 4; break;
     }
@@ -97,18 +100,11 @@ static struct cabunlis_answer entry(struct memory *m, const struct arguments *a,
         m->stated[a->stated], a->stated_length);
 }
 
-static struct cabunlis_answer short_call(struct memory *m, const struct arguments *a, enum call c)
+/* A plane as the reader takes it. */
+static struct cabunlis_plane plane_to_read(struct memory *m, const struct arguments *a)
 {
     struct cabunlis_plane plane;
-    struct cabunlis_tables tables;
-    struct cabunlis_settings settings;
-    struct cabunlis_output output;
-    struct cabunlis_input input;
     memset(&plane, 0, sizeof plane);
-    memset(&tables, 0, sizeof tables);
-    memset(&settings, 0, sizeof settings);
-    memset(&output, 0, sizeof output);
-    memset(&input, 0, sizeof input);
     plane.width = a->width;
     plane.height = a->height;
     plane.stride = a->stride;
@@ -121,29 +117,69 @@ static struct cabunlis_answer short_call(struct memory *m, const struct argument
     plane.vx_length = a->vx_length;
     plane.vy = m->vy[a->vy];
     plane.vy_length = a->vy_length;
+    return plane;
+}
+
+/* And as the writer takes it. */
+static struct cabunlis_plane plane_to_write(struct memory *m, const struct arguments *a, int stated)
+{
+    struct cabunlis_plane plane = plane_to_read(m, a);
+    plane.source = m->source[a->source];
+    plane.source_length = a->source_length;
+    if (stated) {
+        plane.stated = m->stated[a->stated];
+        plane.stated_length = a->stated_length;
+    }
+    return plane;
+}
+
+static struct cabunlis_tables tables_lent(struct memory *m, const struct arguments *a)
+{
+    struct cabunlis_tables tables;
+    memset(&tables, 0, sizeof tables);
     tables.book = m->book[a->book];
     tables.book_length = a->book_length;
     tables.codebook = m->codebook[a->codebook];
     tables.codebook_length = a->codebook_length;
+    return tables;
+}
+
+static struct cabunlis_settings settings_given(const struct arguments *a)
+{
+    struct cabunlis_settings settings;
+    memset(&settings, 0, sizeof settings);
+    settings.lambda = a->lambda;
+    settings.radius = a->radius;
+    settings.four = a->four;
+    settings.margin = a->margin;
+    return settings;
+}
+
+static struct cabunlis_output output_lent(struct memory *m, const struct arguments *a)
+{
+    struct cabunlis_output output;
+    memset(&output, 0, sizeof output);
+    output.bytes = m->bytes[a->bytes];
+    output.length = a->bytes_length;
+    output.start = a->start;
+    return output;
+}
+
+static struct cabunlis_answer short_call(struct memory *m, const struct arguments *a, enum call c)
+{
+    struct cabunlis_tables tables = tables_lent(m, a);
     if (c == READ) {
+        struct cabunlis_plane plane = plane_to_read(m, a);
+        struct cabunlis_input input;
+        memset(&input, 0, sizeof input);
         input.bytes = m->bytes[a->bytes];
         input.length = a->bytes_length;
         input.start = a->start;
         return cabunlis_read(&plane, &tables, &input);
     }
-    plane.source = m->source[a->source];
-    plane.source_length = a->source_length;
-    if (c == WRITE_STATED) {
-        plane.stated = m->stated[a->stated];
-        plane.stated_length = a->stated_length;
-    }
-    settings.lambda = a->lambda;
-    settings.radius = a->radius;
-    settings.four = a->four;
-    settings.margin = a->margin;
-    output.bytes = m->bytes[a->bytes];
-    output.length = a->bytes_length;
-    output.start = a->start;
+    struct cabunlis_plane plane = plane_to_write(m, a, c == WRITE_STATED);
+    struct cabunlis_settings settings = settings_given(a);
+    struct cabunlis_output output = output_lent(m, a);
     return cabunlis_write(&plane, &tables, &settings, &output);
 }
 
@@ -183,16 +219,94 @@ static int same_answer(const struct cabunlis_answer *a, const struct cabunlis_an
 
 static int takes(enum call c, enum field f)
 {
+    if (f == ALLOWANCE)
+        return c == PICTURE;
     if (f == STATED || f == STATED_LENGTH)
-        return c == WRITE_STATED;
+        return c == WRITE_STATED || c == PICTURE;
     if (f == SOURCE || f == SOURCE_LENGTH || f == LAMBDA || f == RADIUS || f == FOUR || f == MARGIN)
         return c != READ;
     return 1;
 }
 
+/* ---- the picture: each plane has its own memory and arguments; what they share is lent by the first */
+
+static struct cabunlis_picture_answer picture_entry(struct memory *m, const struct arguments *a)
+{
+    return cabunlis_encode_picture(
+        a[0].width, a[0].height, a[0].stride, a[0].rows, m[0].source[a[0].source], a[0].source_length, m[0].reference[a[0].reference], a[0].reference_length,
+        m[0].recon[a[0].recon], a[0].recon_length, m[0].vx[a[0].vx], a[0].vx_length, m[0].vy[a[0].vy], a[0].vy_length, m[0].stated[a[0].stated], a[0].stated_length,
+        a[1].width, a[1].height, a[1].stride, a[1].rows, m[1].source[a[1].source], a[1].source_length, m[1].reference[a[1].reference], a[1].reference_length,
+        m[1].recon[a[1].recon], a[1].recon_length, m[1].vx[a[1].vx], a[1].vx_length, m[1].vy[a[1].vy], a[1].vy_length, m[1].stated[a[1].stated], a[1].stated_length,
+        a[2].width, a[2].height, a[2].stride, a[2].rows, m[2].source[a[2].source], a[2].source_length, m[2].reference[a[2].reference], a[2].reference_length,
+        m[2].recon[a[2].recon], a[2].recon_length, m[2].vx[a[2].vx], a[2].vx_length, m[2].vy[a[2].vy], a[2].vy_length, m[2].stated[a[2].stated], a[2].stated_length,
+        m[0].book[a[0].book], a[0].book_length, m[0].codebook[a[0].codebook], a[0].codebook_length, a[0].lambda, a[0].radius, a[0].four, a[0].margin, a[0].allowance,
+        m[0].bytes[a[0].bytes], a[0].bytes_length, a[0].start);
+}
+
+/* With NULL for what plane `unstated` is to state, or for none. */
+static struct cabunlis_picture_answer picture_short(struct memory *m, const struct arguments *a, int unstated)
+{
+    struct cabunlis_plane planes[PLANES];
+    struct cabunlis_tables tables = tables_lent(&m[0], &a[0]);
+    struct cabunlis_settings settings = settings_given(&a[0]);
+    struct cabunlis_output output = output_lent(&m[0], &a[0]);
+    for (int k = 0; k < PLANES; k++)
+        planes[k] = plane_to_write(&m[k], &a[k], k != unstated);
+    if (unstated < PLANES)
+        planes[unstated].stated_length = 3 * BLOCKS;
+    return cabunlis_write_picture(planes, &tables, &settings, a[0].allowance, &output);
+}
+
+static int same_picture(const struct cabunlis_picture_answer *a, const struct cabunlis_picture_answer *b)
+{
+    int same = a->refusal == b->refusal && a->macroblock == b->macroblock && a->done == b->done;
+    for (int k = 0; k < PLANES; k++)
+        same = same && same_answer(&a->planes[k], &b->planes[k]);
+    return same;
+}
+
+static int of_one_plane(enum field f)
+{
+    return (WIDTH <= f && f <= VY_LENGTH) || f == STATED || f == STATED_LENGTH;
+}
+
+static void pictures(void)
+{
+    static struct memory plain[PLANES], brief[PLANES], unvaried[PLANES];
+    struct cabunlis_picture_answer first;
+    memset(&first, 0, sizeof first);
+    for (int n = 0; n < PLANES; n++)
+        for (int f = NONE; f <= FIELDS; f++) {
+            struct arguments a[PLANES], b[PLANES];
+            if (n > 0 && f < FIELDS && !of_one_plane((enum field)f))
+                continue;
+            for (int k = 0; k < PLANES; k++) {
+                a[k] = b[k] = usual();
+                fill(&plain[k], PICTURE);
+                fill(&brief[k], PICTURE);
+            }
+            vary(&a[n], (enum field)f);
+            vary(&b[n], (enum field)f);
+            /* behind the fields: the short call gets NULL, which stands for length 0 whatever its length says */
+            if (f == FIELDS)
+                a[n].stated_length = 0;
+            struct cabunlis_picture_answer wanted = picture_entry(plain, a), got = picture_short(brief, b, f == FIELDS ? n : PLANES);
+            CHECK(same_picture(&wanted, &got));
+            CHECK(memcmp(plain, brief, sizeof plain) == 0);
+            if (f == NONE) {
+                CHECK(wanted.refusal == 0 && wanted.done == PLANES * BLOCKS);
+                first = wanted;
+                memcpy(unvaried, plain, sizeof plain);
+            } else {
+                CHECK(!same_picture(&wanted, &first) || memcmp(plain, unvaried, sizeof plain) != 0);
+            }
+        }
+}
+
 void test_short(void)
 {
     static struct memory plain, brief, unvaried;
+    pictures();
     for (int c = WRITE; c <= READ; c++) {
         struct cabunlis_answer first = {0, 0, 0, 0, 0, 0};
         for (int f = NONE; f < FIELDS; f++) {

@@ -10,6 +10,8 @@ static const struct { const char *name; void (*run)(void); } GROUPS[] = {
     {"refusals", test_refusals},
     {"round trips", test_round_trips},
     {"margins", test_margins},
+    {"pictures", test_pictures},
+    {"not written", test_picture_refusals},
     {"damaged", test_damaged},
     {"visible", test_visible},
     {"rooms", test_rooms},

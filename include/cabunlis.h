@@ -3,7 +3,8 @@
  *
  * The built-in ("house") book and codebook stand in for the format's own tables and are not them: what is written under them plays
  * in this library alone. Any other book and codebook can be lent in their place; the format's own are not part of this library.
- * Picture headers and key pictures are not written here either: a plane's bits are all that there is.
+ * Picture headers and key pictures are not written here either: a picture is three planes, and the planes' bits are all that there
+ * is.
  *
  * For x86-64 Linux (ELF, System V calls). The library calls memcpy, memmove and memset, nothing else; it may stand in a program or
  * in a shared object, position-independent or not. C99 and later, C++98 and later. Link:
@@ -15,8 +16,9 @@
  * - A slice is a pointer and a length in elements. The caller sees to it that the pointer is valid for so many elements and is not
  *   NULL, not even that of a slice of length 0. Nothing can check that: it is what the proofs assume of a caller.
  * - The same holds of this: a slice that an entry writes (out, vx, vy, stated; recon, book and codebook where they are filled)
- *   overlaps no other slice of the same call, and nobody else reads or writes it during the call. Slices that are only read may
- *   overlap each other; nobody writes them during the call.
+ *   overlaps no other slice of the same call, in a picture none of the other planes' slices either, and nobody else reads or
+ *   writes it during the call. A slice of length 0 overlaps nothing. Slices that are only read may overlap each other, also those
+ *   of several planes of a picture; nobody writes them during the call.
  * - Nothing is kept between calls and nothing is allocated. Calls on slices of their own may run on any number of threads at once.
  * - Every call ends, touches nothing outside the slices, and refuses what it cannot take by a number (below). A refused call
  *   leaves every slice as it was, except where the number says that it came in the middle of a plane.
@@ -44,13 +46,19 @@
  *
  * A bit string is bytes, the highest bit of a byte first. Bits are counted from the first of the slice, whatever the start bit.
  *
+ * A picture is three planes, each of its own size and with its own source and reference, one behind the other in one bit string.
+ * There are always three: none can be left out, and a size of 0 is refused (1). Nothing is predicted from one plane to another.
+ *
  * Questions
  *
  * - Does a stream tell its length? No. It carries neither its length nor the plane's size, tables or settings: the host has to send
  *   what the reader has to be lent. A plane ends with its last macroblock; the answer's `next` says where, and bits behind it
  *   change nothing.
- * - How do several planes stand in one string? Each starts at the `next` of the one before. Their rooms add up: planes that follow
- *   each other from bit 0 all fit into the sum of their rooms.
+ * - How do several planes stand in one string? Each starts at the `next` of the one before, at whatever bit that is. Their rooms
+ *   add up: planes that follow each other from bit 0 all fit into the sum of their rooms. The picture call writes three planes so.
+ *   There is no reader of pictures: read plane by plane, each from the `next` of the one before.
+ * - How to keep a picture within what the link carries? Write it by the picture call, which takes an allowance of bits for its
+ *   three planes together and never passes it. The reader needs no allowance.
  * - How to start without a key picture? Lend both sides the same first reference, whatever it holds, such as a canvas of 128
  *   everywhere. The first plane then codes most of the picture anew. After a loss, both sides start so again.
  * - What to put into `recon` before reading? A plane that is cut or damaged ends at a macroblock, and the samples behind it stay as
@@ -101,7 +109,7 @@
  * same arguments and structs, PATCH with the rest.
  */
 #define CABUNLIS_VERSION_MAJOR 2
-#define CABUNLIS_VERSION_MINOR 0
+#define CABUNLIS_VERSION_MINOR 1
 #define CABUNLIS_VERSION_PATCH 0
 
 /* One number that grows with the version, for #if (1.2.3 is 1002003), and text, as "1.2.3". */
@@ -117,6 +125,7 @@
 #define CABUNLIS_ENTRY_NAME(major, name) cabunlis##major##_##name
 #define cabunlis_encode_inter_plane CABUNLIS_ENTRY(encode_inter_plane)
 #define cabunlis_encode_inter_plane_stated CABUNLIS_ENTRY(encode_inter_plane_stated)
+#define cabunlis_encode_picture CABUNLIS_ENTRY(encode_picture)
 #define cabunlis_decode_inter_plane CABUNLIS_ENTRY(decode_inter_plane)
 #define cabunlis_visible_error CABUNLIS_ENTRY(visible_error)
 #define cabunlis_plane_room CABUNLIS_ENTRY(plane_room)
@@ -153,8 +162,8 @@ extern "C" {
 /* The longest bit string, in bytes. */
 #define CABUNLIS_MOST_BYTES ((size_t)1 << 28)
 
-/* Stack that a call may take, in bytes. Measured: writer 44,800, reader 44,112, a book file read 8,104 and written 4,488, a room
- * under a book 4,296, the visible error 664, the others next to nothing. */
+/* Stack that a call may take, in bytes. Measured: a plane written 45,184, a picture 45,792, the reader 44,112, a book file read
+ * 8,104 and written 4,488, a room under a book 4,296, the visible error 664, the others next to nothing. */
 #define CABUNLIS_STACK_BYTES 49152
 
 /* The refusals that a C host can meet; no other number comes. */
@@ -183,19 +192,22 @@ enum cabunlis_refusal {
     CABUNLIS_ERR_RESULTS = 20,
     /* bit string longer than CABUNLIS_MOST_BYTES, or start bit beyond its end: above 8 x its length */
     CABUNLIS_ERR_BITS = 21,
-    /* writer: the next macroblock does not fit */
+    /* writer: the next macroblock does not fit into `out` */
     CABUNLIS_ERR_FULL = 22,
     /* reader: the bits end before the last macroblock is whole */
     CABUNLIS_ERR_CUT = 24,
     /* a book file that has every line once, and not in the order of the book; tested behind 5 and before 6 */
-    CABUNLIS_ERR_ORDER = 30
+    CABUNLIS_ERR_ORDER = 30,
+    /* picture: an allowance below the length of SKIP's code x the macroblocks of the three planes; tested behind all checks of the
+     * three planes */
+    CABUNLIS_ERR_ALLOWANCE = 31
 };
 
 /*
  * What a plane call answers. Where refusal is 0 the plane is whole. Where it is 10, 11, 22 or 24 the call came to the macroblock of
  * index `macroblock`: those before it are done, with their bits, samples and vectors, the rest is untouched, and `next` is where it
  * begins. With any other refusal nothing is done and every other field is 0. The lowest number that applies is answered, 20 and 21
- * behind 1 to 7.
+ * behind 1 to 7. A picture has such an answer for each plane (below); there a plane with refusal 0 may also not have been reached.
  */
 struct cabunlis_answer {
     uint32_t refusal;
@@ -274,6 +286,85 @@ struct cabunlis_answer cabunlis_encode_inter_plane_stated(
     int8_t *vx, size_t vx_length,
     int8_t *vy, size_t vy_length,
     uint32_t *stated, size_t stated_length);
+
+/*
+ * What the picture call answers: the picture's refusal, 0 for none, and for each plane what a plane call answers.
+ *
+ * Where refusal is 0 all three planes are whole. Where it is 22 the planes before the one that answers 22 are whole, that one is
+ * written up to the macroblock that does not fit, and those behind it are not reached: their refusal is 0, nothing of them is done
+ * or changed, their totals are 0, and their `next` is the bit where writing ended. So in both cases planes[2].next is the bit
+ * behind everything that was written. With any other refusal nothing is done and every other field is 0, but that the plane whose
+ * checks met the refusal answers it too; with 31 no plane does. Whether the allowance limited anything is not answered.
+ */
+struct cabunlis_picture_answer {
+    uint32_t refusal;
+    size_t macroblock;                /* its index with 22, counted through the planes, else 0 */
+    size_t done;                      /* macroblocks done in all planes */
+    struct cabunlis_answer planes[3]; /* a macroblock's index is within its plane; bits and error are the plane's */
+};
+
+/*
+ * Writes three planes one behind the other, from bit `start` of `out` on, in at most `allowance` bits. Each plane has its size, its
+ * source, its reference and the slices that are written, as cabunlis_encode_inter_plane_stated takes them: a slice `stated` may
+ * have length 0, but its pointer is never NULL. Book, codebook, lambda, radius, four, margin and `out` are one for the picture.
+ *
+ * The allowance counts the bits of this picture and not those before `start`; any 64-bit number from the least on is taken (31),
+ * and 2^64 - 1 limits nothing. The least is book[3 * CABUNLIS_SKIP + 2], the length of SKIP's code, times the macroblocks of all
+ * three planes. A mode fits if, after its bits, what is left of the allowance still holds a SKIP code for each macroblock to come,
+ * in this plane and in those behind it. Of the modes that fit, that of least error + lambda x bits is written, ties as in a plane
+ * alone. SKIP itself always fits, so the picture's bits never pass the allowance. The modes are those that a plane alone would try,
+ * with the same trees and vectors: none is made cheaper so that it fits. Where every first choice fits, each plane that is reached
+ * has the bits, samples, vectors and answer that a plane call from the bit where it begins would give.
+ *
+ * The allowance is spent from the first macroblock on, and nothing is held back for later ones but their SKIP codes. Where it is
+ * short, it is short at the picture's end: most of the last rows of a plane and of the planes behind it are then skipped and show
+ * their references, however much they have changed. So the plane that matters most stands first, and a host that would rather have
+ * it short everywhere takes a greater lambda. Up to a lambda of 2^48 no plane that is written whole costs more, in error + lambda x bits,
+ * than skipping all of it would, whatever the allowance. A short allowance saves bits and no time: every mode is tried all the
+ * same.
+ *
+ * Room in `out` is no part of fitting. The mode chosen goes in, or the call ends with 22, though SKIP would have gone in. 22 cannot
+ * come where the allowance fits behind the start bit (allowance <= 8 * out_length - start), nor where the rooms of the three planes
+ * do (start + 8 * their sum <= 8 * out_length).
+ *
+ * To read the picture, read plane 0 from `start`, plane 1 from planes[0].next, plane 2 from planes[1].next. The reader's own
+ * answers have the same `next`, so the host sends only what it sends for planes.
+ *
+ * Leaves: in `out` the bits of the macroblocks done, plane behind plane without a gap, zeros behind them to the end of their last
+ * byte, everything else as it was, the bits before `start` too (where none is done, every byte); in the slices of each plane what a
+ * plane call leaves there of the macroblocks done, and nothing changed in those of a plane that is not reached.
+ *
+ * Refusals, tested in this order: 1 to 7, 20 and 21 of plane 0, then those of plane 1, then those of plane 2, each plane through
+ * all of them before the next; then 31, where the allowance is below the length of SKIP's code in the book x the macroblocks of all
+ * three planes (equal is enough). Then, while writing, 22 with the macroblock that does not fit. What the planes share is judged in
+ * plane 0's turn, so of the planes behind it only 1 to 4 and 20 are met.
+ */
+struct cabunlis_picture_answer cabunlis_encode_picture(
+    size_t width0, size_t height0, size_t stride0, size_t rows0,
+    const uint8_t *source0, size_t source0_length,
+    const uint8_t *reference0, size_t reference0_length,
+    uint8_t *recon0, size_t recon0_length,
+    int8_t *vx0, size_t vx0_length,
+    int8_t *vy0, size_t vy0_length,
+    uint32_t *stated0, size_t stated0_length,
+    size_t width1, size_t height1, size_t stride1, size_t rows1,
+    const uint8_t *source1, size_t source1_length,
+    const uint8_t *reference1, size_t reference1_length,
+    uint8_t *recon1, size_t recon1_length,
+    int8_t *vx1, size_t vx1_length,
+    int8_t *vy1, size_t vy1_length,
+    uint32_t *stated1, size_t stated1_length,
+    size_t width2, size_t height2, size_t stride2, size_t rows2,
+    const uint8_t *source2, size_t source2_length,
+    const uint8_t *reference2, size_t reference2_length,
+    uint8_t *recon2, size_t recon2_length,
+    int8_t *vx2, size_t vx2_length,
+    int8_t *vy2, size_t vy2_length,
+    uint32_t *stated2, size_t stated2_length,
+    const uint8_t *book, size_t book_length,
+    const uint8_t *codebook, size_t codebook_length,
+    uint64_t lambda, uint8_t radius, uint8_t four, uint32_t margin, uint64_t allowance,
+    uint8_t *out, size_t out_length, size_t start);
 
 /*
  * Reads a plane from bit `start` of `bytes` on. Leaves the samples of the macroblocks done in `recon`, their vectors in `vx` and
@@ -381,10 +472,10 @@ uint32_t cabunlis_house_book(uint8_t *book, size_t book_length);
 uint32_t cabunlis_house_codebook(uint8_t *codebook, size_t codebook_length);
 
 /*
- * The short calls: the plane entries with their arguments gathered in structs. They are C and not proved; each passes every field
- * on to the argument of its name and does nothing else. A struct has to be all zeros before it is filled in (static, memset, {0} in
- * C, {} in C++), or is filled in by braces, which set what they leave out to zero: a later version may append fields, and zero will
- * mean what was before.
+ * The short calls: the plane entries and the picture's with their arguments gathered in structs. They are C and not proved; each
+ * passes every field on to the argument of its name and does nothing else. A struct has to be all zeros before it is filled in
+ * (static, memset, {0} in C, {} in C++), or is filled in by braces, which set what they leave out to zero: a later version may
+ * append fields, and zero will mean what was before.
  */
 
 /* A plane's size, its canvas, and its slices; lengths in elements. */
@@ -463,6 +554,40 @@ static inline struct cabunlis_answer cabunlis_write(
         plane->recon, plane->recon_length,
         plane->vx, plane->vx_length,
         plane->vy, plane->vy_length);
+}
+
+/* cabunlis_encode_picture; a plane whose `stated` is NULL lends a slice of length 0 for it. */
+static inline struct cabunlis_picture_answer cabunlis_write_picture(
+    const struct cabunlis_plane planes[3], const struct cabunlis_tables *tables, const struct cabunlis_settings *settings,
+    uint64_t allowance, const struct cabunlis_output *output)
+{
+    uint32_t none = 0; /* what such a slice points to */
+    return cabunlis_encode_picture(
+        planes[0].width, planes[0].height, planes[0].stride, planes[0].rows,
+        planes[0].source, planes[0].source_length,
+        planes[0].reference, planes[0].reference_length,
+        planes[0].recon, planes[0].recon_length,
+        planes[0].vx, planes[0].vx_length,
+        planes[0].vy, planes[0].vy_length,
+        planes[0].stated ? planes[0].stated : &none, planes[0].stated ? planes[0].stated_length : 0,
+        planes[1].width, planes[1].height, planes[1].stride, planes[1].rows,
+        planes[1].source, planes[1].source_length,
+        planes[1].reference, planes[1].reference_length,
+        planes[1].recon, planes[1].recon_length,
+        planes[1].vx, planes[1].vx_length,
+        planes[1].vy, planes[1].vy_length,
+        planes[1].stated ? planes[1].stated : &none, planes[1].stated ? planes[1].stated_length : 0,
+        planes[2].width, planes[2].height, planes[2].stride, planes[2].rows,
+        planes[2].source, planes[2].source_length,
+        planes[2].reference, planes[2].reference_length,
+        planes[2].recon, planes[2].recon_length,
+        planes[2].vx, planes[2].vx_length,
+        planes[2].vy, planes[2].vy_length,
+        planes[2].stated ? planes[2].stated : &none, planes[2].stated ? planes[2].stated_length : 0,
+        tables->book, tables->book_length,
+        tables->codebook, tables->codebook_length,
+        settings->lambda, settings->radius, settings->four, settings->margin, allowance,
+        output->bytes, output->length, output->start);
 }
 
 /* cabunlis_decode_inter_plane. */

@@ -1,8 +1,10 @@
 # Prints a twin of the original's plane writer that also tells a `Recorder`
-# what it does. The text is the writer's own, read at build time; only these
-# lines are new: the twin's name, its first parameter, one call before each
-# macroblock is written and one at the end. The twin is trusted only because
-# every run compares its bits with those of the untouched writer.
+# what it does, and asks it which modes fit an allowance of bits. The text is
+# the writer's own, read at build time; only these lines are new: the twin's
+# name, its first parameter, one call before a macroblock's mode is chosen,
+# one before it is written and one at the end. The first of these calls does
+# nothing without an allowance. The twin is trusted only because its bits are
+# then compared with those of the untouched writer.
 
 /^fn encode_inter_plane\($/ {
     inside = 1
@@ -11,6 +13,11 @@
     print "pub(crate) fn recorded_inter_plane("
     print "    recorder: &mut Recorder,"
     next
+}
+
+inside && /^            let winner = candidates$/ {
+    offers++
+    print "            recorder.keep_fitting(&mut candidates, params);"
 }
 
 inside && /winner\.t03_position\);$/ {
@@ -39,6 +46,7 @@ function want_one(count, what) {
 
 END {
     want_one(heads, "head of encode_inter_plane")
+    want_one(offers, "line that chooses among the candidates")
     want_one(choices, "line that writes the mode")
     want_one(ends, "last answer")
     want_one(closed, "closing brace")

@@ -7,6 +7,7 @@
 include!("modules.rs");
 
 mod compare_leaf;
+mod compare_picture;
 mod compare_plan;
 mod compare_plane;
 mod compare_search;
@@ -14,7 +15,10 @@ mod entries;
 mod leaf_input;
 mod none;
 mod ours;
+mod ours_picture;
 mod ours_plane;
+mod picture_refusals;
+mod picture_wanted;
 mod plan_input;
 mod plane_refusals;
 mod plane_wanted;
@@ -32,6 +36,9 @@ const USAGE: &str = "usage:
   compare plane SEED N     N random planes under the seed's book and codebook
   compare plane SEED N LARGEST
                            the same, no side longer than LARGEST
+  compare picture SEED N   N random pictures inside allowances of bits, likewise
+  compare picture SEED N LARGEST
+                           the same, no side longer than LARGEST instead of 40
   compare none             where the original's motion search has no answer
   compare refusals         calls that have to be refused";
 
@@ -58,6 +65,12 @@ fn dispatch(words: &[&str]) -> Result<tally::Tally, String> {
         ["plane", seed, count] => compare_plane::compare(number(seed)?, number(count)?, None),
         ["plane", seed, count, side] => {
             compare_plane::compare(number(seed)?, number(count)?, Some(number(side)?))
+        }
+        ["picture", seed, count] => {
+            compare_picture::compare(number(seed)?, number(count)?, picture::LARGEST)
+        }
+        ["picture", seed, count, side] => {
+            compare_picture::compare(number(seed)?, number(count)?, number(side)?)
         }
         ["none"] => none::none(),
         ["refusals"] => refusals::refusals(),

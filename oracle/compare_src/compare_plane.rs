@@ -5,7 +5,7 @@ use crate::book::{Book, Table, house_codebook};
 use crate::job::Job;
 use crate::make::{any_job, job_of_size};
 use crate::ours::NO_MARGIN;
-use crate::ours_plane::{Lent, PlaneCall};
+use crate::ours_plane::PlaneCall;
 use crate::plane_wanted::{Wanted, number_at, pattern, put_bits};
 use crate::random::Random;
 use crate::seed_tables::{SeedTables, load_tables};
@@ -50,7 +50,7 @@ fn small_job(random: &mut Random, side: i64) -> Job {
 }
 
 /// Every number but 0 asks for four vectors.
-fn call(job: &Job, lent: &SeedTables, random: &mut Random) -> PlaneCall {
+pub fn call(job: &Job, lent: &SeedTables, random: &mut Random) -> PlaneCall {
     let on = 1 + random.below(255) as u8;
     PlaneCall {
         width: job.width,
@@ -77,7 +77,7 @@ struct Trial<'a> {
     tally: &'a mut Tally,
 }
 
-fn equal<T: PartialEq + std::fmt::Debug>(what: &str, want: &T, got: &T) -> Result<(), String> {
+pub fn equal<T: PartialEq + std::fmt::Debug>(what: &str, want: &T, got: &T) -> Result<(), String> {
     if got == want {
         return Ok(());
     }
@@ -124,25 +124,10 @@ impl Trial<'_> {
         self.check_room(start, bytes, what)
     }
 
-    /// Result slices full of a pattern, and vector slices with room behind.
-    fn lent(&mut self, out: Vec<u8>) -> Lent {
-        let vectors = 4 * self.wanted.count();
-        let (more_x, more_y) = (self.random.below(4), self.random.below(4));
-        let kind = self.random.byte();
-        let told = self.random.below(3 * self.wanted.count() + 4);
-        Lent {
-            out,
-            recon: pattern(kind, self.wanted.job.reference.len()),
-            vx: pattern(kind ^ 85, vectors + more_x),
-            vy: pattern(kind ^ 170, vectors + more_y),
-            stated: vec![u32::from(kind) * 0x0101_0101; told],
-        }
-    }
-
     /// Writes into so many bytes; a plane that is written whole is read back.
     fn check_room(&mut self, start: usize, bytes: usize, what: &str) -> Result<(), String> {
         let out = pattern(self.random.byte(), bytes);
-        let before = self.lent(out);
+        let before = self.wanted.lent(&mut self.random, out);
         let want = self.wanted.written(start, 8 * bytes - start);
         let mut left = before.clone();
         let got = self.call.write(&mut left, start);
@@ -197,7 +182,7 @@ impl Trial<'_> {
         room: usize,
         what: &str,
     ) -> Result<(), String> {
-        let before = self.lent(out);
+        let before = self.wanted.lent(&mut self.random, out);
         let want = self.wanted.read(start, room);
         let mut left = before.clone();
         let got = self.call.read(&mut left, start);

@@ -32,6 +32,18 @@ impl Answer {
     }
 }
 
+impl Written {
+    pub fn of(answer: &Answer) -> Self {
+        Self {
+            refused: answer.refused(),
+            done: answer.done,
+            next: answer.next,
+            bits: answer.bits,
+            error: answer.error,
+        }
+    }
+}
+
 /// What a plane call is asked, right or wrong.
 #[derive(Clone)]
 pub struct PlaneCall {
@@ -95,13 +107,7 @@ impl PlaneCall {
                 lent.stated.len(),
             )
         };
-        Written {
-            refused: answer.refused(),
-            done: answer.done,
-            next: answer.next,
-            bits: answer.bits,
-            error: answer.error,
-        }
+        Written::of(&answer)
     }
 
     pub fn read(&self, lent: &mut Lent, start: usize) -> Read {

@@ -8,10 +8,11 @@ use crate::refusals::any_margin;
 use crate::stream::unsigned;
 use crate::tally::Tally;
 
-struct Asked {
-    call: PlaneCall,
-    lent: Lent,
-    start: usize,
+#[derive(Clone)]
+pub struct Asked {
+    pub call: PlaneCall,
+    pub lent: Lent,
+    pub start: usize,
 }
 
 pub fn refusals(random: &mut Random, tally: &mut Tally) -> Result<(), String> {
@@ -74,7 +75,7 @@ fn verdict(as_wanted: bool, want: u8, got: &str) -> Result<(), String> {
 }
 
 /// Two macroblocks; the bits read as two skipped ones.
-fn good_plane(margin: u32) -> Asked {
+pub fn good_plane(margin: u32) -> Asked {
     let call = PlaneCall {
         width: 20,
         height: 16,
@@ -103,11 +104,18 @@ fn good_plane(margin: u32) -> Asked {
     }
 }
 
-/// Gives an entry of a table another code.
+/// Gives an entry of a table another code, if the book is long enough.
 fn set(asked: &mut Asked, table: Table, position: usize, value: u16, length: u8) {
-    let mut book = Book::from_bytes(&asked.call.book);
-    book.set(table, position, value, length);
-    asked.call.book = book.to_bytes();
+    let place = 3 * (table.start() + position);
+    if let Some(entry) = asked.call.book.get_mut(place..place + 3) {
+        entry.copy_from_slice(&[(value >> 8) as u8, value as u8, length]);
+    }
+}
+
+/// The changes by name, but for those that take much memory.
+pub fn small_changes() -> Vec<(&'static str, fn(&mut Asked))> {
+    let small = PLANES.iter().filter(|(name, ..)| !name.starts_with("2^28"));
+    small.map(|&(name, _, _, change)| (name, change)).collect()
 }
 
 /// A name, the writer's number, the reader's, and what is changed.

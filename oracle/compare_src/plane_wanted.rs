@@ -3,6 +3,7 @@
 use crate::answer::Answer;
 use crate::job::Job;
 use crate::ours_plane::{Lent, Read, Written};
+use crate::random::Random;
 
 /// Bytes of a pattern; `kind` tells patterns apart.
 pub fn pattern(kind: u8, length: usize) -> Vec<u8> {
@@ -77,6 +78,21 @@ impl Wanted<'_> {
             refused: if done < self.count() { 24 } else { 0 },
             done,
             next: start + self.bits(done),
+        }
+    }
+
+    /// Result slices full of a pattern, and vector slices with room behind.
+    pub fn lent(&self, random: &mut Random, out: Vec<u8>) -> Lent {
+        let vectors = 4 * self.count();
+        let (more_x, more_y) = (random.below(4), random.below(4));
+        let kind = random.byte();
+        let told = random.below(3 * self.count() + 4);
+        Lent {
+            out,
+            recon: pattern(kind, self.job.reference.len()),
+            vx: pattern(kind ^ 85, vectors + more_x),
+            vy: pattern(kind ^ 170, vectors + more_y),
+            stated: vec![u32::from(kind) * 0x0101_0101; told],
         }
     }
 

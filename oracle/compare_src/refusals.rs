@@ -1,9 +1,10 @@
-//! Calls that document 01 refuses. The original has no refusals, so what is
-//! wanted stands here: the lowest number that applies, and zeros. No refusal
-//! depends on the margin, so each call is asked at any.
+//! Calls that documents 01 and 02 refuse. The original has no refusals, so
+//! what is wanted stands here: the lowest number that applies, and zeros. No
+//! refusal depends on the margin, so each call is asked at any.
 
 use crate::book::{Book, Table, house_codebook};
 use crate::ours::{Leaf, LeafCall, Plan, PlanCall, Vector, VectorCall};
+use crate::picture_refusals;
 use crate::plane_refusals;
 use crate::random::Random;
 use crate::stream::unsigned;
@@ -48,6 +49,7 @@ pub fn refusals() -> Result<Tally, String> {
         tally.one(format!("search call answered {want}"));
     }
     plane_refusals::refusals(&mut random, &mut tally)?;
+    picture_refusals::refusals(&mut random, &mut tally)?;
     Ok(tally)
 }
 

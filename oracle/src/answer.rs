@@ -6,7 +6,7 @@ use crate::error::Error;
 use crate::job::Job;
 use crate::svq1_enc::{BitWriter, Svq1PlaneRef};
 use crate::svq1_enc_inter::{
-    Recorder, Svq1InterParams, call_encode_inter_plane, recorded_inter_plane,
+    Allowance, Recorder, Svq1InterParams, call_encode_inter_plane, recorded_inter_plane,
 };
 use crate::svq1_plane::{Svq1PlaneCanvas, decode_inter_plane};
 use crate::svq1_vlc::MAX_CODE_LENGTH;
@@ -19,6 +19,8 @@ pub struct Block {
     pub mode: u8,
     pub bits: u32,
     pub error: u32,
+    /// Whether an allowance did not hold the first choice.
+    pub forced: bool,
 }
 
 pub struct Answer {
@@ -34,31 +36,41 @@ pub struct Answer {
 
 /// Runs the recording twin and the untouched writer on `job`.
 pub fn answer(job: &Job) -> Answer {
-    let source = Svq1PlaneRef {
-        samples: &job.source,
-        width: job.width,
-        height: job.height,
-    };
-    let reference = canvas(job);
-    let params = params(job);
-
-    let mut writer = BitWriter::new();
-    let mut record = Recorder::default();
-    recorded_inter_plane(&mut record, &mut writer, &source, &reference, &params)
-        .expect("an accepted plane");
-    let bit_count = writer.bits_written();
-    let bits = writer.into_bytes();
-
+    let (answer, _) = recorded(job, None);
     let mut plain = BitWriter::new();
-    call_encode_inter_plane(&mut plain, &source, &reference, &params).expect("an accepted plane");
-    assert_eq!(plain.bits_written(), bit_count, "twin's bit count");
-    assert_eq!(plain.into_bytes(), bits, "twin's bits");
+    call_encode_inter_plane(&mut plain, &source(job), &canvas(job), &params(job))
+        .expect("an accepted plane");
+    assert_eq!(plain.bits_written(), answer.bit_count, "twin's bit count");
+    assert_eq!(plain.into_bytes(), answer.bits, "twin's bits");
+    answer
+}
 
+/// Runs the recording twin alone, with the modes that fit what is left of
+/// an allowance, and gives what is left of it behind the plane.
+pub fn answer_within(job: &Job, allowance: Allowance) -> (Answer, Allowance) {
+    let (answer, left) = recorded(job, Some(allowance));
+    (answer, left.expect("the allowance"))
+}
+
+fn recorded(job: &Job, allowance: Option<Allowance>) -> (Answer, Option<Allowance>) {
+    let source = source(job);
+    let mut writer = BitWriter::new();
+    let mut record = Recorder::within(allowance);
+    recorded_inter_plane(
+        &mut record,
+        &mut writer,
+        &source,
+        &canvas(job),
+        &params(job),
+    )
+    .expect("an accepted plane");
+    let bit_count = writer.bits_written();
     check_lengths(&record, bit_count);
     check_errors(&record, job, &source);
-    let answer = gather(record, job, bit_count, bits);
+    let left = record.allowance;
+    let answer = gather(record, job, bit_count, writer.into_bytes());
     check_decoder(job, &answer);
-    answer
+    (answer, left)
 }
 
 /// The plane that the original's own decoder makes of `bits`, with the
@@ -67,6 +79,14 @@ pub fn decode(job: &Job, bits: &[u8], end: usize) -> Result<(Vec<u8>, usize), Er
     let mut reader = BitReader::with_end(bits, end);
     let plane = decode_inter_plane(&mut reader, job.width, job.height, &canvas(job))?;
     Ok((plane.samples, reader.position()))
+}
+
+fn source(job: &Job) -> Svq1PlaneRef<'_> {
+    Svq1PlaneRef {
+        samples: &job.source,
+        width: job.width,
+        height: job.height,
+    }
 }
 
 fn canvas(job: &Job) -> Svq1PlaneCanvas {
@@ -132,6 +152,7 @@ fn gather(record: Recorder, job: &Job, bit_count: usize, bits: Vec<u8>) -> Answe
         mode: block.mode as u8,
         bits: block.bits,
         error: block.error as u32,
+        forced: block.forced,
     });
     Answer {
         bit_count,

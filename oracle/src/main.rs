@@ -12,6 +12,7 @@ const USAGE: &str = "usage:
   svq1_oracle gen SEED N FOLDER   N random jobs as files
   svq1_oracle stream SEED N       N random jobs as a batch, to standard output
   svq1_oracle batch               a batch from standard input, answers to standard output
+  svq1_oracle pictures SEED N     N random pictures inside allowances of bits, only checked
   svq1_oracle fixed               the fixed list, to standard output
   svq1_oracle cards               document 01's bench cards
   svq1_oracle differences         the inputs of docs/DIFFERENCES.md";
@@ -37,6 +38,7 @@ fn dispatch(words: &[&str]) -> Result<(), String> {
         }
         ["stream", seed, count] => stream::gen_stream(number(seed)?, number(count)?),
         ["batch"] => stream::batch(),
+        ["pictures", seed, count] => picture::pictures(number(seed)?, number(count)?),
         ["fixed"] => fixed::fixed(),
         ["cards"] => cards::cards(),
         ["differences"] => differences::differences(),

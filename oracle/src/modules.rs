@@ -8,6 +8,7 @@ mod differences;
 mod fixed;
 mod job;
 mod make;
+mod picture;
 mod random;
 mod stream;
 mod tables;

@@ -6,11 +6,13 @@ ghost use Rattle.bits.specs.Basics.{pick};
 ghost use Rattle.macroblock.specs.MacroblockNeeds.{givenBy};
 ghost use Rattle.macroblock_choice.specs.ChosenNeeds.{taskBy};
 ghost use Rattle.plane.specs.Refusals.{midPlane};
+ghost use Rattle.plane_enc.specs.WriterNeeds.{writeEndOf};
 ghost use Rattle.cabunlis.specs.Host.{settingsOf, hostAnswer, HostWritten, HostStated, HostRead};
 ghost use Rattle.macroblock.specs.Slices.{slicesBy, lentBy};
 use canvas::svq1_plane::Svq1PlaneCanvas;
 use macroblock::svq1_enc_inter::Settings;
 use plane_dec::svq1_plane::decode_inter_plane;
+use plane_enc::svq1_enc_inter::WriteEnd;
 use plane_enc::svq1_enc_inter::encode_inter_plane;
 use plane_enc::svq1_enc_inter::encode_inter_plane_stated;
 
@@ -42,7 +44,7 @@ fn mid_plane(refused: u8) -> bool
 }
 
 // The index of the macroblock at which a refusal came, or 0.
-fn index_of(refused: u8, done: usize) -> usize
+pub fn index_of(refused: u8, done: usize) -> usize
     ensures { λ r. ⌜ r ≡ pick (midPlane refused) done 0 ⌝ }
 {
     if mid_plane(refused) {
@@ -65,6 +67,13 @@ fn answer(refused: u8, done: usize, next: usize, bits: u64, error: u64) -> HostA
     }
 }
 
+// That of the writer.
+pub fn plane_answer(e: WriteEnd) -> HostAnswer
+    ensures { λ r. ⌜ r ≡ hostAnswer (writeEndOf e) ⌝ }
+{
+    answer(e.refused, e.done, e.next, e.bits, e.error)
+}
+
 // C has no flag that holds 0 and 1 alone: every number but 0 is set.
 fn tries_four(four: u8) -> bool
     ensures { λ r. ⌜ r ≡ not (eqb four 0) ⌝ }
@@ -73,7 +82,7 @@ fn tries_four(four: u8) -> bool
 }
 
 // The settings by a C host's numbers.
-fn settings_of(lambda: u64, radius: u8, four: u8, margin: u32) -> Settings
+pub fn settings_of(lambda: u64, radius: u8, four: u8, margin: u32) -> Settings
     ensures { λ r. ⌜ r ≡ settingsOf lambda radius four margin ⌝ }
 {
     Settings {

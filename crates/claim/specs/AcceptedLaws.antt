@@ -15,7 +15,7 @@ use Rattle.macroblock.specs.Macroblock.{Given, cols, rows}
 use Rattle.macroblock.specs.Choice.{Task, paddedSource}
 use Rattle.macroblock.specs.MacroblockLaws.{Fine}
 use Rattle.macroblock.specs.Slices.{Slices}
-use Rattle.plane.specs.Refusals.{slicesRefusal, writeRefusal}
+use Rattle.plane.specs.Refusals.{lengthsOf, slicesRefusal, writeRefusalBy}
 use Rattle.plane.specs.RefusalsLaws.{slices-held, write-accepted}
 use Rattle.plane.specs.SlicesLaws.{SizedSlices}
 use Rattle.claim.specs.Claim.{InMemory}
@@ -33,9 +33,9 @@ pub record AcceptedPlane (g : Given) (t : Task) : Type 0 where
 area : (width height : ℕ) → padded16 width * padded16 height ≡ blocksAlong height * 16 * padded16 width
 area width height = mul-comm (padded16 width) (padded16 height) ∙ ap (λ (n : ℕ). n * padded16 width) (mul-comm 16 (blocksAlong height))
 
-pub accepted : (g : Given) (t : Task) (out : List ℕ) (start : ℕ) (a : Slices) → InMemory g t out start a → writeRefusal g t out start a ≡ 0 → AcceptedPlane g t
-accepted g t out start a mem e =
-    let p = write-accepted g a (length out) start (length (t .source)) e .0 in
+pub accepted : (g : Given) (t : Task) (bytes start : ℕ) (a : Slices) → InMemory g t → writeRefusalBy g (length (t .source)) bytes start (lengthsOf a) ≡ 0 → AcceptedPlane g t
+accepted g t bytes start a mem e =
+    let p = write-accepted g a bytes start (length (t .source)) e .0 in
     let f = plane-passes (g .width) (g .height) (g .reference) (or-next (sizeRefusal (g .width) (g .height)) _ (p .size) ∙ p .canvas) in
     let whole : g .reference .stride * g .reference .rows ≡ rows g * 16 * (16 * cols g) = rw (f .stride, f .rows) (area (g .width) (g .height)) in
     record {

@@ -38,10 +38,10 @@ pub record ReadBack (g : Given) (bytes : List ℕ) (start : ℕ) (d : Slices) (s
   pub blocks : (b : BlockSlice) → take (4 * count g) (blocksIn b (readPlane g (bitsOf bytes) start d .state .slices)) ≡ take (4 * count g) (blocksIn b (s (count g) .slices))
   pub rest : (b : BlockSlice) → drop (4 * count g) (blocksIn b (readPlane g (bitsOf bytes) start d .state .slices)) ≡ drop (4 * count g) (blocksIn b d)
 
--- a plane written from bit start of the bytes out, with the result slices a: the state before macroblock k, and the state at the end
-module _ (g : Given) (t : Task) (out : List ℕ) (start : ℕ) (a : Slices) where
+-- a plane written from bit start of an output of these bits, with the result slices a: the state before macroblock k, and the state at the end
+module _ (g : Given) (t : Task) (bits : List ℕ) (start : ℕ) (a : Slices) where
   abbrev pub stateAt : ℕ → Writing
-  stateAt = writingAt g t (bitsOf out) start a
+  stateAt = writingAt g t bits start a
 
   abbrev pub final : Writing
   final = stateAt (count g)
@@ -53,11 +53,11 @@ module _ (g : Given) (t : Task) (out : List ℕ) (start : ℕ) (a : Slices) wher
   -- the seven sentences of demand 3, numbered as there
   pub record Claim : Type 0 where
     -- the run reaches the last macroblock with these states
-    pub reaches : writePlane g t (bitsOf out) start a ≡ record { refusal = 0; done = count g; state = final }
+    pub reaches : writePlane g t bits start a ≡ record { refusal = 0; done = count g; state = final }
     -- 1. each macroblock appends exactly its stated bits; at the end the output holds them from its bit on, and before the start bit what it held
     pub appends : (k : ℕ) → k < count g → Appended g t k (stateAt k) (stateAt (suc k))
     pub holds : (k : ℕ) → k < count g → take (wroteWeight g t k (stateAt k) .bits) (drop (stateAt k .next) (final .out)) ≡ wroteBits g t k (stateAt k)
-    pub before : take start (final .out) ≡ take start (bitsOf out)
+    pub before : take start (final .out) ≡ take start bits
     -- 2. its stated error is its reconstruction's squared distance from the padded source
     pub error : (k : ℕ) → k < count g → wroteWeight g t k (stateAt k) .err ≡ sse (target g t k) (part 16 (cols g) k (final .slices .recon))
     -- 3. both totals are the sums of these, and the next bit is the start bit plus the bit total
@@ -78,11 +78,13 @@ module _ (g : Given) (t : Task) (out : List ℕ) (start : ℕ) (a : Slices) wher
     -- under an allowance: before each macroblock, and at the end, it still holds a SKIP code for each to come, in this plane and behind it
     pub within-allowance : (k : ℕ) → k ≤ count g → canSkipRest (t .limit) g k (stateAt k .bits) ≡ true
 
-  -- source and reference are byte slices
-  pub record InMemory : Type 0 where
-    pub source : Bytes (t .source)
-    pub reference : Bytes (g .reference .samples)
+-- source and reference are byte slices
+pub record InMemory (g : Given) (t : Task) : Type 0 where
+  pub source : Bytes (t .source)
+  pub reference : Bytes (g .reference .samples)
 
-  -- what has to be shown of every plane: one that no refusal meets, with lambda at most 2^48, at any margin, and with an allowance, if any, that holds a SKIP code for each macroblock, written to its last macroblock
-  abbrev pub Claimed : Type 0
-  Claimed = canSkipRest (t .limit) g 0 0 ≡ true → InMemory → writeRefusal g t out start a ≡ 0 → t .settings .lambda ≤ largestLambda → writePlane g t (bitsOf out) start a .refusal ≡ 0 → Claim
+-- what has to be shown of every plane, written from bit start of the bytes out: one that no refusal meets, with lambda at most 2^48, at any margin, and with an allowance, if any, that holds a SKIP code for each macroblock, written to its last macroblock
+abbrev pub Claimed : Given → Task → List ℕ → ℕ → Slices → Type 0
+Claimed g t out start a =
+    canSkipRest (t .limit) g 0 0 ≡ true → InMemory g t → writeRefusal g t out start a ≡ 0 → t .settings .lambda ≤ largestLambda → writePlane g t (bitsOf out) start a .refusal ≡ 0
+    → Claim g t (bitsOf out) start a

@@ -1,7 +1,7 @@
 -- The claim about a whole plane holds: of every accepted plane that is written to its last macroblock.
 -- Assumes nothing.
 use mathlib.Core.Path.{_≡_, refl, sym, ap, ap₂, _∙_}
-use Prim.Native.Nat.{ℕ, zero, suc, _+_, _-_, _*_, _≤_, _<_}
+use Prim.Native.Nat.{ℕ, zero, suc, _+_, _-_, _*_, _%_, _≤_, _<_}
 use native.Mathlib.Omega.{arith}
 use native.Mathlib.Nat.{add-zero, zero-add, add-suc, le-refl, mul-add, mul-suc}
 use mathlib.Core.Bool.{true}
@@ -9,6 +9,7 @@ use mathlib.Core.List.{List}
 use lib.ListN.{length, take, drop, length-append, length-drop}
 use Rattle.bits.specs.Basics.{All, sum}
 use Rattle.bits.specs.Bits.{bitsOf}
+use Rattle.bits.specs.BitsLaws.{bits-whole}
 use Rattle.bits.specs.Calls.{startRefusal}
 use Rattle.leaf.specs.Leaf.{sse}
 use Rattle.mv_cache.specs.Grid.{part}
@@ -34,14 +35,14 @@ use Rattle.plane.specs.RefusalsLaws.{lent-passes, read-passes, results-pass}
 use Rattle.plane.specs.LimitLaws.{skip-rest-at}
 use Rattle.plane.specs.SlicesLaws.{SizedSlices, holds-recon, laid-sized, ranged-laid, Alike, alike-laid, alike-near, laid-past}
 use Rattle.claim.specs.SumLaws.{sse-blocks}
-use Rattle.claim.specs.OutputLaws.{reached, appended, held, before, stands-in}
-use Rattle.claim.specs.Claim.{ReadBack, stateAt, final, modeCost, Claimed}
+use Rattle.claim.specs.OutputLaws.{reached, appended, only-appends, held, stands-in}
+use Rattle.claim.specs.Claim.{ReadBack, stateAt, final, modeCost, Claim, Claimed}
 use Rattle.claim.specs.AcceptedLaws.{AcceptedPlane, accepted, slices-sized, padded-size}
 
-module _ (g : Given) (t : Task) (ok : AcceptedPlane g t) (out : List ℕ) (start : ℕ) (a : Slices) (sized : SizedSlices g a)
-    (whole : writePlane g t (bitsOf out) start a .refusal ≡ 0) where
+module _ (g : Given) (t : Task) (ok : AcceptedPlane g t) (bits : List ℕ) (even : length bits % 8 ≡ 0) (start : ℕ) (a : Slices) (sized : SizedSlices g a)
+    (whole : writePlane g t bits start a .refusal ≡ 0) where
   abbrev S : ℕ → Writing
-  S = stateAt g t out start a
+  S = stateAt g t bits start a
 
   abbrev W : ℕ → Choice
   W k = wrote g t k (S k)
@@ -50,7 +51,7 @@ module _ (g : Given) (t : Task) (ok : AcceptedPlane g t) (out : List ℕ) (start
   weigh k = wroteWeight g t k (S k)
 
   abbrev E : Writing
-  E = final g t out start a
+  E = final g t bits start a
 
   good : (k : ℕ) → Good g t (ok .fine) k (near g (S k .slices) k) (W k)
   good k = chosen-good g t (ok .fine) k (near g (S k .slices) k) (S k .bits)
@@ -116,9 +117,9 @@ module _ (g : Given) (t : Task) (ok : AcceptedPlane g t) (out : List ℕ) (start
     read-one : (k : ℕ) → k < count g → readStep g xs k (R d k) ≡ on (R d (suc k))
     unfolding readStep shownTo
     read-one k h =
-        let here = stands-in g t out start a whole xs begin k h in
+        let here = stands-in g t bits even start a whole xs begin k h in
         let r : List ℕ = here .0 in
-        let p = appended g t out start a whole k h in
+        let p = appended g t bits even start a whole k h in
         let len : length xs - S k .next ≡ length (wroteBits g t k (S k)) + length r =
         sym (length-drop (S k .next) xs) ∙ ap length (here .1) ∙ length-append (wroteBits g t k (S k)) r in
         let nx : length xs - length r ≡ S (suc k) .next = omega (arith, here .2, p .next, p .stated) in
@@ -182,11 +183,6 @@ module _ (g : Given) (t : Task) (ok : AcceptedPlane g t) (out : List ℕ) (start
   errors-to zero = refl
   errors-to (suc m) = ap (λ (i : ℕ). i + weigh m .err) (errors-to m)
 
-  pub next-to : (m : ℕ) → S m .next ≡ start + S m .bits
-  unfolding after written
-  next-to zero = sym (add-zero start)
-  next-to (suc m) = omega (arith, next-to m)
-
   -- ---- against skipping
   abbrev skipError : ℕ → ℕ
   skipError k = sse (target g t k) (referenceBlock g k)
@@ -195,13 +191,13 @@ module _ (g : Given) (t : Task) (ok : AcceptedPlane g t) (out : List ℕ) (start
   skipLength = length (modeBits g Skip)
 
   module _ (low : t .settings .lambda ≤ largestLambda) where
-    pub cheapest : (k : ℕ) → All (λ c. modeCost g t out start a k (W k) ≤ modeCost g t out start a k c) (fitting g t k (near g (S k .slices) k) (S k .bits))
+    pub cheapest : (k : ℕ) → All (λ c. modeCost g t bits start a k (W k) ≤ modeCost g t bits start a k c) (fitting g t k (near g (S k .slices) k) (S k .bits))
     cheapest k = chosen-least g t (ok .fine) low k (near g (S k .slices) k) (S k .bits)
 
     module _ (enough : canSkipRest (t .limit) g 0 0 ≡ true) where
       below-skip : (k : ℕ) → k < count g → weigh k .err + t .settings .lambda * weigh k .bits ≤ skipError k + t .settings .lambda * skipLength
       unfolding weightOf choiceBits shown
-      below-skip k h = under-skip g t (ok .fine) low k (near g (S k .slices) k) (S k .bits) (skip-fits g t k (near g (S k .slices) k) (S k .bits) h (skip-rest-at g t enough (bitsOf out) start a k (omega arith)))
+      below-skip k h = under-skip g t (ok .fine) low k (near g (S k .slices) k) (S k .bits) (skip-fits g t k (near g (S k .slices) k) (S k .bits) h (skip-rest-at g t enough bits start a k (omega arith)))
 
       below-skipping : (m : ℕ) → m ≤ count g → S m .error + t .settings .lambda * S m .bits ≤ sum skipError m + t .settings .lambda * (skipLength * m)
       unfolding after written sum
@@ -214,25 +210,30 @@ module _ (g : Given) (t : Task) (ok : AcceptedPlane g t) (out : List ℕ) (start
           rw (sse-blocks 16 (cols g) (omega arith) (ok .wide) (paddedSource (g .width) (g .height) (t .source)) (g .reference .samples) (rows g) (padded-size (g .width) (g .height) (t .source)) (ok .reference-size))
           at (below-skipping (count g) (le-refl (count g)))
 
+-- the claim holds of every accepted plane, written into any output of whole bytes
+pub claimed-from : (g : Given) (t : Task) → AcceptedPlane g t → (bits : List ℕ) → length bits % 8 ≡ 0 → (start : ℕ) (a : Slices) → slicesRefusal g a ≡ 0
+    → canSkipRest (t .limit) g 0 0 ≡ true → t .settings .lambda ≤ largestLambda → writePlane g t bits start a .refusal ≡ 0 → Claim g t bits start a
+claimed-from g t ok bits even start a fits enough low whole =
+    let sized = slices-sized g t ok a fits in
+    let kept = only-appends g t bits even start a whole (count g) (le-refl (count g)) in
+    record {
+      reaches = reached g t bits even start a whole;
+      appends = appended g t bits even start a whole;
+      holds = held g t bits even start a whole;
+      before = kept .before;
+      error = error-is g t ok bits even start a sized whole;
+      bit-total = bits-to g t ok bits even start a sized whole (count g);
+      error-total = errors-to g t ok bits even start a sized whole (count g);
+      next-bit = kept .next;
+      rest = rest g t ok bits even start a sized whole;
+      read-back = read-back g t ok bits even start a sized whole;
+      no-pruning-cheaper = λ k h. all-any _ (motionsTried g t k _) (λ m. unpruned g t (ok .fine) low k m);
+      no-mode-cheaper = λ k h. cheapest g t ok bits even start a sized whole low k;
+      never-above-skipping = never-above g t ok bits even start a sized whole low enough;
+      within-allowance = skip-rest-at g t enough bits start a;
+    }
+
 -- the claim holds of every plane
 pub claimed : (g : Given) (t : Task) (out : List ℕ) (start : ℕ) (a : Slices) → Claimed g t out start a
-claimed g t out start a enough mem e low whole =
-    let ok = accepted g t out start a mem e in
-    let passes = results-pass g a (length out) start (length (t .source)) e in
-    let sized = slices-sized g t ok a (passes .0) in
-    record {
-      reaches = reached g t out start a whole;
-      appends = appended g t out start a whole;
-      holds = held g t out start a whole;
-      before = before g t out start a whole;
-      error = error-is g t ok out start a sized whole;
-      bit-total = bits-to g t ok out start a sized whole (count g);
-      error-total = errors-to g t ok out start a sized whole (count g);
-      next-bit = next-to g t ok out start a sized whole (count g);
-      rest = rest g t ok out start a sized whole;
-      read-back = read-back g t ok out start a sized whole;
-      no-pruning-cheaper = λ k h. all-any _ (motionsTried g t k _) (λ m. unpruned g t (ok .fine) low k m);
-      no-mode-cheaper = λ k h. cheapest g t ok out start a sized whole low k;
-      never-above-skipping = never-above g t ok out start a sized whole low enough;
-      within-allowance = skip-rest-at g t enough (bitsOf out) start a;
-    }
+claimed g t out start a enough mem e =
+    claimed-from g t (accepted g t (length out) start a mem e) (bitsOf out) (bits-whole out) start a (results-pass g a (length out) start (length (t .source)) e .0) enough

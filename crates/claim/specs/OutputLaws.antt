@@ -1,16 +1,16 @@
 -- Laws of the output of a plane that is written to its last macroblock: each macroblock's bits stand at its bit, in the output and in whatever begins as it does.
 -- Assumes nothing.
 use mathlib.Core.Path.{_≡_, refl, sym, ap, ap₂, _∙_}
-use Prim.Native.Nat.{ℕ, zero, suc, _+_, _-_, _*_, _≤_, _<_}
+use Prim.Native.Nat.{ℕ, zero, suc, _+_, _-_, _*_, _%_, _≤_, _<_}
 use native.Mathlib.Omega.{arith}
 use native.Mathlib.Nat.{add-zero, zero-add, add-suc, suc-add, le-refl}
 use mathlib.Core.Bool.{true}
 use mathlib.Core.List.{List, [], _∷_, _++_, append-assoc}
 use lib.ListN.{length, take, drop, length-take, take-append-drop}
-use lib.Seq.{length-take-le, take-take, take-at}
+use lib.Seq.{take-take, take-at}
 use borrow.Author.Tests.{leb-true}
 use Rattle.bits.specs.Bits.{bitsOf, putBits, afterBits}
-use Rattle.bits.specs.BitsLaws.{put-nil, put-put, drop-put, put-length, length-bitsOf}
+use Rattle.bits.specs.BitsLaws.{put-nil, put-put, drop-put, length-bitsOf}
 use Rattle.tree.specs.Plan.{Weight}
 use Rattle.macroblock.specs.Macroblock.{Given}
 use Rattle.macroblock.specs.Choice.{Task, weightOf}
@@ -18,6 +18,7 @@ use Rattle.macroblock.specs.Slices.{Slices}
 use Rattle.plane.specs.Run.{after}
 use Rattle.plane.specs.RunLaws.{testing, run-on, run-fits}
 use Rattle.plane.specs.Plane.{count, Writing, wroteWeight, wroteBits, fits, written, toWrite, writePlane}
+use Rattle.plane.specs.PlaneLaws.{AppendsOnly, appends-to}
 use Rattle.claim.specs.Claim.{Appended, stateAt, final}
 
 -- ---- two lists that begin alike
@@ -31,15 +32,15 @@ same-within : (a n m : ℕ) (x y : List ℕ) → a + n ≤ m → take m x ≡ ta
 same-within a n m x y h e = sym (within a n m x h) ∙ ap (λ (l : List ℕ). take n (drop a l)) e ∙ within a n m y h
 
 -- ---- the run
-module _ (g : Given) (t : Task) (out : List ℕ) (start : ℕ) (a : Slices) (whole : writePlane g t (bitsOf out) start a .refusal ≡ 0) where
+module _ (g : Given) (t : Task) (bits : List ℕ) (even : length bits % 8 ≡ 0) (start : ℕ) (a : Slices) (whole : writePlane g t bits start a .refusal ≡ 0) where
   abbrev S : ℕ → Writing
-  S = stateAt g t out start a
+  S = stateAt g t bits start a
 
   abbrev weigh : ℕ → Weight
   weigh k = wroteWeight g t k (S k)
 
   abbrev E : Writing
-  E = final g t out start a
+  E = final g t bits start a
 
   abbrev bitsAt : ℕ → List ℕ
   bitsAt k = wroteBits g t k (S k)
@@ -50,12 +51,12 @@ module _ (g : Given) (t : Task) (out : List ℕ) (start : ℕ) (a : Slices) (who
 
   fit : (k : ℕ) → k < count g → fits g t k (S k) ≡ true
   unfolding after writePlane
-  fit k h = run-fits 21 (fits g t) (written g t) (toWrite (bitsOf out) start a) (count g) 0 whole k (omega arith) (omega arith)
+  fit k h = run-fits 21 (fits g t) (written g t) (toWrite bits start a) (count g) 0 whole k (omega arith) (omega arith)
 
   room : (k : ℕ) → k < count g → S k .next + weigh k .bits ≤ length (S k .out)
   room k h = leb-true (S k .next + weigh k .bits) (length (S k .out)) (fit k h)
 
-  pub reached : writePlane g t (bitsOf out) start a ≡ record { refusal = 0; done = count g; state = E }
+  pub reached : writePlane g t bits start a ≡ record { refusal = 0; done = count g; state = E }
   unfolding after writePlane
   reached =
       run-on (testing 22 (fits g t) (written g t)) S (count g) 0 (λ j q l. rw (fit j (omega arith)))
@@ -88,17 +89,13 @@ module _ (g : Given) (t : Task) (out : List ℕ) (start : ℕ) (a : Slices) (who
       let q : count g ≡ k + suc (count g - suc k) = omega arith in
       ap (λ (i : ℕ). S i .out) q ∙ out-later (suc (count g - suc k)) k (omega arith)
 
-  -- ---- the output keeps its length
-  long : (k : ℕ) → k ≤ count g → length (S k .out) ≡ 8 * length out
-  unfolding after written
-  long zero h = length-bitsOf out
-  long (suc k) h =
-      let e = long k (omega arith) in
-      put-length (S k .out) (bitsAt k) (S k .next) (rw e (omega arith)) (omega (arith, room k h, stated k)) ∙ e
+  -- ---- each state only appends
+  pub only-appends : (k : ℕ) → k ≤ count g → AppendsOnly bits start (S k)
+  only-appends k h = appends-to g t bits even start a k (λ j l. fit j (omega arith))
 
   -- its bits lie in the output
-  inside : (k : ℕ) → k < count g → S k .next + weigh k .bits ≤ 8 * length out
-  inside k h = rw (long k (omega arith)) at (room k h)
+  inside : (k : ℕ) → k < count g → S k .next + weigh k .bits ≤ length bits
+  inside k h = rw (only-appends k (omega arith) .long) at (room k h)
 
   later : (m k : ℕ) → S k .next ≤ S (k + m) .next
   unfolding after written
@@ -112,13 +109,13 @@ module _ (g : Given) (t : Task) (out : List ℕ) (start : ℕ) (a : Slices) (who
       let q : suc k + (count g - suc k) ≡ count g = omega arith in
       rw q at (later (count g - suc k) (suc k))
 
-  ended : (n : ℕ) → 0 < n → n ≤ count g → S n .next ≤ 8 * length out
+  ended : (n : ℕ) → 0 < n → n ≤ count g → S n .next ≤ length bits
   unfolding after written
   ended zero h l = absurd (omega arith)
   ended (suc n) h l = inside n l
 
-  pub same-length : (bytes : List ℕ) → bitsOf bytes ≡ E .out → length bytes ≡ length out
-  same-length bytes e = omega (arith, length-bitsOf bytes, ap length e, long (count g) (le-refl (count g)))
+  pub same-length : (bytes : List ℕ) → bitsOf bytes ≡ E .out → 8 * length bytes ≡ length bits
+  same-length bytes e = omega (arith, length-bitsOf bytes, ap length e, only-appends (count g) (le-refl (count g)) .long)
 
   -- macroblock k's bits stand at its bit, and something after them
   stands : (k : ℕ) → k < count g → (r : List ℕ) × (drop (S k .next) (E .out) ≡ bitsAt k ++ r)
@@ -132,20 +129,6 @@ module _ (g : Given) (t : Task) (out : List ℕ) (start : ℕ) (a : Slices) (who
       let here = stands k h in
       rw (here .1) (take-at (bitsAt k) (here .0) (weigh k .bits) (sym (stated k)))
 
-  -- what stood before the start bit
-  front : (n : ℕ) → count g ≡ n → take start (E .out) ≡ take start (bitsOf out)
-  unfolding after putBits
-  front zero e = rw e
-  front (suc n) e =
-      let l : start ≤ length (bitsOf out) = omega (arith, room 0 (omega arith)) in
-      let q : count g ≡ 0 + count g = omega arith in
-      ap (λ (i : ℕ). take start (S i .out)) q
-      ∙ ap (take start) (out-later (count g) 0 (omega arith))
-      ∙ take-at (take start (bitsOf out)) _ start (length-take-le start (bitsOf out) l)
-
-  pub before : take start (E .out) ≡ take start (bitsOf out)
-  before = front (count g) refl
-
   -- ---- bits that begin as the output does, up to its next bit
   module _ (xs : List ℕ) (alike : take (E .next) xs ≡ take (E .next) (E .out)) where
     pub held-in : (k : ℕ) → k < count g → take (weigh k .bits) (drop (S k .next) xs) ≡ bitsAt k
@@ -153,8 +136,7 @@ module _ (g : Given) (t : Task) (out : List ℕ) (start : ℕ) (a : Slices) (who
 
     reaches : 0 < count g → E .next ≤ length xs
     reaches h =
-        let l : length (E .out) ≡ 8 * length out = long (count g) (le-refl (count g)) in
-        omega (arith, ended (count g) h (le-refl (count g)), length-take (E .next) xs, length-take (E .next) (E .out), ap length alike)
+        omega (arith, only-appends (count g) (le-refl (count g)) .long, ended (count g) h (le-refl (count g)), length-take (E .next) xs, length-take (E .next) (E .out), ap length alike)
 
     pub stands-in : (k : ℕ) → k < count g → (r : List ℕ) × (drop (S k .next) xs ≡ bitsAt k ++ r) × (S k .next ≤ length xs)
     stands-in k h = (

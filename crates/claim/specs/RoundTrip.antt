@@ -17,13 +17,13 @@ use Rattle.claim.specs.Claim.{stateAt, final, Claim}
 -- the writer's answer w and what it left, l' of l and stated' of held, are the end that the claim speaks of
 pub record Ended (g : Given) (t : Task) (start : ℕ) (l : Lent) (held : List ℕ) (w : PlaneAnswer) (l' : Lent) (stated' : List ℕ) : Type 0 where
   pub done : w .done ≡ count g
-  pub next : w .next ≡ final g t (l .out) start (l .slices) .next
-  pub bits : w .bits ≡ final g t (l .out) start (l .slices) .bits
-  pub error : w .error ≡ final g t (l .out) start (l .slices) .error
-  pub output : bitsOf (l' .out) ≡ final g t (l .out) start (l .slices) .out
-  pub slices : l' .slices ≡ final g t (l .out) start (l .slices) .slices
+  pub next : w .next ≡ final g t (bitsOf (l .out)) start (l .slices) .next
+  pub bits : w .bits ≡ final g t (bitsOf (l .out)) start (l .slices) .bits
+  pub error : w .error ≡ final g t (bitsOf (l .out)) start (l .slices) .error
+  pub output : bitsOf (l' .out) ≡ final g t (bitsOf (l .out)) start (l .slices) .out
+  pub slices : l' .slices ≡ final g t (bitsOf (l .out)) start (l .slices) .slices
   -- three numbers for each macroblock, as far as there is room: its mode's position, and the bits and the error that the claim speaks of
-  pub stated : (k : ℕ) → k < count g → k < length held / 3 → take 3 (drop (3 * k) stated') ≡ threeOf (stepStated g t k (stateAt g t (l .out) start (l .slices) k))
+  pub stated : (k : ℕ) → k < count g → k < length held / 3 → take 3 (drop (3 * k) stated') ≡ threeOf (stepStated g t k (stateAt g t (bitsOf (l .out)) start (l .slices) k))
 
 -- the reader's answer r and what it left, d', are the writer's; behind the block vectors d' is d
 pub record Returned (g : Given) (w r : PlaneAnswer) (a' d d' : Slices) : Type 0 where
@@ -51,5 +51,5 @@ Whole g t start l w = (writeRefusal g t (l .out) start (l .slices) ≡ 0) × (t 
 pub record RoundTrip (g : Given) (t : Task) (start : ℕ) (m : TripLent) (w r : PlaneAnswer) (m' : TripLent) : Type 0 where
   pub wrote : PlaneStated g t start (m .written) (m .stated) w (m' .written) (m' .stated)
   pub read : PlaneRead g (m' .written .out) start (m .back) r (m' .back)
-  pub claim : Whole g t start (m .written) w → Claim g t (m .written .out) start (m .written .slices) × Ended g t start (m .written) (m .stated) w (m' .written) (m' .stated)
+  pub claim : Whole g t start (m .written) w → Claim g t (bitsOf (m .written .out)) start (m .written .slices) × Ended g t start (m .written) (m .stated) w (m' .written) (m' .stated)
   pub returned : Whole g t start (m .written) w → slicesRefusal g (m .back) ≡ 0 → Returned g w r (m' .written .slices) (m .back) (m' .back)

@@ -4,10 +4,12 @@ use mathlib.Core.Path.{_≡_, sym, ap, _∙_}
 use mathlib.Core.Bool.{true}
 use mathlib.Core.List.{List}
 use Prim.Native.Nat.{ℕ, _*_, _≤_}
+use native.Mathlib.Omega.{arith}
 use native.Mathlib.Nat.{le-refl}
 use borrow.Author.Tests.{eq-eqb}
 use lib.ListN.{length, take, drop}
 use Rattle.bits.specs.Bits.{bitsOf}
+use Rattle.bits.specs.BitsLaws.{length-bitsOf, bits-whole}
 use Rattle.bits.specs.Calls.{startRefusal}
 use Rattle.plan.specs.PlanClaim.{largestLambda}
 use Rattle.macroblock.specs.Macroblock.{Given}
@@ -26,7 +28,41 @@ use Rattle.claim.specs.OutputLaws.{same-length}
 use Rattle.claim.specs.ClaimLaws.{claimed}
 use Rattle.claim.specs.RoundTrip.{Ended, Returned, TripLent, RoundTrip}
 
-module _ (g : Given) (t : Task) (start : ℕ) (m : TripLent) (w r : PlaneAnswer) (m' : TripLent) (enough : canSkipRest (t .limit) g 0 0 ≡ true) (mem : InMemory g t (m .written .out) start (m .written .slices))
+-- ---- the reader alone: where what is read back is as claimed, its answer and its slices are those of the state that the writer ended in
+module _ (g : Given) (bytes : List ℕ) (start : ℕ) (d : Slices) (s : ℕ → Writing) (back : ReadBack g bytes start d s) (r : PlaneAnswer) (d' : Slices) (read : PlaneRead g bytes start d r d') where
+  abbrev f : End ReadingState
+  f = readPlane g (bitsOf bytes) start d
+
+  gave : r ≡ endAnswer f
+  unfolding readPlaneAnswer
+  gave = read .answer ∙ rw (eq-eqb (readRefusal g bytes start d) 0 (back .accepted))
+
+  gave-slices : d' ≡ f .state .slices
+  unfolding readSlices
+  gave-slices = read .left-slices ∙ rw (eq-eqb (readRefusal g bytes start d) 0 (back .accepted))
+
+  ends-none : f .refusal ≡ 0
+  unfolding readPlane
+  ends-none = back .goes-on (count g) (le-refl (count g))
+
+  ends-last : f .done ≡ count g
+  unfolding readPlane
+  ends-last = back .reads (count g) (le-refl (count g))
+
+  pub comes-back : (w : PlaneAnswer) (a' : Slices) → w .done ≡ count g → w .next ≡ s (count g) .next → a' ≡ s (count g) .slices → Returned g w r a' d d'
+  comes-back w a' done next slices = record {
+    refusal = ap (λ (x : PlaneAnswer). x .refusal) gave ∙ ends-none;
+    done = ap (λ (x : PlaneAnswer). x .done) gave ∙ ends-last ∙ sym done;
+    next = ap (λ (x : PlaneAnswer). x .next) gave ∙ back .ends ∙ sym next;
+    recon = ap (λ (x : Slices). x .recon) gave-slices ∙ back .recon ∙ sym (ap (λ (x : Slices). x .recon) slices);
+    blocks = λ b.
+        ap (λ (x : Slices). take (4 * count g) (blocksIn b x)) gave-slices ∙ back .blocks b
+        ∙ sym (ap (λ (x : Slices). take (4 * count g) (blocksIn b x)) slices);
+    rest = λ b. ap (λ (x : Slices). drop (4 * count g) (blocksIn b x)) gave-slices ∙ back .rest b;
+  }
+
+-- ---- both
+module _ (g : Given) (t : Task) (start : ℕ) (m : TripLent) (w r : PlaneAnswer) (m' : TripLent) (enough : canSkipRest (t .limit) g 0 0 ≡ true) (mem : InMemory g t)
     (told : PlaneStated g t start (m .written) (m .stated) w (m' .written) (m' .stated)) (read : PlaneRead g (m' .written .out) start (m .back) r (m' .back)) where
   abbrev wrote : PlaneWritten g t start (m .written) w (m' .written)
   wrote = told .written
@@ -63,7 +99,7 @@ module _ (g : Given) (t : Task) (start : ℕ) (m : TripLent) (w r : PlaneAnswer)
     ends : e .refusal ≡ 0
     ends = sym (ap (λ (x : PlaneAnswer). x .refusal) answered) ∙ whole
 
-    holds : Claim g t out start a
+    holds : Claim g t (bitsOf out) start a
     holds = claimed g t out start a enough mem passes most ends
 
     trip-ended : Ended g t start (m .written) (m .stated) w (m' .written) (m' .stated)
@@ -87,44 +123,17 @@ module _ (g : Given) (t : Task) (start : ℕ) (m : TripLent) (w r : PlaneAnswer)
 
     module _ (fits : slicesRefusal g d ≡ 0) where
       starts : startRefusal (length out') start ≡ 0
-      starts = rw (same-length g t out start a ends out' (trip-ended .output)) (results-pass g a (length out) start (length (t .source)) passes .1)
+      starts =
+          let same : length out' ≡ length out = omega (arith, same-length g t (bitsOf out) (bits-whole out) start a ends out' (trip-ended .output), length-bitsOf out) in
+          rw same (results-pass g a (length out) start (length (t .source)) passes .1)
 
-      abbrev back : ReadBack g out' start d (stateAt g t out start a)
-      back = holds .read-back out' d (ap (take (final g t out start a .next)) (trip-ended .output)) starts fits
-
-      abbrev f : End ReadingState
-      f = readPlane g (bitsOf out') start d
-
-      gave : r ≡ endAnswer f
-      unfolding readPlaneAnswer
-      gave = read .answer ∙ rw (eq-eqb (readRefusal g out' start d) 0 (back .accepted))
-
-      left : readSlices g out' start d ≡ f .state .slices
-      unfolding readSlices
-      left = rw (eq-eqb (readRefusal g out' start d) 0 (back .accepted))
-
-      ends-none : f .refusal ≡ 0
-      unfolding readPlane
-      ends-none = back .goes-on (count g) (le-refl (count g))
-
-      ends-last : f .done ≡ count g
-      unfolding readPlane
-      ends-last = back .reads (count g) (le-refl (count g))
+      abbrev back : ReadBack g out' start d (stateAt g t (bitsOf out) start a)
+      back = holds .read-back out' d (ap (take (final g t (bitsOf out) start a .next)) (trip-ended .output)) starts fits
 
       trip-returned : Returned g w r (m' .written .slices) d (m' .back)
       trip-returned =
           let u = trip-ended in
-          let gave-slices : m' .back ≡ f .state .slices = read .left-slices ∙ left in
-          record {
-            refusal = ap (λ (x : PlaneAnswer). x .refusal) gave ∙ ends-none;
-            done = ap (λ (x : PlaneAnswer). x .done) gave ∙ ends-last ∙ sym (u .done);
-            next = ap (λ (x : PlaneAnswer). x .next) gave ∙ back .ends ∙ sym (u .next);
-            recon = ap (λ (x : Slices). x .recon) gave-slices ∙ back .recon ∙ sym (ap (λ (x : Slices). x .recon) (u .slices));
-            blocks = λ b.
-                ap (λ (x : Slices). take (4 * count g) (blocksIn b x)) gave-slices ∙ back .blocks b
-                ∙ sym (ap (λ (x : Slices). take (4 * count g) (blocksIn b x)) (u .slices));
-            rest = λ b. ap (λ (x : Slices). drop (4 * count g) (blocksIn b x)) gave-slices ∙ back .rest b;
-          }
+          comes-back g out' start d (stateAt g t (bitsOf out) start a) back r (m' .back) read w (m' .written .slices) (u .done) (u .next) (u .slices)
 
   pub tripped : RoundTrip g t start m w r m'
   tripped =

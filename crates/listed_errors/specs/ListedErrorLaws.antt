@@ -12,6 +12,7 @@ use borrow.Author.Tests.{eqb-true}
 use Rattle.bits.specs.Basics.{Bytes, pick, sum}
 use Rattle.bits.specs.BasicsLaws.{or-next}
 use Rattle.bits.specs.Bits.{bitsOf}
+use Rattle.bits.specs.BitsLaws.{bits-whole}
 use Rattle.bits.specs.SumLaws.{sum-same, sum-each-le}
 use Rattle.canvas.specs.Canvas.{sizeRefusal}
 use Rattle.canvas.specs.CanvasLaws.{plane-passes}
@@ -51,20 +52,20 @@ module _ (g : Given) (t : Task) (out : List ℕ) (start : ℕ) (a : Slices) wher
   statedTotal = writePlane g t (bitsOf out) start a .state .error
 
   -- one that nothing refuses, written to its last macroblock
-  module _ (mem : InMemory g t out start a) (passes : writeRefusal g t out start a ≡ 0) (all : writePlane g t (bitsOf out) start a .refusal ≡ 0) where
+  module _ (mem : InMemory g t) (passes : writeRefusal g t out start a ≡ 0) (all : writePlane g t (bitsOf out) start a .refusal ≡ 0) where
     ok : AcceptedPlane g t
-    ok = accepted g t out start a mem passes
+    ok = accepted g t (length out) start a mem passes
 
     sized : SizedSlices g a
     sized = slices-sized g t ok a (results-pass g a (length out) start (length (t .source)) passes .0)
 
-    end-is : writePlane g t (bitsOf out) start a .state ≡ final g t out start a
-    end-is = ap (λ (e : End Writing). e .state) (reached g t out start a all)
+    end-is : writePlane g t (bitsOf out) start a .state ≡ final g t (bitsOf out) start a
+    end-is = ap (λ (e : End Writing). e .state) (reached g t (bitsOf out) (bits-whole out) start a all)
 
     showable : Showable leftPlane
     showable =
         let f = plane-passes (g .width) (g .height) (g .reference) (or-next (sizeRefusal (g .width) (g .height)) _ (ok .size-passes) ∙ ok .canvas-passes) in
-        let long = ap (λ (w : Writing). length (w .slices .recon)) end-is ∙ sized-at g t ok out start a sized all (count g) .recon ∙ sym (ok .canvas) in
+        let long = ap (λ (w : Writing). length (w .slices .recon)) end-is ∙ sized-at g t ok (bitsOf out) (bits-whole out) start a sized all (count g) .recon ∙ sym (ok .canvas) in
         record {
           fits = record { width = f .width; height = f .height; stride = f .stride; rows = f .rows; samples = long };
           samples = write-accepted g a (length out) start (length (t .source)) passes .1;
@@ -72,11 +73,11 @@ module _ (g : Given) (t : Task) (out : List ℕ) (start : ℕ) (a : Slices) wher
 
     stated-is : (k : ℕ) → k < count g → statedError k ≡ paddedError leftPlane k
     stated-is k h =
-        error-is g t ok out start a sized all k h
+        error-is g t ok (bitsOf out) (bits-whole out) start a sized all k h
         ∙ sym (ap (λ (w : Writing). sse (target g t k) (part 16 (cols g) k (w .slices .recon))) end-is)
 
     total-is : statedTotal ≡ sum statedError (count g)
-    total-is = ap (λ (w : Writing). w .error) end-is ∙ errors-to g t ok out start a sized all (count g)
+    total-is = ap (λ (w : Writing). w .error) end-is ∙ errors-to g t ok (bitsOf out) (bits-whole out) start a sized all (count g)
 
     -- each visible error, and their total, is at most the stated one
     pub visible-at-most : (k : ℕ) → k < count g → visibleError leftPlane k ≤ statedError k
@@ -128,7 +129,7 @@ abbrev pub statedListing : Files → List ℕ
 statedListing f = statedJob f (jobIn (f .job))
 
 -- a plane of whole macroblocks that nothing refuses, also where it ends early
-plane-as-before : (g : Given) (t : Task) → Listable g t → InMemory g t zeros 0 (noSlices g) → g .width % 16 ≡ 0 → g .height % 16 ≡ 0 → planeText g t ≡ statedText g t
+plane-as-before : (g : Given) (t : Task) → Listable g t → InMemory g t → g .width % 16 ≡ 0 → g .height % 16 ≡ 0 → planeText g t ≡ statedText g t
 unfolding planeText textInto
 plane-as-before g t fine mem w v =
     text-same g t (bitsOf zeros) _ _ _ _ (λ all. (visible-is-stated g t zeros 0 (noSlices g) mem (fine .passes) all w v, total-is-stated g t zeros 0 (noSlices g) mem (fine .passes) all w v))

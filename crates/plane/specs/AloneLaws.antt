@@ -1,6 +1,6 @@
 -- Where every first choice fits, a plane under a limit is the plane without it.
 -- Assumes nothing.
-use mathlib.Core.Path.{_≡_, refl, ap}
+use mathlib.Core.Path.{_≡_, refl, ap, _∙_}
 use mathlib.Core.Bool.{Bool, true, false}
 use mathlib.Core.List.{List}
 use Prim.Native.Nat.{ℕ, zero, suc, _+_, _≤_, _<_}
@@ -13,7 +13,8 @@ use Rattle.macroblock.specs.Choice.{Task, withoutLimit, weightOf}
 use Rattle.macroblock.specs.LimitLaws.{skip-fits, first-fits}
 use Rattle.macroblock.specs.Slices.{Slices, near}
 use Rattle.plane.specs.Run.{Step, on, stop, End, goOn, run, after}
-use Rattle.plane.specs.Plane.{count, Writing, wrote, fits, written, writeStep, writePlane, writingAt, FirstFits}
+use Rattle.plane.specs.RunLaws.{run-stands}
+use Rattle.plane.specs.Plane.{count, Writing, wrote, stepStated, fits, written, toWrite, writeStep, writePlane, writingAt, FirstFits}
 
 -- ---- two runs whose steps agree as far as one goes
 past-one : {S : Type 0} (x : Step S) (f : S → End S) (k : ℕ) (s : S) → ((v : S) → suc k ≤ f v .done) → k ≤ goOn x f k s .done
@@ -54,17 +55,28 @@ module _ (g : Given) (t : Task) (enough : canSkipRest (t .limit) g 0 0 ≡ true)
   abbrev alone : End Writing
   alone = writePlane g (withoutLimit t) out start a
 
+  pub alone-most : alone .done ≤ count g
+  unfolding writePlane after
+  alone-most = omega (arith, run-stands 22 (fits g (withoutLimit t)) (written g (withoutLimit t)) (toWrite out start a) (count g) 0 .at-most)
+
   skip-rest-alone : (k : ℕ) → k ≤ count g → k ≤ alone .done → canSkipRest (t .limit) g k (F k .bits) ≡ true
   unfolding after written
   skip-rest-alone zero l d = enough
   skip-rest-alone (suc k) l d = h k l (omega arith)
 
+  first-alone : (k : ℕ) → k < count g → k ≤ alone .done → wrote g t k (F k) ≡ wrote g (withoutLimit t) k (F k)
+  unfolding weightOf
+  first-alone k l d =
+      let n = near g (F k .slices) k in
+      first-fits g t k n (F k .bits) (skip-fits g t k n (F k .bits) l (skip-rest-alone k (omega arith) d)) (h k l d)
+
+  written-alone : (k : ℕ) → k < count g → k ≤ alone .done → written g t k (F k) ≡ written g (withoutLimit t) k (F k)
+  unfolding written weightOf
+  written-alone k l d = rw (first-alone k l d)
+
   one-step : (k : ℕ) → k < count g → k ≤ alone .done → writeStep g t k (F k) ≡ writeStep g (withoutLimit t) k (F k)
   unfolding written weightOf
-  one-step k l d =
-      let n = near g (F k .slices) k in
-      let c : wrote g t k (F k) ≡ wrote g (withoutLimit t) k (F k) = first-fits g t k n (F k .bits) (skip-fits g t k n (F k .bits) l (skip-rest-alone k (omega arith) d)) (h k l d) in
-      rw c
+  one-step k l d = rw (first-alone k l d)
 
   goes : (q : Bool) (x v : Writing) → pick q (on x) (stop 22) ≡ on v → v ≡ x
   goes true x v e = cc
@@ -75,3 +87,18 @@ module _ (g : Given) (t : Task) (enough : canSkipRest (t .limit) g 0 0 ≡ true)
   as-alone =
       same-run (writeStep g (withoutLimit t)) (writeStep g t) F (λ j v o. goes (fits g (withoutLimit t) j (F j)) (written g (withoutLimit t) j (F j)) v o) (count g) 0
       (λ j l m d. one-step j (omega arith) d)
+
+  -- so are the states that it goes through, and what it writes and states in them
+  pub states-alone : (k : ℕ) → k ≤ count g → k ≤ alone .done → writingAt g t out start a k ≡ F k
+  unfolding after
+  states-alone zero l d = refl
+  states-alone (suc k) l d = ap (written g t k) (states-alone k (omega arith) (omega arith)) ∙ written-alone k l (omega arith)
+
+  pub wrote-alone : (k : ℕ) → k < count g → k ≤ alone .done → wrote g t k (writingAt g t out start a k) ≡ wrote g (withoutLimit t) k (F k)
+  wrote-alone k l d = ap (wrote g t k) (states-alone k (omega arith) d) ∙ first-alone k l d
+
+  pub stated-step-alone : (k : ℕ) → k < alone .done → stepStated g t k (writingAt g t out start a k) ≡ stepStated g (withoutLimit t) k (F k)
+  unfolding weightOf
+  stated-step-alone k l =
+      let m : k < count g = omega (arith, alone-most) in
+      ap (stepStated g t k) (states-alone k (omega arith) (omega arith)) ∙ rw (first-alone k m (omega arith))

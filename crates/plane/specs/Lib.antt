@@ -7,5 +7,6 @@ pub mod Calls
 pub mod PlaneNeeds
 pub mod RefusalsLaws
 pub mod SlicesLaws
+pub mod PlaneLaws
 pub mod LimitLaws
 pub mod AloneLaws

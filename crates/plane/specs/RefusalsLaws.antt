@@ -1,8 +1,8 @@
 -- Laws of the plane calls' refusals: what a plane that passes has, and the tests of the code, link by link.
 -- Assumes nothing.
-use mathlib.Core.Path.{_≡_, sym, _∙_}
+use mathlib.Core.Path.{_≡_, sym, ap, _∙_}
 use mathlib.Core.Bool.{true, _&&_}
-use mathlib.Core.List.{List, _++_}
+use mathlib.Core.List.{List, [], _∷_, _++_}
 use Prim.Native.Nat.{ℕ, _+_, _*_, _/_, _≤_, _<_}
 use native.Mathlib.Omega.{arith}
 use native.Mathlib.Nat.{mul-le-mul}
@@ -87,6 +87,14 @@ module _ (g : Given) (u : Slices) where
 
       pub results-pass : (slicesRefusal g u ≡ 0) × (startRefusal bytes start ≡ 0)
       results-pass = let p = links in (p .1 .1 .1 .1 .0, p .1 .1 .1 .1 .1 .0)
+
+      -- so does one from any other bit of the same output
+      pub write-later : (next : ℕ) → next ≤ 8 * bytes → writeRefusalBy g n bytes next (lengthsOf u) ≡ 0
+      unfolding writeRefusalBy
+      write-later next h =
+          let fit : Fits bytes start 0 = start-fits (results-pass .1) in
+          let z : startRefusal bytes next ≡ 0 = rw (le-leb bytes 268435456 (fit .bytes-fit), le-leb next (8 * bytes) h) in
+          ap (λ (m : ℕ). firstOf (sourceLinks (g .width) (g .height) n (g .reference) ++ (dataRefusal (g .book) (g .codebook) ∷ slicesRefusal g u ∷ m ∷ []))) (z ∙ sym (results-pass .1)) ∙ e
 
 -- ---- the macroblocks of a plane that passes
 pub count-by : (g : Given) (raised : List ℕ) → Accepted g raised → g .reference .rows / 16 * (g .reference .stride / 16) ≡ count g

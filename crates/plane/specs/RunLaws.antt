@@ -97,3 +97,15 @@ run-stands c fits g s zero k = record { state = refl; at-most = omega arith; ear
 run-stands c fits g s (suc n) k =
     one-more (fits k (after g s k)) c fits g s k (k + suc n) (run (testing c fits g) n (suc k)) refl (omega arith)
     (rw (add-suc, ← suc-add) (run-stands c fits g s n (suc k)))
+
+-- what holds at first, and behind each step that is taken, holds at the end, early or not
+held-one : {S : Type 0} (P : S → Type 0) (q : Bool) (c k : ℕ) (s u : S) (f : S → End S) → P s → (q ≡ true → P u) → (P u → P (f u .state)) → P (goOn (pick q (on u) (stop c)) f k s .state)
+held-one P true c k s u f p h r = r (h refl)
+held-one P false c k s u f p h r = p
+
+pub run-holds : {S : Type 0} (c : ℕ) (fits : ℕ → S → Bool) (g : ℕ → S → S) (P : S → Type 0) → ((k : ℕ) (s : S) → P s → fits k s ≡ true → P (g k s))
+    → (n k : ℕ) (s : S) → P s → P (run (testing c fits g) n k s .state)
+unfolding run
+run-holds c fits g P h zero k s p = p
+run-holds c fits g P h (suc n) k s p =
+    held-one P (fits k s) c k s (g k s) (run (testing c fits g) n (suc k)) p (h k s p) (run-holds c fits g P h n (suc k) (g k s))

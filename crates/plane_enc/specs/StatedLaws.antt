@@ -1,6 +1,6 @@
 -- Laws of what the writer tells: a slice keeps its length, one macroblock more, and the loop's turns.
 -- Assumes nothing.
-use mathlib.Core.Path.{_≡_, refl, sym, _∙_}
+use mathlib.Core.Path.{_≡_, refl, sym, ap, ap₂, _∙_}
 use mathlib.Core.List.{List, [], _∷_, _++_, append-assoc}
 use Prim.Native.Nat.{ℕ, zero, suc, _+_, _*_, _/_, _≤_, _<_, min}
 use native.Mathlib.Omega.{arith}
@@ -112,6 +112,20 @@ module _ (g : Given) (t : Task) (out : List ℕ) (start : ℕ) (s : Slices) wher
           go : Dec (k < length held / 3) → told (statedIn g t out start s held k) k next ≡ statedIn g t out start s held (suc k)
           go (yes h) = told-room h
           go (no h) = told-full (omega arith)
+
+-- ---- two tasks whose steps state the same
+module _ (g : Given) (t u : Task) (out : List ℕ) (start : ℕ) (s : Slices) where
+  abbrev SameSteps : ℕ → Type 0
+  SameSteps n = (k : ℕ) → k < n → stepStated g t k (writingAt g t out start s k) ≡ stepStated g u k (writingAt g u out start s k)
+
+  to-alone : (n : ℕ) → SameSteps n → statedTo g t out start s n ≡ statedTo g u out start s n
+  unfolding statedTo
+  to-alone zero h = refl
+  to-alone (suc n) h = ap₂ _++_ (to-alone n (λ k l. h k (omega arith))) (ap threeOf (h n (omega arith)))
+
+  pub stated-alone : (held : List ℕ) (n : ℕ) → SameSteps n → statedIn g t out start s held n ≡ statedIn g u out start s held n
+  unfolding statedIn
+  stated-alone held n h = ap (λ (l : List ℕ). l ++ drop (3 * min n (length held / 3)) held) (to-alone (min n (length held / 3)) (λ k l. h k (omega arith)))
 
 -- ---- the loop
 module _ (g : Given) (t : Task) (start : ℕ) (l₀ : Lent) (held : List ℕ) where

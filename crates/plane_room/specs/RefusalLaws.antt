@@ -11,10 +11,9 @@ use Rattle.book.specs.Book.{codebookBytes, bookBytes, codeTableSizes, eachPrefi
 use Rattle.code_tables.specs.Codes.{goodTable}
 use Rattle.canvas.specs.Canvas.{Canvas, sideOk, padded16, canvasRefusal, sourceLinks}
 use Rattle.macroblock.specs.Macroblock.{Given}
-use Rattle.macroblock.specs.Choice.{Task}
-use Rattle.macroblock.specs.Slices.{Slices}
 use Rattle.plane.specs.Plane.{count}
-use Rattle.plane.specs.Refusals.{lengthsRefusal, lentLinks, lengthsOf, slicesRefusal, writeRefusalBy, writeRefusal}
+use Rattle.plane.specs.declared.svq1_plane.inner.SliceLengths.{SliceLengths}
+use Rattle.plane.specs.Refusals.{lengthsRefusal, lentLinks, writeRefusalBy}
 
 unless-most : (b : Bool) (n : ℕ) → n ≤ 21 → unless b n ≤ 21
 unless-most true n h = omega arith
@@ -44,10 +43,10 @@ data-most book codebook =
     (or-most (unless size 5) codes (unless-most size 5 (omega arith))
     (or-most (unless good 6) (unless free 7) (unless-most good 6 (omega arith)) (unless-most free 7 (omega arith))))
 
-slices-most : (g : Given) (s : Slices) → slicesRefusal g s ≤ 21
+lengths-most : (g : Given) (l : SliceLengths) → lengthsRefusal g l ≤ 21
 unfolding lengthsRefusal
-slices-most g s =
-    unless-most ((leb (4 * count g) (length (s .vx)) && leb (4 * count g) (length (s .vy))) && eqb (length (s .recon)) (g .reference .stride * g .reference .rows)) 20 (omega arith)
+lengths-most g l =
+    unless-most ((leb (4 * count g) (l .vx) && leb (4 * count g) (l .vy)) && eqb (l .recon) (g .reference .stride * g .reference .rows)) 20 (omega arith)
 
 -- a chain is at most what its links are
 first-most : (ns : List ℕ) → All (λ n. n ≤ 21) ns → firstOf ns ≤ 21
@@ -55,22 +54,16 @@ unfolding firstOf
 first-most [] h = omega arith
 first-most (n ∷ ns) h = or-most n (firstOf ns) (h .0) (first-most ns (h .1))
 
-pub refusal-most : (g : Given) (t : Task) (out : List ℕ) (start : ℕ) (s : Slices) → writeRefusal g t out start s ≤ 21
+pub refusal-most : (g : Given) (n bytes start : ℕ) (l : SliceLengths) → writeRefusalBy g n bytes start l ≤ 21
 unfolding writeRefusalBy
-refusal-most g t out start s =
-    first-most (sourceLinks (g .width) (g .height) (length (t .source)) (g .reference) ++ lentLinks g (length out) start (lengthsOf s)) (
+refusal-most g n bytes start l =
+    first-most (sourceLinks (g .width) (g .height) n (g .reference) ++ lentLinks g bytes start l) (
       unless-most (sideOk (g .width) && sideOk (g .height)) 1 (omega arith),
       (
-        unless-most (eqb (length (t .source)) (g .width * g .height)) 2 (omega arith),
+        unless-most (eqb n (g .width * g .height)) 2 (omega arith),
         (
           canvas-most (g .width) (g .height) (g .reference),
-          (
-            data-most (g .book) (g .codebook),
-            (
-              slices-most g s,
-              (unless-most (leb (length out) (2 ^ 28) && leb start (8 * length out)) 21 (omega arith), tt),
-            ),
-          ),
+          (data-most (g .book) (g .codebook), (lengths-most g l, (unless-most (leb bytes (2 ^ 28) && leb start (8 * bytes)) 21 (omega arith), tt))),
         ),
       ),
     )

@@ -57,7 +57,7 @@ pub record HasRoom (g : Given) (t : Task) (out : List ℕ) (start : ℕ) (s : Sl
 -- so many bytes suffice for every plane of a kind: each of its calls with so many bytes behind the start bit has room. The source and the reference are byte slices, which in memory they always are
 abbrev pub Suffices : (Given → Type 0) → ℕ → Type 0
 Suffices Kind bytes =
-    (g : Given) (t : Task) (out : List ℕ) (start : ℕ) (s : Slices) → Kind g → InMemory g t out start s → start + 8 * bytes ≤ 8 * length out
+    (g : Given) (t : Task) (out : List ℕ) (start : ℕ) (s : Slices) → Kind g → InMemory g t → start + 8 * bytes ≤ 8 * length out
     → HasRoom g t out start s
 
 -- planes of a size, under any book and under one

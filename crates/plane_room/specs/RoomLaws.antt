@@ -1,26 +1,29 @@
 -- The room suffices: a call that no refusal meets, with it behind its start bit, is written to its last macroblock.
 -- Assumes nothing.
-use Prim.Native.Nat.{ℕ, zero, suc, _+_, _*_, _≤_, _<_}
-use mathlib.Core.Path.{_≡_, refl, sym, ap, _∙_}
+use Prim.Native.Nat.{ℕ, zero, suc, _+_, _-_, _*_, _%_, _≤_}
+use mathlib.Core.Path.{_≡_, sym, _∙_}
 use mathlib.Core.Bool.{true}
 use mathlib.Core.List.{List}
 use native.Mathlib.Omega.{arith}
-use native.Mathlib.Nat.{zero-add, le-refl, le-trans, mul-suc, mul-le-mul, mul-le-mul-left}
+use native.Mathlib.Nat.{le-refl, le-trans, mul-suc, mul-le-mul, mul-le-mul-left}
 use native.Mathlib.Decide.{ℕ-discrete}
 use lib.Dec.{eqb}
 use lib.ListN.{length}
-use borrow.Author.Tests.{eq-eqb, ne-eqb, le-leb}
+use borrow.Author.Tests.{eq-eqb, ne-eqb, leb-true}
 use Rattle.bits.specs.Bits.{bitsOf}
-use Rattle.bits.specs.BitsLaws.{length-bitsOf, put-length}
+use Rattle.bits.specs.BitsLaws.{length-bitsOf, bits-whole}
 use Rattle.canvas.specs.Canvas.{blocksAlong}
-use Rattle.macroblock.specs.Macroblock.{Given}
+use Rattle.macroblock.specs.declared.svq1_enc_inter.Svq1MbMode.the-variants.{Skip}
+use Rattle.macroblock.specs.Macroblock.{Given, cols, rows, modeBits}
+use Rattle.macroblock.specs.Limit.{Budget, Limit, within, canSkipRest}
 use Rattle.macroblock.specs.Choice.{Task, weightOf}
 use Rattle.macroblock.specs.MacroblockLaws.{Fine}
 use Rattle.macroblock.specs.Slices.{Slices, near}
 use Rattle.plane.specs.Run.{after}
-use Rattle.plane.specs.RunLaws.{testing, run-on}
-use Rattle.plane.specs.Plane.{count, Writing, wroteWeight, wroteBits, fits, written, writePlane, writingAt}
-use Rattle.plane.specs.Refusals.{writeRefusal}
+use Rattle.plane.specs.Plane.{count, Writing, wroteWeight, written, writePlane, writingAt}
+use Rattle.plane.specs.PlaneLaws.{reached-if}
+use Rattle.plane.specs.LimitLaws.{skip-rest-at}
+use Rattle.plane.specs.Refusals.{lengthsOf, writeRefusal}
 use Rattle.plane.specs.Calls.{writeAnswer}
 use Rattle.claim.specs.Claim.{InMemory}
 use Rattle.claim.specs.AcceptedLaws.{accepted}
@@ -28,67 +31,64 @@ use Rattle.plane_room.specs.Room.{bookBits, anyBits, roomBytes, WrittenW
 use Rattle.plane_room.specs.RefusalLaws.{refusal-most}
 use Rattle.plane_room.specs.BitsLaws.{chosen-few, book-any}
 
--- ---- the run, with room for b bits a macroblock, b no less than the book's
-module _ (g : Given) (t : Task) (ok : Fine g t) (out : List ℕ) (start : ℕ) (s : Slices) (b : ℕ) (few : bookBits (g .book) ≤ b) (room : start + b * count g ≤ 8 * length out) where
+-- bits spent that leave an allowance a SKIP code for each macroblock to come are inside it
+inside-limit : (g : Given) (b : Budget) (l : Limit) (done spent : ℕ) → l ≡ within b → canSkipRest l g done spent ≡ true → spent ≤ b .allowance
+inside-limit g b l done spent e h =
+    let left : canSkipRest (within b) g done spent ≡ true = rw e at h in
+    omega (arith, leb-true (spent + length (modeBits g Skip) * (rows g * cols g - done + b .behind)) (b .allowance) left)
+
+-- ---- the run, in an output of whole bytes
+module _ (g : Given) (t : Task) (bits : List ℕ) (even : length bits % 8 ≡ 0) (start : ℕ) (s : Slices) where
   abbrev S : ℕ → Writing
-  S = writingAt g t (bitsOf out) start s
+  S = writingAt g t bits start s
 
-  bits-few : (k : ℕ) → wroteWeight g t k (S k) .bits ≤ b
-  unfolding weightOf
-  bits-few k = le-trans (chosen-few g t ok k (near g (S k .slices) k) (S k .bits)) few
+  abbrev Reached : Type 0
+  Reached = writePlane g t bits start s ≡ record { refusal = 0; done = count g; state = S (count g) }
 
-  stated : (k : ℕ) → wroteWeight g t k (S k) .bits ≡ length (wroteBits g t k (S k))
-  unfolding weightOf
-  stated k = refl
+  -- with room for b bits a macroblock, b no less than the book's
+  module _ (ok : Fine g t) (b : ℕ) (few : bookBits (g .book) ≤ b) where
+    bits-few : (k : ℕ) → wroteWeight g t k (S k) .bits ≤ b
+    unfolding weightOf
+    bits-few k = le-trans (chosen-few g t ok k (near g (S k .slices) k) (S k .bits)) few
 
-  -- before macroblock k: at most b bits for each one before it, in an output of the same length
-  record Along (k : ℕ) : Type 0 where
-    next : S k .next ≤ start + b * k
-    long : length (S k .out) ≡ 8 * length out
+    bits-most : (k : ℕ) → S k .bits ≤ b * k
+    unfolding after written
+    bits-most zero = omega arith
+    bits-most (suc k) = omega (arith, bits-most k, bits-few k, mul-suc b k)
 
-  holds : (k : ℕ) → k < count g → Along k → S k .next + wroteWeight g t k (S k) .bits ≤ 8 * length out
-  holds k h a = omega (arith, a .next, bits-few k, room, mul-suc b k, mul-le-mul-left b h)
+    pub room-run : start + b * count g ≤ length bits → Reached × (S (count g) .bits ≤ b * count g)
+    room-run room =
+        (reached-if g t bits even start s (λ k h. omega (arith, bits-most k, bits-few k, mul-suc b k, mul-le-mul-left b h)), bits-most (count g))
 
-  along : (k : ℕ) → k ≤ count g → Along k
-  unfolding after written
-  along zero h = record { next = omega arith; long = length-bitsOf out }
-  along (suc k) h =
-      let a = along k (omega arith) in
-      let fit = holds k h a in
-      record {
-        next = omega (arith, a .next, bits-few k, mul-suc b k);
-        long = put-length (S k .out) (wroteBits g t k (S k)) (S k .next) (rw (a .long) (omega arith)) (omega (arith, a .long, fit, stated k)) ∙ a .long;
-      }
+  -- with room for the allowance
+  module _ (b : Budget) (limited : t .limit ≡ within b) (enough : canSkipRest (t .limit) g 0 0 ≡ true) where
+    spent-most : (k : ℕ) → k ≤ count g → S k .bits ≤ b .allowance
+    spent-most k h = inside-limit g b (t .limit) k (S k .bits) limited (skip-rest-at g t enough bits start s k h)
 
-  fit : (k : ℕ) → k < count g → fits g t k (S k) ≡ true
-  fit k h = let a = along k (omega arith) in le-leb (S k .next + wroteWeight g t k (S k) .bits) (length (S k .out)) (rw (a .long) (holds k h a))
-
-  pub reached : writePlane g t (bitsOf out) start s ≡ record { refusal = 0; done = count g; state = S (count g) }
-  unfolding after writePlane
-  reached =
-      run-on (testing 22 (fits g t) (written g t)) S (count g) 0 (λ j q l. rw (fit j (omega arith)))
-      ∙ ap (λ (i : ℕ). record { refusal = 0; done = i; state = S i }) (zero-add (count g))
+    pub allowance-run : start + b .allowance ≤ length bits → Reached
+    unfolding after written
+    allowance-run room = reached-if g t bits even start s (λ k h. omega (arith, spent-most (suc k) h))
 
 -- ---- so the plane is written whole
 module _ (g : Given) (t : Task) (out : List ℕ) (start : ℕ) (s : Slices) where
-  written-whole : (b : ℕ) → bookBits (g .book) ≤ b → InMemory g t out start s → writeRefusal g t out start s ≡ 0
+  written-whole : (b : ℕ) → bookBits (g .book) ≤ b → InMemory g t → writeRefusal g t out start s ≡ 0
       → start + 8 * roomBytes b (count g) ≤ 8 * length out → WrittenWhole g t out start s
   unfolding writeAnswer
   written-whole b few mem e room =
-      let r = reached g t (accepted g t out start s mem e .fine) out start s b few (omega arith) in
+      let r = room-run g t (bitsOf out) (bits-whole out) start s (accepted g t (length out) start s mem e .fine) b few (rw (length-bitsOf out) (omega arith)) .0 in
       let yes : eqb (writeRefusal g t out start s) 0 ≡ true = eq-eqb (writeRefusal g t out start s) 0 e in
       record { refusal = rw r; done = rw r; answer-refusal = rw (yes, r); answer-done = rw (yes, r) }
 
-  book-passes : InMemory g t out start s → writeRefusal g t out start s ≡ 0 → bookBits (g .book) ≤ anyBits
-  book-passes mem e = book-any (g .book) (accepted g t out start s mem e .fine .book)
+  book-passes : InMemory g t → writeRefusal g t out start s ≡ 0 → bookBits (g .book) ≤ anyBits
+  book-passes mem e = book-any (g .book) (accepted g t (length out) start s mem e .fine .book)
 
   -- THE ROOM SUFFICES, by the book's longest codes
-  pub room-suffices : InMemory g t out start s → writeRefusal g t out start s ≡ 0 → start + 8 * roomBytes (bookBits (g .book)) (count g) ≤ 8 * length out
+  pub room-suffices : InMemory g t → writeRefusal g t out start s ≡ 0 → start + 8 * roomBytes (bookBits (g .book)) (count g) ≤ 8 * length out
       → WrittenWhole g t out start s
   room-suffices = written-whole (bookBits (g .book)) (le-refl (bookBits (g .book)))
 
   -- and for any book that passes
-  pub room-for-any : InMemory g t out start s → writeRefusal g t out start s ≡ 0 → start + 8 * roomBytes anyBits (count g) ≤ 8 * length out
+  pub room-for-any : InMemory g t → writeRefusal g t out start s ≡ 0 → start + 8 * roomBytes anyBits (count g) ≤ 8 * length out
       → WrittenWhole g t out start s
   room-for-any mem e = written-whole anyBits (book-passes mem e) mem e
 
@@ -100,7 +100,7 @@ module _ (g : Given) (t : Task) (out : List ℕ) (start : ℕ) (s : Slices) wher
   has-room : (writeRefusal g t out start s ≡ 0 → WrittenWhole g t out start s) → HasRoom g t out start s
   has-room f =
       let e = go (ℕ-discrete (writeRefusal g t out start s) 0) in
-      record { told = e; never-22 = λ z. omega (arith, refusal-most g t out start s, e); whole = f }
+      record { told = e; never-22 = λ z. omega (arith, refusal-most g (length (t .source)) (length out) start (lengthsOf s), e); whole = f }
     where
       go : Dec (writeRefusal g t out start s ≡ 0) → writeAnswer g t out start s .refusal ≡ writeRefusal g t out start s
       go (yes e) = f e .answer-refusal ∙ sym e
@@ -126,5 +126,5 @@ pub listing-never-ends-early : (g : Given) (t : Task) (out : List ℕ) (s : Slic
     → (writePlane g t (bitsOf out) 0 s .refusal ≡ 0) × (writePlane g t (bitsOf out) 0 s .done ≡ count g)
 listing-never-ends-early g t out s ok w h l =
     let bits : anyBits * count g ≤ anyBits * 99 = mul-le-mul-left anyBits (listing-blocks g w h) in
-    let r = reached g t ok out 0 s anyBits (book-any (g .book) (ok .book)) (omega arith) in
+    let r = room-run g t (bitsOf out) (bits-whole out) 0 s ok anyBits (book-any (g .book) (ok .book)) (rw (length-bitsOf out) (omega arith)) .0 in
     (rw r, rw r)

@@ -38,6 +38,12 @@ use Rattle.claim.specs.Claim.{InMemory, Claimed}
 use Rattle.claim.specs.ClaimLaws.{claimed}
 use Rattle.plane_room.specs.Room.{anyBits, bookBits, roomBytes, Suffices, OfSize, OfSizeUnder}
 use Rattle.plane_room.specs.RoomLaws.{size-suffices, book-suffices}
+use Rattle.picture.specs.Picture.{Shared, PlaneIn}
+use Rattle.picture.specs.Refusals.{pictureRefusal}
+use Rattle.picture_claim.specs.PictureClaim.{PictureInMemory, PictureClaim}
+use Rattle.picture_claim.specs.PictureClaimLaws.{picture-claimed}
+use Rattle.picture_claim.specs.PictureRoom.{pictureRoom, PictureHasRoom}
+use Rattle.picture_claim.specs.PictureRoomLaws.{picture-room, allowance-room}
 use Rattle.visible_error.specs.Visible.{ShownPlane, squareAt, visibleTotal}
 use Rattle.listing_job.specs.Job.{Job, jobIn}
 use Rattle.listing_text.specs.Listing.{Files, listing}
@@ -113,8 +119,23 @@ a-book-filed-and-read = book-files
 pub a-stage-earns-its-bits : Margins
 a-stage-earns-its-bits = margins
 
+-- Document 02, §5, of every picture of bytes that no refusal meets, of any number of planes, ended early or not: its bits are inside the allowance, and each plane
+-- that is reached has the sentences of `PlaneClaim`, those of demand 3 among them (picture_claim/PictureClaim). Of memory: `round_trip_picture`.
+pub a-picture-inside-its-allowance : (s : Shared) (ps : List PlaneIn) (allowance : ℕ) (out : List ℕ) (start : ℕ) → pictureRefusal s ps allowance (length out) start ≡ 0 → PictureInMemory ps
+    → PictureClaim s ps allowance out start
+a-picture-inside-its-allowance = picture-claimed
+
+-- 22 cannot come where the rooms of its planes fit behind the start bit, nor where the allowance's bits do (picture_claim/PictureRoom).
+pub room-for-a-picture : (s : Shared) (ps : List PlaneIn) (allowance : ℕ) (out : List ℕ) (start : ℕ) → PictureInMemory ps → start + 8 * pictureRoom (bookBits (s .book)) ps ≤ 8 * length out
+    → PictureHasRoom s ps allowance out start
+room-for-a-picture = picture-room
+
+pub room-for-an-allowance : (s : Shared) (ps : List PlaneIn) (allowance : ℕ) (out : List ℕ) (start : ℕ) → PictureInMemory ps → start + allowance ≤ 8 * length out
+    → PictureHasRoom s ps allowance out start
+room-for-an-allowance = allowance-room
+
 -- Where an allowance holds a SKIP code for each macroblock, and each mode that is written without a limit on bits fits it, the plane within it is the plane
--- without one (document 02, §5; nothing calls it yet).
+-- without one.
 pub within-an-allowance : (g : Given) (t : Task) → canSkipRest (t .limit) g 0 0 ≡ true → (out : List ℕ) (start : ℕ) (a : Slices) → FirstFits g t out start a
     → writePlane g t out start a ≡ writePlane g (withoutLimit t) out start a
 within-an-allowance = as-alone
@@ -124,7 +145,7 @@ within-an-allowance = as-alone
 pub what-the-panel-shows : (s : ShownPlane) → visibleTotal s ≡ sum (λ y. sum (λ x. squareAt s x y) (s .width)) (s .height)
 what-the-panel-shows = all-samples
 
-pub never-above-the-stated : (g : Given) (t : Task) (out : List ℕ) (start : ℕ) (a : Slices) → InMemory g t out start a → writeRefusal g t out start a ≡ 0
+pub never-above-the-stated : (g : Given) (t : Task) (out : List ℕ) (start : ℕ) (a : Slices) → InMemory g t → writeRefusal g t out start a ≡ 0
     → writePlane g t (bitsOf out) start a .refusal ≡ 0 → visibleTotal (leftPlane g t out start a) ≤ statedTotal g t out start a
 never-above-the-stated = total-at-most
 

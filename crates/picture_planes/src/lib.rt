@@ -1,0 +1,2 @@
+// Three planes of a picture, one behind the other in one output.
+pub mod inner;
