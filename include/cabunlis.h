@@ -319,9 +319,9 @@ struct cabunlis_picture_answer {
  * The allowance is spent from the first macroblock on, and nothing is held back for later ones but their SKIP codes. Where it is
  * short, it is short at the picture's end: most of the last rows of a plane and of the planes behind it are then skipped and show
  * their references, however much they have changed. So the plane that matters most stands first, and a host that would rather have
- * it short everywhere takes a greater lambda. Up to a lambda of 2^48 no plane that is written whole costs more, in error + lambda x bits,
- * than skipping all of it would, whatever the allowance. A short allowance saves bits and no time: every mode is tried all the
- * same.
+ * it short everywhere takes a greater lambda. Up to a lambda of 2^48 no plane that is written whole costs more, in error + lambda x
+ * bits, than skipping all of it would, whatever the allowance. A short allowance saves bits and no time: every mode is tried all
+ * the same.
  *
  * Room in `out` is no part of fitting. The mode chosen goes in, or the call ends with 22, though SKIP would have gone in. 22 cannot
  * come where the allowance fits behind the start bit (allowance <= 8 * out_length - start), nor where the rooms of the three planes
