@@ -105,7 +105,7 @@ module _ (s : Shared) (p : PlaneIn) (ps : List PlaneIn) (bytes : ℕ) (h : Hande
   handed-on =
       record {
         long = appends-only s p (macroblocks ps) h has-whole has-inside .long ∙ i .long;
-        inside = rw (i .long) at (ends-inside s p (macroblocks ps) h has-whole has-inside);
+        inside = omega (arith, ends-inside s p (macroblocks ps) h has-whole has-inside, i .long);
         enough = omega (arith, spent-most);
       }
 

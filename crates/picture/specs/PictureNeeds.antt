@@ -39,6 +39,10 @@ pub record RefusalsTold (a b c d : ℕ) (r : PictureRefusals) : Type 0 where
   pub third : r .third ≡ behindOthers (orElse a b) c
   pub picture : r .picture ≡ firstOf (a ∷ b ∷ c ∷ d ∷ [])
 
+-- the answer for a plane of a refused picture: a number or 0, and nothing done
+abbrev pub nothingDone : ℕ → WriteEnd
+nothingDone n = record { refused = n; done = 0; next = 0; bits = 0; error = 0 }
+
 -- a size that passes 1
 pub record SmallSides (c : Svq1PlaneCanvas) : Type 0 where
   pub width : c .width ≤ largestSide

@@ -122,7 +122,8 @@ module _ (p q r : PlaneLengths) (x y z book codebook : List ℕ) (bytes start : 
         }
 
 -- ---- 31
-abbrev mostBlocks : ℕ
+-- the macroblocks of the largest plane
+abbrev pub mostBlocks : ℕ
 mostBlocks = blocksAlong largestSide * blocksAlong largestSide
 
 pub few-blocks : (c : Svq1PlaneCanvas) → SmallSides c → canvasBlocks c ≤ mostBlocks

@@ -8,12 +8,8 @@ use Rattle.plane_enc.specs.declared.svq1_enc_inter.WriteEnd.{WriteEnd}
 use Rattle.picture.specs.declared.inner.PictureRefusals.{PictureRefusals}
 use Rattle.picture.specs.Picture.{Shared, PlaneIn}
 use Rattle.picture.specs.Calls.{PictureWritten}
-use Rattle.picture.specs.PictureNeeds.{pictureEndOf}
+use Rattle.picture.specs.PictureNeeds.{pictureEndOf, nothingDone}
 use Rattle.picture.specs.RefusalsLaws.{ThreeTold, call-refused}
-
--- nothing of a plane is done
-abbrev pub nothingDone : ℕ → WriteEnd
-nothingDone n = record { refused = n; done = 0; next = 0; bits = 0; error = 0 }
 
 pub picture-refused : (s : Shared) (a b c : PlaneIn) (allowance : ℕ) (out : List ℕ) (start : ℕ) {r : PictureRefusals} {x y z : WriteEnd}
     → ThreeTold s a b c allowance (length out) start r → (r .picture ≡ 0 → ⊥) → x ≡ nothingDone (r .first) → y ≡ nothingDone (r .second) → z ≡ nothingDone (r .third)

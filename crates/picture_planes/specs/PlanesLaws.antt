@@ -17,14 +17,14 @@ use Rattle.plane_enc.specs.WriterNeeds.{writeEndOf}
 use Rattle.picture.specs.Picture.{Shared, Results, PlaneIn, planeGiven, canvasBlocks, macroblocks, Handed, handedBy}
 use Rattle.picture.specs.Refusals.{planeRefusal, planeLengths, pictureRefusal}
 use Rattle.picture.specs.PictureNeeds.{SmallSides, Intact, NextReady, PlaneThrough, PictureThrough}
-use Rattle.picture.specs.RefusalsLaws.{checks-pass, planes-pass, few-blocks}
+use Rattle.picture.specs.RefusalsLaws.{checks-pass, planes-pass, mostBlocks, few-blocks}
 use Rattle.picture.specs.PictureLaws.{done-most, spent-most, handed-on, next-ready, three-through}
 
 -- ---- planes that pass
 pub small-sides : (s : Shared) (p : PlaneIn) (bytes start : ℕ) → planeRefusal s bytes start p ≡ 0 → SmallSides (p .canvas)
 small-sides s p bytes start e = checks-pass (planeLengths p) (p .reference) (s .book) (s .codebook) bytes start e .0
 
-done-few : (s : Shared) (p : PlaneIn) (behind : ℕ) (h : Handed) {r : WriteEnd} {out' : List ℕ} {x : Results} → SmallSides (p .canvas) → PlaneThrough s p behind h r out' x → r .done ≤ 4096
+done-few : (s : Shared) (p : PlaneIn) (behind : ℕ) (h : Handed) {r : WriteEnd} {out' : List ℕ} {x : Results} → SmallSides (p .canvas) → PlaneThrough s p behind h r out' x → r .done ≤ mostBlocks
 done-few s p behind h small t = omega (arith, few-blocks (p .canvas) small, ap (λ (e : End Writing). e .done) (t .ended), done-most s p behind h)
 
 module _ (s : Shared) (a b c : PlaneIn) (out : List ℕ) (start allowance : ℕ) (e : pictureRefusal s (a ∷ b ∷ c ∷ []) allowance (length out) start ≡ 0) where
@@ -61,10 +61,10 @@ module _ (s : Shared) (a b c : PlaneIn) (out : List ℕ) (start allowance : ℕ)
     unfolding macroblocks
     behind-first = omega (arith, l, n)
 
-    few-behind : macroblocks (b ∷ c ∷ []) ≤ 8192
+    few-behind : macroblocks (b ∷ c ∷ []) ≤ 2 * mostBlocks
     few-behind = omega (arith, behind-first, l, n, few-blocks (b .canvas) small1, few-blocks (c .canvas) small2)
 
-    few-last : macroblocks (c ∷ []) ≤ 4096
+    few-last : macroblocks (c ∷ []) ≤ mostBlocks
     few-last = omega (arith, behind-second, l, few-blocks (c .canvas) small2)
 
     pub ready-first : NextReady s a (next + last) allowance bytes start
@@ -107,7 +107,7 @@ module _ (s : Shared) (a b c : PlaneIn) (out : List ℕ) (start allowance : ℕ)
           ready-third q = rw q (next-ready s c [] bytes third intact2 start (planes-pass s (a ∷ b ∷ c ∷ []) allowance bytes start e .0 .1 .1 .0) (omega arith))
 
           module _ {r2 : WriteEnd} {out2 : List ℕ} {x2 : Results} (t2 : PlaneThrough s c 0 third r2 out2 x2) where
-            pub few-done : (r1 .done + r2 .done ≤ 8192) × (r0 .done + (r1 .done + r2 .done) ≤ 12288)
+            pub few-done : (r1 .done + r2 .done ≤ 2 * mostBlocks) × (r0 .done + (r1 .done + r2 .done) ≤ 3 * mostBlocks)
             few-done =
                 let d0 = done-few s a (next + last) first small0 t0 in
                 let d1 = done-few s b last second small1 t1 in
