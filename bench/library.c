@@ -12,10 +12,13 @@
  *     library picture-made SCENE SIZE
  *                                  one picture made and written by either, or only made, for counting instructions
  *     library noise [COUNTS]       the writer on noise; COUNTS as above
- *     library noises               the words for SIZE and RADIUS, one case a line
- *     library noise-plane SIZE RADIUS
- *     library noise-made SIZE RADIUS
- *                                  one luma plane of noise made and written, or only made, for counting instructions
+ *     library luma [COUNTS]        one luma plane of the turning scene, and one of noise; COUNTS as above
+ *     library lumas                the words for WHAT, SIZE and RADIUS, one case a line; WHAT may be still, too
+ *     library luma-plane WHAT SIZE RADIUS
+ *     library luma-made WHAT SIZE RADIUS
+ *                                  one luma plane made and written, or only made, for counting instructions
+ *     library luma-time WHAT SIZE RADIUS N
+ *                                  the milliseconds that writing it takes, the mean of N times
  *     library raw SCENE SIZE N     N pictures as planar samples (4:1:0) on standard output
  */
 #include <inttypes.h>
@@ -25,25 +28,11 @@
 #include <string.h>
 #include <time.h>
 
-#include "plane.h"
-#include "scene.h"
+#include "shared.h"
 
-enum { PLANES = 3, LAMBDA = 32, RADIUS = 8, GRAY = 128 };
+enum { PLANES = 3, RADIUS = 8, GRAY = 128 };
 
-static const struct { size_t width, height; } SIZES[] = {{176, 144}, {352, 288}};
-static const struct { const char *name; enum scene_eye eye; } SCENES[] = {{"still", SCENE_STILL}, {"turning", SCENE_TURNING}};
-static const uint8_t NOISE_RADII[] = {8, 32};
 static const uint32_t MARGINS[] = {0, 64, 1024};
-
-#define COUNT(list) (sizeof(list) / sizeof *(list))
-
-static uint8_t book[CABUNLIS_BOOK_BYTES], codebook[CABUNLIS_CODEBOOK_BYTES];
-
-static void fail(const char *what)
-{
-    fprintf(stderr, "library: %s\n", what);
-    exit(1);
-}
 
 static double processor_seconds(void)
 {
@@ -60,20 +49,6 @@ static struct plane plane_of_picture(size_t width, size_t height, int plane)
     struct plane p = plane_of(width / part, height / part);
     memset(p.reference, GRAY, p.stride * p.rows);
     return p;
-}
-
-static struct cabunlis_answer written_at(struct plane *p, uint8_t radius, uint32_t margin)
-{
-    struct cabunlis_settings settings = {LAMBDA, radius, 1, margin};
-    struct cabunlis_answer a = plane_write(p, book, codebook, &settings, 0);
-    if (a.refusal || a.done != p->macroblocks)
-        fail("a plane was not written");
-    return a;
-}
-
-static struct cabunlis_answer written(struct plane *p, uint8_t radius)
-{
-    return written_at(p, radius, 0);
 }
 
 /* The reconstruction becomes the reference. */
@@ -108,13 +83,13 @@ static void growth_row(size_t side, uint8_t radius)
 static void growth(void)
 {
     static const size_t SIDES[] = {64, 128, 256, 512, 1024};
-    static const uint8_t RADII[] = {0, 4, 8, 16, 32, 64, 128, 255};
+    static const uint8_t GROWING[] = {0, 4, 8, 16, 32, 64, 128, 255};
     printf("the turning scene's luma plane, lambda %d, four vectors: microseconds of processor time a macroblock\n\n", LAMBDA);
     printf("| size | macroblocks | radius | µs a macroblock |\n|---|---|---|---|\n");
     for (size_t k = 0; k < COUNT(SIDES); k++)
         growth_row(SIDES[k], RADIUS);
-    for (size_t k = 0; k < COUNT(RADII); k++)
-        growth_row(256, RADII[k]);
+    for (size_t k = 0; k < COUNT(GROWING); k++)
+        growth_row(256, GROWING[k]);
 }
 
 /* ---- reading */
@@ -386,27 +361,10 @@ static void picture_cases(void)
 
 /* ---- noise */
 
-/* SplitMix64. */
-static uint8_t noise_next(uint64_t *state)
+/* The instructions of a luma plane in a file with a line for each case: what it shows, size, radius, count; 0 where there is none. */
+static double counted(const char *name, const char *what, struct size size, int radius)
 {
-    uint64_t z = *state += UINT64_C(0x9e3779b97f4a7c15);
-    z = (z ^ (z >> 30)) * UINT64_C(0xbf58476d1ce4e5b9);
-    z = (z ^ (z >> 27)) * UINT64_C(0x94d049bb133111eb);
-    return (uint8_t)(z >> 56);
-}
-
-/* Source and reference have nothing in common, so every macroblock is coded anew. */
-static void make_noise(struct plane *p, uint64_t seed)
-{
-    for (size_t k = 0; k < p->width * p->height; k++)
-        p->source[k] = noise_next(&seed);
-    for (size_t k = 0; k < p->stride * p->rows; k++)
-        p->reference[k] = noise_next(&seed);
-}
-
-/* The instructions of a case in a file with a line for each: size, radius, count; 0 where there is none. */
-static double counted(const char *name, size_t width, size_t height, int radius)
-{
+    char word[16];
     size_t w, h;
     int r;
     double n, found = 0;
@@ -415,8 +373,8 @@ static double counted(const char *name, size_t width, size_t height, int radius)
         perror(name);
         exit(1);
     }
-    while (fscanf(f, "%zux%zu %d %lf", &w, &h, &r, &n) == 4)
-        if (w == width && h == height && r == radius)
+    while (fscanf(f, "%15s %zux%zu %d %lf", word, &w, &h, &r, &n) == 5)
+        if (strcmp(word, what) == 0 && w == size.width && h == size.height && r == radius)
             found = n;
     fclose(f);
     return found;
@@ -449,7 +407,7 @@ static void noise_row(size_t size, uint8_t radius, const char *counts)
         modes[CABUNLIS_SKIP], modes[CABUNLIS_INTER], modes[CABUNLIS_INTER_4MV], modes[CABUNLIS_INTRA],
         1e6 * all / (double)macroblocks, 1e3 * all / PICTURES, 1e3 * longest, PICTURES / all);
     if (counts)
-        printf(" %.1f |", counted(counts, width, height, radius) / 1e6);
+        printf(" %.1f |", counted(counts, "noise", SIZES[size], radius) / 1e6);
     printf("\n");
     fflush(stdout);
 }
@@ -461,16 +419,56 @@ static void noise(const char *counts)
         counts ? " million instructions a luma plane |" : "");
     printf("|---|---|---|---|---|---|---|---|%s\n", counts ? "---|" : "");
     for (size_t size = 0; size < COUNT(SIZES); size++)
-        for (size_t k = 0; k < COUNT(NOISE_RADII); k++)
-            noise_row(size, NOISE_RADII[k], counts);
+        for (size_t k = 0; k < COUNT(RADII); k++)
+            noise_row(size, RADII[k], counts);
 }
 
-static void noises(void)
+/* ---- one luma plane */
+
+/* Milliseconds of processor time, the mean of so many writings. */
+static double luma_time(const char *what, struct size size, uint8_t radius, unsigned long turns)
 {
-    for (size_t size = 0; size < COUNT(SIZES); size++)
-        for (size_t k = 0; k < COUNT(NOISE_RADII); k++)
-            printf("%zux%zu %d\n", SIZES[size].width, SIZES[size].height, NOISE_RADII[k]);
+    struct plane p = luma_of(what, size);
+    double begun = processor_seconds();
+    for (unsigned long k = 0; k < turns; k++)
+        written(&p, radius);
+    double seconds = processor_seconds() - begun;
+    plane_free(&p);
+    return 1e3 * seconds / (double)turns;
 }
+
+static void luma_row(const char *what, struct size size, uint8_t radius, const char *counts)
+{
+    enum { TURNS = 10 };
+    struct plane p = luma_of(what, size);
+    printf("| %s | %zux%zu | %d | %" PRIu64 " | %.2f |", what, size.width, size.height, radius, written(&p, radius).bits, luma_time(what, size, radius, TURNS));
+    if (counts)
+        printf(" %.1f |", counted(counts, what, size, radius) / 1e6);
+    printf("\n");
+    fflush(stdout);
+    plane_free(&p);
+}
+
+static void lumas(const char *counts)
+{
+    printf("one luma plane, the turning scene's second picture against the first as drawn, and noise: lambda %d, four vectors, processor time of the writer\n\n", LAMBDA);
+    printf("| scene | luma | radius | bits | ms a plane |%s\n", counts ? " million instructions |" : "");
+    printf("|---|---|---|---|---|%s\n", counts ? "---|" : "");
+    for (size_t what = 0; what < COUNT(LUMAS); what++)
+        for (size_t size = 0; size < COUNT(SIZES); size++)
+            for (size_t k = 0; k < COUNT(RADII); k++)
+                luma_row(LUMAS[what], SIZES[size], RADII[k], counts);
+}
+
+static void luma_cases(void)
+{
+    for (size_t what = 0; what < COUNT(LUMAS); what++)
+        for (size_t size = 0; size < COUNT(SIZES); size++)
+            for (size_t k = 0; k < COUNT(RADII); k++)
+                printf("%s %zux%zu %d\n", LUMAS[what], SIZES[size].width, SIZES[size].height, RADII[k]);
+}
+
+/* ---- one of a kind, by its name */
 
 static size_t size_named(const char *name)
 {
@@ -484,25 +482,13 @@ static size_t size_named(const char *name)
     return 0;
 }
 
-static size_t scene_named(const char *name)
-{
-    for (size_t k = 0; k < COUNT(SCENES); k++)
-        if (strcmp(name, SCENES[k].name) == 0)
-            return k;
-    fail("there is no such scene");
-    return 0;
-}
-
 /* The second picture of a scene; its reference is the first as drawn, so that only one is written. */
 static void one_picture(const char *scene, const char *size, struct outcome (*write)(struct picture *))
 {
     size_t s = scene_named(scene);
     struct picture p = picture_of(size_named(size));
-    picture_draw(&p, s, 0);
     for (int k = 0; k < PLANES; k++)
-        for (size_t y = 0; y < p.planes[k].height; y++)
-            memcpy(p.planes[k].reference + y * p.planes[k].stride, p.planes[k].source + y * p.planes[k].width, p.planes[k].width);
-    picture_draw(&p, s, 1);
+        draw_second(&p.planes[k], (enum scene_plane)k, SCENES[s].eye);
     printf("%" PRIu64 "\n", write ? write(&p).bits : 0);
     picture_free(&p);
 }
@@ -512,13 +498,21 @@ static struct outcome picture_unlimited(struct picture *p)
     return picture_written(p, UINT64_MAX);
 }
 
-static void noise_plane(const char *size, const char *radius, int write)
+static uint8_t radius_named(const char *name)
 {
-    size_t k = size_named(size);
-    struct plane p = plane_of(SIZES[k].width, SIZES[k].height);
-    make_noise(&p, 0);
-    printf("%" PRIu64 "\n", write ? written(&p, (uint8_t)strtoul(radius, NULL, 10)).bits : 0);
+    return (uint8_t)strtoul(name, NULL, 10);
+}
+
+static void one_luma(const char *what, const char *size, const char *radius, int write)
+{
+    struct plane p = luma_of(what, SIZES[size_named(size)]);
+    printf("%" PRIu64 "\n", write ? written(&p, radius_named(radius)).bits : 0);
     plane_free(&p);
+}
+
+static void one_luma_time(const char *what, const char *size, const char *radius, const char *turns)
+{
+    printf("%.3f\n", luma_time(what, SIZES[size_named(size)], radius_named(radius), strtoul(turns, NULL, 10)));
 }
 
 /* ---- pictures for another encoder */
@@ -540,8 +534,7 @@ static void raw(const char *scene, const char *size, const char *count)
 int main(int argc, char **argv)
 {
     const char *what = argc > 1 ? argv[1] : "";
-    cabunlis_house_book(book, sizeof book);
-    cabunlis_house_codebook(codebook, sizeof codebook);
+    fill_tables();
     if (argc == 2 && strcmp(what, "growth") == 0)
         growth();
     else if (argc == 2 && strcmp(what, "reading") == 0)
@@ -560,15 +553,19 @@ int main(int argc, char **argv)
         one_picture(argv[2], argv[3], NULL);
     else if (argc <= 3 && strcmp(what, "noise") == 0)
         noise(argc == 3 ? argv[2] : NULL);
-    else if (argc == 2 && strcmp(what, "noises") == 0)
-        noises();
-    else if (argc == 4 && strcmp(what, "noise-plane") == 0)
-        noise_plane(argv[2], argv[3], 1);
-    else if (argc == 4 && strcmp(what, "noise-made") == 0)
-        noise_plane(argv[2], argv[3], 0);
+    else if ((argc == 2 || argc == 3) && strcmp(what, "luma") == 0)
+        lumas(argc == 3 ? argv[2] : NULL);
+    else if (argc == 2 && strcmp(what, "lumas") == 0)
+        luma_cases();
+    else if (argc == 5 && strcmp(what, "luma-plane") == 0)
+        one_luma(argv[2], argv[3], argv[4], 1);
+    else if (argc == 5 && strcmp(what, "luma-made") == 0)
+        one_luma(argv[2], argv[3], argv[4], 0);
+    else if (argc == 6 && strcmp(what, "luma-time") == 0)
+        one_luma_time(argv[2], argv[3], argv[4], argv[5]);
     else if (argc == 5 && strcmp(what, "raw") == 0)
         raw(argv[2], argv[3], argv[4]);
     else
-        fail("usage: library growth | reading | margin | picture [COUNTS] | pictures | picture-planes SCENE SIZE | picture-call SCENE SIZE | picture-made SCENE SIZE | noise [COUNTS] | noises | noise-plane SIZE RADIUS | noise-made SIZE RADIUS | raw SCENE SIZE N");
+        fail("usage: library growth | reading | margin | picture [COUNTS] | pictures | picture-planes SCENE SIZE | picture-call SCENE SIZE | picture-made SCENE SIZE | noise [COUNTS] | luma [COUNTS] | lumas | luma-plane WHAT SIZE RADIUS | luma-made WHAT SIZE RADIUS | luma-time WHAT SIZE RADIUS N | raw SCENE SIZE N");
     return 0;
 }

@@ -126,3 +126,34 @@ pub(crate) fn call_mv_component_bits(difference: i32) -> u32 {
 pub(crate) fn call_skip_bits() -> u32 {
     mb_mode_bits(T03_POS_SKIP)
 }
+
+/// Whether a vector is codable, private to this module.
+pub(crate) fn call_mv_is_codable(vector: Svq1Mv, predictor: Svq1Mv) -> bool {
+    mv_is_codable(vector, predictor)
+}
+
+/// The macroblock at 8×8 row and column moved by a vector, private to this
+/// module.
+pub(crate) fn call_mc_macroblock(
+    reference: &Svq1ReferencePlane<'_>,
+    row: usize,
+    column: usize,
+    vector: Svq1Mv,
+) -> [u8; 256] {
+    mc_macroblock(reference, row, column, vector)
+}
+
+/// The 8×8 block at a sample moved by a vector, private to this module.
+pub(crate) fn call_mc_subblock(
+    reference: &Svq1ReferencePlane<'_>,
+    left: usize,
+    top: usize,
+    vector: Svq1Mv,
+) -> Vec<u8> {
+    mc_subblock(reference, left, top, vector)
+}
+
+/// The sum of absolute differences, private to this module.
+pub(crate) fn call_sad(target: &[u8], candidate: &[u8]) -> u64 {
+    sad(target, candidate)
+}

@@ -11,6 +11,7 @@ mod compare_picture;
 mod compare_plan;
 mod compare_plane;
 mod compare_search;
+mod compare_sum;
 mod entries;
 mod leaf_input;
 mod none;
@@ -25,6 +26,7 @@ mod plane_wanted;
 mod refusals;
 mod search_input;
 mod seed_tables;
+mod sum_input;
 mod tally;
 
 use std::process::ExitCode;
@@ -33,6 +35,7 @@ const USAGE: &str = "usage:
   compare leaf SEED N      N random leaf searches under the seed's book and codebook
   compare plan SEED N      N random plans of blocks, likewise
   compare search SEED N    N random motion searches
+  compare sum SEED N       N random vectors summed against a best found so far
   compare plane SEED N     N random planes under the seed's book and codebook
   compare plane SEED N LARGEST
                            the same, no side longer than LARGEST
@@ -62,6 +65,7 @@ fn dispatch(words: &[&str]) -> Result<tally::Tally, String> {
         ["leaf", seed, count] => compare_leaf::compare(number(seed)?, number(count)?),
         ["plan", seed, count] => compare_plan::compare(number(seed)?, number(count)?),
         ["search", seed, count] => compare_search::compare(number(seed)?, number(count)?),
+        ["sum", seed, count] => compare_sum::compare(number(seed)?, number(count)?),
         ["plane", seed, count] => compare_plane::compare(number(seed)?, number(count)?, None),
         ["plane", seed, count, side] => {
             compare_plane::compare(number(seed)?, number(count)?, Some(number(side)?))

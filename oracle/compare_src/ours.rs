@@ -98,6 +98,26 @@ impl Vector {
     }
 }
 
+/// A vector's sum of absolute differences and the rows taken.
+#[repr(C)]
+#[derive(Clone, Copy, Debug, PartialEq, Eq)]
+pub struct Sum {
+    pub sum: u64,
+    pub rows: usize,
+    pub refused: u8,
+}
+
+impl Sum {
+    /// A refusal's number and zeros.
+    pub fn refused(refused: u8) -> Self {
+        Self {
+            sum: 0,
+            rows: 0,
+            refused,
+        }
+    }
+}
+
 unsafe extern "C" {
     fn parts_search_leaf(
         book: *const u8,
@@ -148,6 +168,25 @@ unsafe extern "C" {
         py: i32,
         radius: u8,
     ) -> Vector;
+
+    fn parts_sum_motion_vector(
+        reference: *const u8,
+        reference_length: usize,
+        width: usize,
+        height: usize,
+        stride: usize,
+        rows: usize,
+        target: *const u8,
+        target_length: usize,
+        side: usize,
+        x: usize,
+        y: usize,
+        px: i32,
+        py: i32,
+        vx: i32,
+        vy: i32,
+        best: u64,
+    ) -> Sum;
 }
 
 /// What a leaf search is asked, right or wrong.
@@ -256,6 +295,43 @@ impl VectorCall {
                 self.px,
                 self.py,
                 self.radius,
+            )
+        }
+    }
+}
+
+/// What the sum of one vector is asked, right or wrong; the block's radius
+/// is no part of it.
+#[derive(Clone)]
+pub struct SumCall {
+    pub block: VectorCall,
+    pub vx: i32,
+    pub vy: i32,
+    pub best: u64,
+}
+
+impl SumCall {
+    pub fn ask(&self) -> Sum {
+        let block = &self.block;
+        // Safety: as above.
+        unsafe {
+            parts_sum_motion_vector(
+                block.reference.as_ptr(),
+                block.reference.len(),
+                block.width,
+                block.height,
+                block.stride,
+                block.rows,
+                block.target.as_ptr(),
+                block.target.len(),
+                block.side,
+                block.x,
+                block.y,
+                block.px,
+                block.py,
+                self.vx,
+                self.vy,
+                self.best,
             )
         }
     }

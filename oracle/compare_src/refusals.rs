@@ -3,7 +3,7 @@
 //! refusal depends on the margin, so each call is asked at any.
 
 use crate::book::{Book, Table, house_codebook};
-use crate::ours::{Leaf, LeafCall, Plan, PlanCall, Vector, VectorCall};
+use crate::ours::{Leaf, LeafCall, Plan, PlanCall, Sum, SumCall, Vector, VectorCall};
 use crate::picture_refusals;
 use crate::plane_refusals;
 use crate::random::Random;
@@ -48,9 +48,55 @@ pub fn refusals() -> Result<Tally, String> {
         }
         tally.one(format!("search call answered {want}"));
     }
+    sum_refusals(&mut random, &mut tally)?;
     plane_refusals::refusals(&mut random, &mut tally)?;
     picture_refusals::refusals(&mut random, &mut tally)?;
     Ok(tally)
+}
+
+/// The blocks of the search once with a vector that may be taken wherever the
+/// search has an answer, and once with one that never may; then vectors of one
+/// block. The best is any.
+fn sum_refusals(random: &mut Random, tally: &mut Tally) -> Result<(), String> {
+    for (name, want, change) in SEARCHES {
+        for (vx, vy, otherwise) in [(-1, 0, 0), (i32::MAX, i32::MIN, 23)] {
+            let mut block = good_search();
+            change(&mut block);
+            let want = if *want == 0 { otherwise } else { *want };
+            check_sum(random, tally, name, want, block, (vx, vy))?;
+        }
+    }
+    for (name, want, vector, change) in SUMS {
+        let mut block = good_search();
+        change(&mut block);
+        check_sum(random, tally, name, *want, block, *vector)?;
+    }
+    Ok(())
+}
+
+fn check_sum(
+    random: &mut Random,
+    tally: &mut Tally,
+    name: &str,
+    want: u8,
+    block: VectorCall,
+    (vx, vy): (i32, i32),
+) -> Result<(), String> {
+    let best = random.next() >> random.below(64);
+    let call = SumCall {
+        block,
+        vx,
+        vy,
+        best,
+    };
+    let got = call.ask();
+    if want == 0 && got.refused != 0 || want != 0 && got != Sum::refused(want) {
+        return Err(format!(
+            "sum, {name}, vector ({vx},{vy}), best {best}: wanted {want}, got {got:?}"
+        ));
+    }
+    tally.one(format!("sum call answered {want}"));
+    Ok(())
 }
 
 // ---- leaf, and plan: both refuse the same blocks ----
@@ -153,7 +199,7 @@ const LEAVES: &[LeafChange] = &[
     }),
 ];
 
-// ---- search ----
+// ---- search, and sum: both refuse the same blocks ----
 
 fn good_search() -> VectorCall {
     VectorCall {
@@ -261,4 +307,35 @@ const SEARCHES: &[SearchChange] = &[
         call.x = 0;
         call.px = -32;
     }),
+];
+
+type SumChange = (&'static str, u8, (i32, i32), fn(&mut VectorCall));
+
+/// The block stands at 8,0, with 8 samples to its left, 4 to its right and 8
+/// below it.
+const SUMS: &[SumChange] = &[
+    ("zero", 0, (0, 0), |_| {}),
+    ("far on both axes", 0, (16, 16), |call| call.width = 32),
+    ("left edge", 0, (-16, 0), |_| {}),
+    ("past the left edge", 23, (-17, 0), |_| {}),
+    ("right edge", 0, (8, 0), |_| {}),
+    ("past the right edge", 23, (9, 0), |_| {}),
+    ("past the upper edge", 23, (0, -1), |_| {}),
+    ("lower edge", 0, (0, 16), |_| {}),
+    ("past the lower edge", 23, (0, 17), |_| {}),
+    ("a component of 32", 23, (0, 32), |_| {}),
+    ("a component of -33", 23, (-33, 0), |_| {}),
+    ("the lowest components", 23, (i32::MIN, i32::MIN), |_| {}),
+    ("the largest components", 23, (i32::MAX, i32::MAX), |_| {}),
+    ("31 from the predictor", 0, (0, 0), |call| call.px = -31),
+    ("32 from the predictor", 23, (0, 0), |call| call.px = -32),
+    ("-32 from the predictor", 0, (-1, 0), |call| call.px = 31),
+    ("-33 from the predictor", 23, (-2, 0), |call| call.px = 31),
+    ("32 from the predictor down", 23, (0, 0), |call| {
+        call.py = -32
+    }),
+    ("1 before 23", 1, (32, 0), |call| call.height = 0),
+    ("3 before 23", 3, (0, -1), |call| call.stride = 16),
+    ("4 before 23", 4, (9, 0), |call| call.reference.clear()),
+    ("9 before 23", 9, (0, 0), |call| call.py = -33),
 ];

@@ -39,7 +39,7 @@ fn any_canvas(random: &mut Random) -> Canvas {
 }
 
 impl Canvas {
-    fn plane(&self) -> Svq1ReferencePlane<'_> {
+    pub fn plane(&self) -> Svq1ReferencePlane<'_> {
         Svq1ReferencePlane::new(&self.samples, self.stride, self.rows).expect("whole canvas")
     }
 
@@ -103,17 +103,21 @@ pub fn search_input(random: &mut Random) -> SearchInput {
 impl SearchInput {
     /// What the original answers.
     pub fn ask(&self) -> Svq1Mv {
-        let (left, top, side) = (self.left, self.top, self.side);
         search_motion_vector(
             &self.canvas.plane(),
             &self.target,
-            side,
-            left,
-            top,
+            self.side,
+            self.left,
+            self.top,
             self.predictor,
             self.radius,
-            MvVisibleWindow::for_block(left, top, side, self.width, self.height),
+            self.window(),
         )
+    }
+
+    /// The original's window for the block.
+    pub fn window(&self) -> MvVisibleWindow {
+        MvVisibleWindow::for_block(self.left, self.top, self.side, self.width, self.height)
     }
 }
 

@@ -5,4 +5,5 @@ pub mod Node
 pub mod NodeLaws
 pub mod Plan
 pub mod PlanLaws
+pub mod Sum
 pub mod Vector

@@ -2,4 +2,5 @@
 pub mod inner;
 pub mod leaf_part;
 pub mod plan_part;
+pub mod sum_part;
 pub mod vector_part;

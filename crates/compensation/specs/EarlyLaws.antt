@@ -1,82 +1,130 @@
--- Laws of a sum that ends once it reaches a limit: it is below the limit exactly if the whole sum is, and then it is the whole.
+-- Laws of a sum of rows against the best found so far: what it takes, and a turn of the loop that makes it.
 -- Assumes nothing.
 use Prim.Native.Nat.{ℕ, zero, suc, _+_, _-_, _<_, _≤_}
 use mathlib.Core.Path.{_≡_, refl, sym, ap, _∙_}
 use mathlib.Core.Bool.{Bool, true, false}
+use mathlib.Core.Option.{Option, none, some}
 use native.Mathlib.Omega.{arith}
 use native.Mathlib.Numerals.{add-one}
-use lib.Dec.{leb}
-use borrow.Author.Tests.{le-leb, lt-leb, leb-true}
+use native.Mathlib.Decide.{decLt}
+use lib.Dec.{leb, ltb}
+use borrow.Author.Tests.{le-leb, lt-leb, leb-true, ltb-false}
 use Rattle.bits.specs.Basics.{pick, sum}
-use Rattle.compensation.specs.declared.svq1_enc_inter.inner.Taken.{Taken}
-use Rattle.compensation.specs.RowForms.{early}
+use Rattle.compensation.specs.declared.svq1_enc_inter.inner.VectorSum.{VectorSum}
+use Rattle.compensation.specs.Error.{beaten, sumRows, RowsTaken}
+use Rattle.compensation.specs.RowForms.{noBest, bestOrNone}
 use Rattle.bits.specs.SumLaws.{sum-le}
 
-early-none : (f : ℕ → ℕ) (limit n i s : ℕ) → n ≡ 0 → early f limit n i s ≡ record { error = s; rows = i }
-unfolding early
-early-none f limit n i s e = rw e refl
+-- ---- beaten
+not-both : (t : Bool) → t ≡ true → t ≡ false → ⊥
+not-both t p q = let z : _≡_ {A = ℕ} 0 1 = cc in omega arith
 
-early-stop : (f : ℕ → ℕ) (limit n i s : ℕ) → 0 < n → limit ≤ s + f i → early f limit n i s ≡ record { error = s + f i; rows = i + 1 }
-unfolding early
-early-stop f limit zero i s h k = absurd (omega arith)
-early-stop f limit (suc n) i s h k = simp (le-leb _ _ k)
+-- what is beaten stays so
+beaten-more : (best : Option ℕ) (s t : ℕ) → s ≤ t → beaten best s ≡ true → beaten best t ≡ true
+beaten-more none s t h e = e
+beaten-more (some b) s t h e = let k : b ≤ s = leb-true b s e in le-leb b t (omega arith)
 
-early-go : (f : ℕ → ℕ) (limit n i s : ℕ) → 0 < n → s + f i < limit → early f limit n i s ≡ early f limit (n - 1) (i + 1) (s + f i)
-unfolding early
-early-go f limit zero i s h k = absurd (omega arith)
-early-go f limit (suc n) i s h k = let e : suc n - 1 ≡ n = omega arith in rw e (simp (lt-leb _ _ k))
-
-pub record Judged (whole limit e : ℕ) : Type 0 where
-  pub under : e < limit → e ≡ whole
-  pub over : limit ≤ e → limit ≤ whole
-
-judge : (f : ℕ → ℕ) (limit n i s : ℕ) → s ≡ sum f i → Judged (sum f (i + n)) limit (early f limit n i s .error)
-unfolding early sum
-judge f limit zero i s e = let z : i + 0 ≡ i = omega arith in rw z (record { under = λ h. e; over = λ h. omega arith })
-judge f limit (suc n) i s e = by (judge f limit n (i + 1) (s + f i) next) (leb limit (s + f i)) refl
+-- of a sum below `noBest` the plain comparison is the rule's test
+pub beaten-from : (b s : ℕ) → s < noBest → beaten (bestOrNone b) s ≡ leb b s
+beaten-from b s h = go (ltb b noBest) refl
   where
-    next : s + f i ≡ sum f (i + 1)
-    next = rw add-one (ap (λ (k : ℕ). k + f i) e)
+    go : (t : Bool) → ltb b noBest ≡ t → beaten (pick t (some b) none) s ≡ leb b s
+    go true e = refl
+    go false e = let k : noBest ≤ b = ltb-false b noBest e in sym (lt-leb b s (omega arith))
 
-    shift : i + suc n ≡ i + 1 + n
-    shift = omega arith
+module _ (f : ℕ → ℕ) (best : Option ℕ) where
+  -- ---- one row
+  rows-none : (n i s : ℕ) → n ≡ 0 → sumRows f best n i s ≡ record { sum = s; rows = i }
+  unfolding sumRows
+  rows-none n i s e = rw e refl
 
-    by : Judged (sum f (i + 1 + n)) limit (early f limit n (i + 1) (s + f i) .error) → (t : Bool) → leb limit (s + f i) ≡ t
-        → Judged (sum f (i + suc n)) limit (pick t (record { error = s + f i; rows = i + 1 }) (early f limit n (i + 1) (s + f i)) .error)
-    by r true q =
-        let k : limit ≤ s + f i = leb-true limit (s + f i) q in
-        rw shift (record { under = λ h. absurd (omega arith); over = λ h. let l = sum-le f (i + 1) n in omega (arith, next) })
-    by r false q = rw shift r
+  rows-stop : (n i s : ℕ) → 0 < n → beaten best (s + f i) ≡ true → sumRows f best n i s ≡ record { sum = s + f i; rows = i + 1 }
+  unfolding sumRows
+  rows-stop zero i s h k = absurd (omega arith)
+  rows-stop (suc n) i s h k = simp k
 
-pub early-judged : (f : ℕ → ℕ) (limit n : ℕ) → Judged (sum f n) limit (early f limit n 0 0 .error)
-unfolding sum
-early-judged f limit n = let z : 0 + n ≡ n = omega arith in rw z at (judge f limit n 0 0 refl)
+  rows-go : (n i s : ℕ) → 0 < n → beaten best (s + f i) ≡ false → sumRows f best n i s ≡ sumRows f best (n - 1) (i + 1) (s + f i)
+  unfolding sumRows
+  rows-go zero i s h k = absurd (omega arith)
+  rows-go (suc n) i s h k = let e : suc n - 1 ≡ n = omega arith in rw e (simp k)
 
-pub early-same : (f g : ℕ → ℕ) (limit n i s : ℕ) → ((k : ℕ) → k < i + n → f k ≡ g k) → early f limit n i s ≡ early g limit n i s
-unfolding early
-early-same f g limit zero i s h = refl
-early-same f g limit (suc n) i s h =
+  -- ---- what is taken
+  abbrev NotBefore : ℕ → Type 0
+  NotBefore i = (k : ℕ) → 1 ≤ k → k < i + 1 → beaten best (sum f k) ≡ false
+
+  taken-from : (n i s : ℕ) → s ≡ sum f i → NotBefore i → RowsTaken f best (i + n) (sumRows f best n i s)
+  unfolding sumRows sum
+  taken-from zero i s e before =
+      let z : i + 0 ≡ i = omega arith in
+      rw z
+      (record {
+        sum-of-rows = e;
+        at-least-one = λ h. h;
+        at-most-all = omega arith;
+        not-before = λ k a b. before k a (omega arith);
+        beaten-there = λ h. absurd (omega arith);
+        as-whole = ap (beaten best) e;
+        whole = λ q. rw e refl;
+      })
+  taken-from (suc n) i s e before = go (beaten best (s + f i)) refl (taken-from n (i + 1) (s + f i) next)
+    where
+      next : s + f i ≡ sum f (i + 1)
+      next = rw add-one (ap (λ (k : ℕ). k + f i) e)
+
+      shift : i + suc n ≡ i + 1 + n
+      shift = omega arith
+
+      go : (t : Bool) → beaten best (s + f i) ≡ t → (NotBefore (i + 1) → RowsTaken f best (i + 1 + n) (sumRows f best n (i + 1) (s + f i)))
+          → RowsTaken f best (i + suc n) (pick t (record { sum = s + f i; rows = i + 1 }) (sumRows f best n (i + 1) (s + f i)))
+      go true q r =
+          let l = sum-le f (i + 1) n in
+          let w : beaten best (sum f (i + 1 + n)) ≡ true = beaten-more best (s + f i) (sum f (i + 1 + n)) (omega (arith, next)) q in
+          rw shift
+          (record {
+            sum-of-rows = next;
+            at-least-one = λ h. omega arith;
+            at-most-all = omega arith;
+            not-before = before;
+            beaten-there = λ h. q;
+            as-whole = q ∙ sym w;
+            whole = λ h. absurd (not-both _ q h);
+          })
+      go false q r = rw shift (r (λ k a b. by k a b (decLt k (i + 1))))
+        where
+          by : (k : ℕ) → 1 ≤ k → k < i + 1 + 1 → Dec (k < i + 1) → beaten best (sum f k) ≡ false
+          by k a b (yes l) = before k a l
+          by k a b (no l) = let h : k ≡ i + 1 = omega arith in rw (h, sym next) q
+
+  pub rows-taken : (n : ℕ) → RowsTaken f best n (sumRows f best n 0 0)
+  unfolding sum
+  rows-taken n = let z : 0 + n ≡ n = omega arith in rw z at (taken-from n 0 0 refl (λ k a b. absurd (omega arith)))
+
+-- over rows that are the same
+pub rows-same : (f g : ℕ → ℕ) (best : Option ℕ) (n i s : ℕ) → ((k : ℕ) → k < i + n → f k ≡ g k) → sumRows f best n i s ≡ sumRows g best n i s
+unfolding sumRows
+rows-same f g best zero i s h = refl
+rows-same f g best (suc n) i s h =
     let e : f i ≡ g i = h i (omega arith) in
     rw e
-    (ap (λ (r : Taken). pick (leb limit (s + g i)) (record { error = s + g i; rows = i + 1 }) r)
-    (early-same f g limit n (i + 1) (s + g i) (λ k q. h k (omega arith))))
+    (ap (λ (r : VectorSum). pick (beaten best (s + g i)) (record { sum = s + g i; rows = i + 1 }) r)
+    (rows-same f g best n (i + 1) (s + g i) (λ k q. h k (omega arith))))
 
 -- ---- a turn of the loop: what is left of the rows gives the whole answer w
-pub begin : (f : ℕ → ℕ) (limit n : ℕ) → early f limit (n - 0) 0 0 ≡ early f limit n 0 0
-begin f limit n = let e : n - 0 ≡ n = omega arith in rw e
+pub begin : (f : ℕ → ℕ) (best : Option ℕ) (n : ℕ) → sumRows f best (n - 0) 0 0 ≡ sumRows f best n 0 0
+begin f best n = let e : n - 0 ≡ n = omega arith in rw e
 
-pub turn : (f : ℕ → ℕ) (limit n i s v : ℕ) (w : Taken) → early f limit (n - i) i s ≡ w → v ≡ f i → i < n → s + v < limit
-    → early f limit (n - (i + 1)) (i + 1) (s + v) ≡ w
-turn f limit n i s v w p q h k =
-    let e : n - (i + 1) ≡ n - i - 1 = omega arith in
-    let l : s + f i < limit = omega arith in
-    rw (e, q) (sym (early-go f limit (n - i) i s (omega arith) l) ∙ p)
+module _ (f : ℕ → ℕ) (b n i s : ℕ) (w : VectorSum) (left : sumRows f (bestOrNone b) (n - i) i s ≡ w) where
+  module _ (v : ℕ) (row : v ≡ f i) (more : i < n) (small : s + v < noBest) where
+    here : beaten (bestOrNone b) (s + f i) ≡ leb b (s + v)
+    here = rw (sym row) (beaten-from b (s + v) small)
 
-pub stop : (f : ℕ → ℕ) (limit n i s v : ℕ) (w : Taken) → early f limit (n - i) i s ≡ w → v ≡ f i → i < n → limit ≤ s + v
-    → record { error = s + v; rows = i + 1 } ≡ w
-stop f limit n i s v w p q h k =
-    let l : limit ≤ s + f i = omega arith in
-    rw q (sym (early-stop f limit (n - i) i s (omega arith) l) ∙ p)
+    pub turn : s + v < b → sumRows f (bestOrNone b) (n - (i + 1)) (i + 1) (s + v) ≡ w
+    turn k =
+        let e : n - (i + 1) ≡ n - i - 1 = omega arith in
+        rw (e, row) (sym (rows-go f (bestOrNone b) (n - i) i s (omega arith) (here ∙ lt-leb b (s + v) k)) ∙ left)
 
-pub end : (f : ℕ → ℕ) (limit n i s : ℕ) (w : Taken) → early f limit (n - i) i s ≡ w → n ≤ i → record { error = s; rows = i } ≡ w
-end f limit n i s w p h = sym (early-none f limit (n - i) i s (omega arith)) ∙ p
+    pub stop : b ≤ s + v → record { sum = s + v; rows = i + 1 } ≡ w
+    stop k = rw row (sym (rows-stop f (bestOrNone b) (n - i) i s (omega arith) (here ∙ le-leb b (s + v) k)) ∙ left)
+
+  pub end : n ≤ i → record { sum = s; rows = i } ≡ w
+  end h = sym (rows-none f (bestOrNone b) (n - i) i s (omega arith)) ∙ left

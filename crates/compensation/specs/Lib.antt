@@ -9,4 +9,5 @@ pub mod ErrorLaws
 pub mod RowForms
 pub mod RowFormsLaws
 pub mod EarlyLaws
+pub mod GapLaws
 pub mod Error

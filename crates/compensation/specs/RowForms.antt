@@ -1,13 +1,15 @@
--- Rows of a block as the code reads them where every read lies in the canvas, and a sum that ends early (document 01, `svq1_enc_inter.rs`, over the definitions of Compensation). What they amount to is in `RowsLaws`.
-use Prim.Native.Nat.{ℕ, zero, suc, _+_, _*_, _%_, _≤_, _<_}
+-- Rows of a block as the code reads them where every read lies in the canvas, and their sum against the best found so far as the code holds it (document 01, `svq1_enc_inter.rs`, document 02, §6, over the definitions of Compensation and Error). What they amount to is in `RowFormsLaws` and `EarlyLaws`.
+use Prim.Native.Nat.{ℕ, _+_, _*_, _%_, _≤_, _<_}
 use mathlib.Core.Path.{_≡_}
 use mathlib.Core.List.{List}
-use lib.Dec.{eqb, leb}
+use mathlib.Core.Option.{Option, none, some}
+use lib.Dec.{eqb, ltb}
 use lib.ListN.{length, getD}
 use Rattle.bits.specs.Basics.{pick, gap, sum}
 use Rattle.canvas.specs.Canvas.{Canvas}
 use Rattle.compensation.specs.Compensation.{mean2, mean4}
-use Rattle.compensation.specs.declared.svq1_enc_inter.inner.Taken.{Taken}
+use Rattle.compensation.specs.Error.{sumRows}
+use Rattle.compensation.specs.declared.svq1_enc_inter.inner.VectorSum.{VectorSum}
 
 -- the sample at place p of the canvas's list, with no clamp; ox and oy, 0 or 1, say whether it lies between two columns and two rows
 unfoldable pub cell : Canvas → ℕ → ℕ → ℕ → ℕ
@@ -42,10 +44,12 @@ cells t c n ox oy ti p = sum (λ j. gap (getD t (ti + j) 0) (cell c ox oy (p + j
 unfoldable pub rowAt : List ℕ → Canvas → ℕ → ℕ → ℕ → ℕ → ℕ → ℕ → ℕ
 rowAt t c n ox oy x0 y0 i = cells t c n ox oy (n * i) ((y0 + i) * c .stride + x0)
 
--- n rows left from row i, s summed so far: it ends after the first row in which the sum reaches the limit, else after the last
-unfoldable pub early : (ℕ → ℕ) → ℕ → ℕ → ℕ → ℕ → Taken
-early f limit zero i s = record { error = s; rows = i }
-early f limit (suc n) i s = pick (leb limit (s + f i)) (record { error = s + f i; rows = i + 1 }) (early f limit n (i + 1) (s + f i))
+-- the best found so far as a number: no block's absolute error is as much as `noBest`, so that number and every larger one stand for none
+abbrev pub noBest : ℕ
+noBest = 65536
+
+abbrev pub bestOrNone : ℕ → Option ℕ
+bestOrNone b = pick (ltb b noBest) (some b) none
 
 -- the parts of a block that is read inside the canvas: its side 8 or 16, its corner at (x0, y0), between columns and rows as ox and oy say
 pub record ReadIn (t : List ℕ) (c : Canvas) (n ox oy x0 y0 : ℕ) : Type 0 where
@@ -57,7 +61,7 @@ pub record ReadIn (t : List ℕ) (c : Canvas) (n ox oy x0 y0 : ℕ) : Type 0 whe
   pub x-in : x0 + ox + n ≤ c .stride
   pub y-in : y0 + oy + n ≤ c .rows
 
--- what summing answers: the sum as far as it was taken, which is at most 255 a sample
-pub record Summed (t : List ℕ) (c : Canvas) (n ox oy x0 y0 limit : ℕ) (r : Taken) : Type 0 where
-  pub answer : r ≡ early (rowAt t c n ox oy x0 y0) limit n 0 0
-  pub most : r .error ≤ 255 * 256
+-- what summing answers, and that it is below the number for none
+pub record Summed (t : List ℕ) (c : Canvas) (n ox oy x0 y0 best : ℕ) (r : VectorSum) : Type 0 where
+  pub answer : r ≡ sumRows (rowAt t c n ox oy x0 y0) (bestOrNone best) n 0 0
+  pub small : r .sum < noBest

@@ -11,10 +11,9 @@ use lib.Dec.{eqb}
 use lib.IntN.{pos}
 use lib.ListN.{length, getD}
 use borrow.Author.Tests.{lt-ltb, eq-eqb, ne-eqb, eqb-false}
-use Rattle.compensation.specs.declared.svq1_enc_inter.inner.Taken.{Taken}
 use Rattle.canvas.specs.Canvas.{Canvas}
 use Rattle.compensation.specs.Compensation.{sampleAt, halfSample}
-use Rattle.compensation.specs.RowForms.{against, againstTwo, againstFour, cell, cells, ReadIn, Summed}
+use Rattle.compensation.specs.RowForms.{against, againstTwo, againstFour, cell, cells, ReadIn}
 use Rattle.bits.specs.FillLaws.{runOf, run-at}
 use Rattle.bits.specs.SumLaws.{sum-same}
 
@@ -142,17 +141,3 @@ row-in t c n ox oy x0 y0 i r h =
       target = rw (r .target-len) (target-fits n i h);
       canvas = rw (r .canvas-len) (row-fits x0 y0 i (c .stride) (c .rows) n ox oy (r .x-in) (r .y-in) h);
     }
-
--- a block at a full sample, with the side as a number
-module _ (t : List ℕ) (c : Canvas) (n m ox oy x0 y0 : ℕ) (same : n ≡ m) (full : ox + oy ≡ 0) where
-  no-ox : ox ≡ 0
-  no-ox = omega arith
-
-  no-oy : oy ≡ 0
-  no-oy = omega arith
-
-  pub read-full : ReadIn t c n ox oy x0 y0 → ReadIn t c m 0 0 x0 y0
-  read-full r = rw (same, no-ox, no-oy) at r
-
-  pub summed-full : (limit : ℕ) (r : Taken) → Summed t c m 0 0 x0 y0 limit r → Summed t c n ox oy x0 y0 limit r
-  summed-full limit r s = rw (same, no-ox, no-oy) s

@@ -1,7 +1,7 @@
 -- The search as the code holds it: vectors raised to unsigned numbers, a block inside its canvas, the best so far, and the clipped ranges (document 01, `svq1_enc_inter.rs`, over the definitions of Search). What they amount to is in `CandidateFormsLaws` and `ScanLaws`.
 use Prim.Native.Nat.{ℕ, _+_, _-_, _*_, _/_, _<_, _≤_, min}
 use mathlib.Core.Path.{_≡_}
-use mathlib.Core.Bool.{Bool, false, _&&_}
+use mathlib.Core.Bool.{Bool, true, false, _&&_}
 use mathlib.Core.List.{List}
 use lib.Dec.{leb, ltb}
 use lib.IntN.{ℤ, subℕ}
@@ -13,7 +13,7 @@ use Rattle.motion.specs.declared.svq1_enc_inter.inner.Candidate.{Candida
 use Rattle.motion.specs.declared.svq1_enc_inter.inner.Span.{Span}
 use Rattle.motion.specs.Search.{Search, Best, nothing, best, centre, aroundTo}
 use Rattle.canvas.specs.Canvas.{largestSide, padded16}
-use Rattle.compensation.specs.RowForms.{Sides}
+use Rattle.compensation.specs.RowForms.{Sides, noBest}
 
 -- a component is raised by 1024, so that no candidate falls below 0; raised numbers and places stay below the end
 abbrev pub lowered : ℕ → ℤ
@@ -68,9 +68,14 @@ windowUp side place size u = leb 512 (place + u / 2) && ltb (min (place + side -
 abbrev pub axisUp : ℕ → ℕ → ℕ → ℕ → ℕ → Bool
 axisUp side place size p u = codableUp p u && windowUp side place size u
 
--- an error of 65536 is above every block's: nothing is found yet
+-- allowed on both axes
+pub record Both (p : Spot) (ux uy : ℕ) : Type 0 where
+  pub x : axisUp (p .side) (p .x) (p .width) (p .px) ux ≡ true
+  pub y : axisUp (p .side) (p .y) (p .height) (p .py) uy ≡ true
+
+-- the best so far; an error of `noBest` or more stands for none
 unfoldable pub bestSoFar : Candidate → Best
-bestSoFar b = pick (ltb (b .error) 65536) (best (loweredMv (b .ux) (b .uy)) (b .error)) nothing
+bestSoFar b = pick (ltb (b .error) noBest) (best (loweredMv (b .ux) (b .uy)) (b .error)) nothing
 
 -- the best so far is codable; it is zero where nothing is found
 pub record BestHeld (b : Candidate) : Type 0 where
@@ -78,8 +83,8 @@ pub record BestHeld (b : Candidate) : Type 0 where
   pub x-high : b .ux ≤ 1055
   pub y-low : 992 ≤ b .uy
   pub y-high : b .uy ≤ 1055
-  pub x-unset : 65536 ≤ b .error → b .ux ≡ 1024
-  pub y-unset : 65536 ≤ b .error → b .uy ≡ 1024
+  pub x-unset : noBest ≤ b .error → b .ux ≡ 1024
+  pub y-unset : noBest ≤ b .error → b .uy ≡ 1024
 
 -- the raised full-sample candidate k of an axis
 abbrev pub fullUp : ℕ → ℕ → ℕ → ℕ

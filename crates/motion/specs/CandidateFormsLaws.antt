@@ -3,32 +3,36 @@
 use Prim.Native.Nat.{ℕ, _+_, _-_, _*_, _/_, _%_, _<_, _≤_, min}
 use mathlib.Core.Path.{_≡_, refl, sym, ap, _∙_}
 use mathlib.Core.List.{List}
-use mathlib.Core.Bool.{Bool, true, false, _&&_}
+use mathlib.Core.Bool.{Bool, true, false, _&&_, not}
+use mathlib.Core.Option.{none, some}
 use native.Mathlib.Omega.{arith}
+use native.Mathlib.Decide.{decLt}
 use lib.Dec.{ltb, leb}
 use lib.IntN.{ℤ, pos, subℕ, _+ℤ_}
 use lib.Signed.{ltZ, leZ, shrZ}
 use lib.ListN.{length, getD}
 use lib.Arith.{digits-div, digits-mod}
 use native.Mathlib.Nat.{mul-comm}
-use borrow.Author.Tests.{lt-ltb, le-ltb, leb-true, ltb-true, ltb-false}
+use borrow.Author.Tests.{lt-ltb, lt-leb, le-leb, leb-true, ltb-true, ltb-false}
 use Rattle.bits.specs.Basics.{pick, gap, sum}
 use Rattle.bits.specs.BasicsLaws.{both-true}
 use Rattle.vectors.specs.declared.svq1_motion_predictor.Svq1Mv.{Svq1Mv}
-use Rattle.compensation.specs.declared.svq1_enc_inter.inner.Taken.{Taken}
+use Rattle.compensation.specs.declared.svq1_enc_inter.inner.VectorSum.{VectorSum}
 use Rattle.motion.specs.declared.svq1_enc_inter.inner.Spot.{Spot}
 use Rattle.motion.specs.declared.svq1_enc_inter.inner.Candidate.{Candidate}
 use Rattle.vectors.specs.Vectors.{inRange, codable}
 use Rattle.canvas.specs.Canvas.{Canvas}
 use Rattle.compensation.specs.Compensation.{halfSample, movedSample, movedBlock}
-use Rattle.motion.specs.Search.{Search, inWindow, allowed, errorOf, Best, nothing, best, lowers, consider, fullAt, centre}
-use Rattle.compensation.specs.RowForms.{cell, rowAt, early, ReadIn}
-use Rattle.compensation.specs.RowFormsLaws.{half-in}
+use Rattle.motion.specs.Search.{Search, inWindow, allowed, Best, nothing, best, consider, fullAt, centre}
+use Rattle.motion.specs.Sum.{rowError, vectorSum, errorFound, considerEarly}
+use Rattle.motion.specs.SumLaws.{dropped-early}
+use Rattle.compensation.specs.RowForms.{noBest, bestOrNone, cell, rowAt, ReadIn, Summed}
+use Rattle.compensation.specs.RowFormsLaws.{half-in, target-fits}
 use Rattle.bits.specs.SumLaws.{sum-same}
-use Rattle.compensation.specs.ErrorLaws.{rows-sum, sad-sum}
-use Rattle.compensation.specs.EarlyLaws.{Judged, early-same, early-judged}
+use Rattle.compensation.specs.ErrorLaws.{row-sum}
+use Rattle.compensation.specs.EarlyLaws.{beaten-from, rows-same}
 use Rattle.bits.specs.DifferenceLaws.{leb-as, both, sub-eq, sub-add, sub-pos, pos-sub, sub-sub, sub-half, sub-one, low-is, high-is, nonneg-is, below-is}
-use Rattle.motion.specs.CandidateForms.{lowered, loweredMv, spotSearch, MotionReady, codableUp, windowUp, axisUp, bestSoFar, BestHeld}
+use Rattle.motion.specs.CandidateForms.{lowered, loweredMv, spotSearch, MotionReady, codableUp, windowUp, axisUp, Both, bestSoFar, BestHeld}
 
 -- ---- the tests
 pub codable-is : (p u : ℕ) → codable (lowered p) (lowered u) ≡ codableUp p u
@@ -78,21 +82,20 @@ reads side place size stride u hs hp hz hst w =
 place-is : (a j u : ℕ) → 512 ≤ a + u / 2 → pos (2 * (a + j)) +ℤ lowered u ≡ pos (2 * (a + u / 2 - 512 + j) + u % 2)
 place-is a j u h = pos-sub (2 * (a + j)) u 1024 ∙ sub-pos (2 * (a + j) + u) 1024 (omega arith) ∙ ap pos (omega arith)
 
--- ---- the absolute error of the definition, by rows
-unfoldable rowError : Search → Svq1Mv → ℕ → ℕ
-rowError g v i =
-    sum (λ j. gap (getD (g .target) (g .side * i + j) 0) (halfSample (g .reference) (pos (2 * (g .x + j)) +ℤ v .x) (pos (2 * (g .y + i)) +ℤ v .y))) (g .side)
-
-error-rows : (g : Search) (v : Svq1Mv) → 1 ≤ g .side → length (g .target) ≡ g .side * g .side → errorOf g v ≡ sum (rowError g v) (g .side)
-unfolding errorOf movedBlock rowError
-error-rows g v s e =
-    sad-sum (g .target) (movedSample (g .reference) (g .side) (g .x) (g .y) v) (g .side * g .side) 0 e
-    ∙ rows-sum _ (g .side) (g .side)
-    ∙ sum-same _ _ (g .side) (λ i h. sum-same _ _ (g .side) (λ j l.
-    let q : 0 + (g .side * i + j) ≡ i * g .side + j = omega (arith, mul-comm (g .side) i) in
-    let d : (0 + (g .side * i + j)) / g .side ≡ i = ap (λ (n : ℕ). n / g .side) q ∙ digits-div i l in
-    let m : (0 + (g .side * i + j)) % g .side ≡ j = ap (λ (n : ℕ). n % g .side) q ∙ digits-mod i l in
-    simp (d, m)))
+-- ---- a row of the definition, sample by sample
+row-samples : (g : Search) (v : Svq1Mv) (i : ℕ) → i < g .side → length (g .target) ≡ g .side * g .side
+    → rowError g v i
+    ≡ sum (λ j. gap (getD (g .target) (g .side * i + j) 0) (halfSample (g .reference) (pos (2 * (g .x + j)) +ℤ v .x) (pos (2 * (g .y + i)) +ℤ v .y))) (g .side)
+unfolding rowError movedBlock
+row-samples g v i h e =
+    let n : ℕ = g .side in
+    let fits : n * i + n ≤ n * n = target-fits n i h in
+    row-sum (g .target) (movedSample (g .reference) n (g .x) (g .y) v) (n * i) n (n * n) (rw e fits) fits
+    ∙ sum-same _ _ n (λ j l.
+    let q : n * i + j ≡ i * n + j = omega (arith, mul-comm n i) in
+    let d : (n * i + j) / n ≡ i = ap (λ (k : ℕ). k / n) q ∙ digits-div i l in
+    let m : (n * i + j) % n ≡ j = ap (λ (k : ℕ). k % n) q ∙ digits-mod i l in
+    simp (d, m))
 
 module _ (t ref : List ℕ) (p : Spot) (ux uy : ℕ) where
   abbrev canvas : Canvas
@@ -105,10 +108,10 @@ module _ (t ref : List ℕ) (p : Spot) (ux uy : ℕ) where
   y0 = p .y + uy / 2 - 512
 
   -- the clamp-free row is the row of the definition
-  row-is : (i : ℕ) → i < p .side → ReadsAt (p .side) (p .x) (p .stride) ux → ReadsAt (p .side) (p .y) (p .rows) uy
+  row-is : (i : ℕ) → i < p .side → length t ≡ p .side * p .side → ReadsAt (p .side) (p .x) (p .stride) ux → ReadsAt (p .side) (p .y) (p .rows) uy
       → rowAt t canvas (p .side) (ux % 2) (uy % 2) x0 y0 i ≡ rowError (spotSearch t ref p) (loweredMv ux uy) i
-  unfolding rowAt rowError spotSearch
-  row-is i hi rx ry =
+  unfolding rowAt spotSearch
+  row-is i hi e rx ry =
       sum-same _ _ (p .side) (λ j hj.
       let e : (y0 + i) * p .stride + (x0 + j) ≡ (y0 + i) * p .stride + x0 + j = omega arith in
       let h = half-in canvas (x0 + j) (y0 + i) (ux % 2) (uy % 2) (omega arith) (omega arith) (omega (arith, rx .high)) (omega (arith, ry .high)) in
@@ -117,17 +120,7 @@ module _ (t ref : List ℕ) (p : Spot) (ux uy : ℕ) where
       (ap (λ (z : ℤ). halfSample canvas z (pos (2 * (p .y + i)) +ℤ lowered uy)) (place-is (p .x) j ux (rx .low))
       ∙ ap (λ (z : ℤ). halfSample canvas (pos (2 * (x0 + j) + ux % 2)) z) (place-is (p .y) i uy (ry .low))
       ∙ h ∙ ap (cell canvas (ux % 2) (uy % 2)) e)))
-
-  -- what the early sum says of the vector's absolute error
-  pub judged : (limit : ℕ) (s : Taken) → MotionReady t ref p → ReadsAt (p .side) (p .x) (p .stride) ux → ReadsAt (p .side) (p .y) (p .rows) uy
-      → s ≡ early (rowAt t canvas (p .side) (ux % 2) (uy % 2) x0 y0) limit (p .side) 0 0
-      → Judged (errorOf (spotSearch t ref p) (loweredMv ux uy)) limit (s .error)
-  unfolding spotSearch
-  judged limit s r rx ry e =
-      let f = rowAt t canvas (p .side) (ux % 2) (uy % 2) x0 y0 in
-      let g = rowError (spotSearch t ref p) (loweredMv ux uy) in
-      let w : s ≡ early g limit (p .side) 0 0 = e ∙ early-same f g limit (p .side) 0 0 (λ k h. row-is k (omega arith) rx ry) in
-      rw (error-rows (spotSearch t ref p) (loweredMv ux uy) (omega (arith, r .sides)) (r .target-len), w) (early-judged g limit (p .side))
+      ∙ sym (row-samples (spotSearch t ref p) (loweredMv ux uy) i hi e)
 
   allowed-is : allowed (spotSearch t ref p) (loweredMv ux uy) ≡ (axisUp (p .side) (p .x) (p .width) (p .px) ux && axisUp (p .side) (p .y) (p .height) (p .py) uy)
   unfolding allowed spotSearch
@@ -135,24 +128,34 @@ module _ (t ref : List ℕ) (p : Spot) (ux uy : ℕ) where
       both (both (codable-is (p .px) ux) (window-is (p .side) (p .x) (p .width) ux))
       (both (codable-is (p .py) uy) (window-is (p .side) (p .y) (p .height) uy))
 
+  pub no-x : axisUp (p .side) (p .x) (p .width) (p .px) ux ≡ false → allowed (spotSearch t ref p) (loweredMv ux uy) ≡ false
+  no-x e = allowed-is ∙ simp e
+
+  pub no-y : axisUp (p .side) (p .y) (p .height) (p .py) uy ≡ false → allowed (spotSearch t ref p) (loweredMv ux uy) ≡ false
+  no-y e = allowed-is ∙ and-no (axisUp (p .side) (p .x) (p .width) (p .px) ux) _ e
+    where
+      and-no : (a b : Bool) → b ≡ false → (a && b) ≡ false
+      and-no true b e = e
+      and-no false b e = refl
+
   not-allowed : (f : Best) → allowed (spotSearch t ref p) (loweredMv ux uy) ≡ false → f ≡ consider (spotSearch t ref p) (loweredMv ux uy) f
   unfolding consider
   not-allowed f e = simp e
 
   pub not-x : (f : Best) → axisUp (p .side) (p .x) (p .width) (p .px) ux ≡ false → f ≡ consider (spotSearch t ref p) (loweredMv ux uy) f
-  not-x f e = not-allowed f (allowed-is ∙ simp e)
-
-  and-no : (a b : Bool) → b ≡ false → (a && b) ≡ false
-  and-no true b e = e
-  and-no false b e = refl
+  not-x f e = not-allowed f (no-x e)
 
   pub not-y : (f : Best) → axisUp (p .side) (p .y) (p .height) (p .py) uy ≡ false → f ≡ consider (spotSearch t ref p) (loweredMv ux uy) f
-  not-y f e = not-allowed f (allowed-is ∙ and-no (axisUp (p .side) (p .x) (p .width) (p .px) ux) _ e)
+  not-y f e = not-allowed f (no-y e)
 
--- allowed on both axes
-pub record Both (p : Spot) (ux uy : ℕ) : Type 0 where
-  pub x : axisUp (p .side) (p .x) (p .width) (p .px) ux ≡ true
-  pub y : axisUp (p .side) (p .y) (p .height) (p .py) uy ≡ true
+-- the best so far, as an error alone
+pub found-is : (b : Candidate) → errorFound (bestSoFar b) ≡ bestOrNone (b .error)
+unfolding bestSoFar
+found-is b = go (ltb (b .error) noBest)
+  where
+    go : (k : Bool) → errorFound (pick k (best (loweredMv (b .ux) (b .uy)) (b .error)) nothing) ≡ pick k (some (b .error)) none
+    go true = refl
+    go false = refl
 
 axis-in : (side place size p u : ℕ) → axisUp side place size p u ≡ true → (992 ≤ u) × (u ≤ 1055)
 axis-in side place size p u e =
@@ -162,35 +165,37 @@ axis-in side place size p u e =
     (leb-true _ _ (b .0), leb-true _ _ (b .1))
 
 module _ (t ref : List ℕ) (p : Spot) (ux uy : ℕ) (ok : Both p ux uy) where
-  is-allowed : allowed (spotSearch t ref p) (loweredMv ux uy) ≡ true
+  pub is-allowed : allowed (spotSearch t ref p) (loweredMv ux uy) ≡ true
   is-allowed = allowed-is t ref p ux uy ∙ simp (ok .x, ok .y)
 
-  module _ (e : ℕ) (b : Candidate) (j : Judged (errorOf (spotSearch t ref p) (loweredMv ux uy)) (b .error) e) (s : e ≤ 255 * 256) where
-    lower-any : (m : ℕ) → m < b .error → (k : Bool) → lowers m (pick k (best (loweredMv (b .ux) (b .uy)) (b .error)) nothing) ≡ true
-    lower-any m l true = lt-ltb _ _ l
-    lower-any m l false = refl
+  -- what its sum leaves of the best so far
+  module _ (b : Candidate) (s : VectorSum) (e : s ≡ vectorSum (spotSearch t ref p) (loweredMv ux uy) (errorFound (bestSoFar b))) (small : s .sum < noBest) where
+    left-is : (k : Bool) → leb (b .error) (s .sum) ≡ k
+        → consider (spotSearch t ref p) (loweredMv ux uy) (bestSoFar b) ≡ pick (not k) (best (loweredMv ux uy) (s .sum)) (bestSoFar b)
+    unfolding considerEarly
+    left-is k q =
+        let h = sym (e ∙ ap (vectorSum (spotSearch t ref p) (loweredMv ux uy)) (found-is b)) in
+        sym (dropped-early (spotSearch t ref p) (loweredMv ux uy) .finds-the-same (bestSoFar b))
+        ∙ simp (found-is b, h, is-allowed, beaten-from (b .error) (s .sum) small, q)
 
-    pub better : e < b .error → bestSoFar (record { ux = ux; uy = uy; error = e }) ≡ consider (spotSearch t ref p) (loweredMv ux uy) (bestSoFar b)
-    unfolding bestSoFar consider
-    better h =
-        let m = errorOf (spotSearch t ref p) (loweredMv ux uy) in
-        let q : e ≡ m = j .under h in
-        let l : m < b .error = omega arith in
-        let k : e < 65536 = omega arith in
-        simp (is-allowed, lower-any m l (ltb (b .error) 65536), lt-ltb e 65536 k) (ap (best (loweredMv ux uy)) q)
+    better : s .sum < b .error → bestSoFar (record { ux = ux; uy = uy; error = s .sum }) ≡ consider (spotSearch t ref p) (loweredMv ux uy) (bestSoFar b)
+    unfolding bestSoFar
+    better h = simp (lt-ltb (s .sum) noBest small) (sym (left-is false (lt-leb _ _ h)))
 
-    pub no-better : b .error ≤ e → bestSoFar b ≡ consider (spotSearch t ref p) (loweredMv ux uy) (bestSoFar b)
-    unfolding bestSoFar consider
-    no-better h =
-        let l : b .error ≤ errorOf (spotSearch t ref p) (loweredMv ux uy) = j .over h in
-        let k : b .error < 65536 = omega arith in
-        simp (is-allowed, lt-ltb (b .error) 65536 k, le-ltb _ _ l)
+    held : BestHeld (record { ux = ux; uy = uy; error = s .sum })
+    held =
+        let x = axis-in _ _ _ _ ux (ok .x) in
+        let y = axis-in _ _ _ _ uy (ok .y) in
+        record { x-low = x .0; x-high = x .1; y-low = y .0; y-high = y .1; x-unset = λ q. absurd (omega arith); y-unset = λ q. absurd (omega arith) }
 
-  pub held : (e : ℕ) → e ≤ 255 * 256 → BestHeld (record { ux = ux; uy = uy; error = e })
-  held e h =
-      let x = axis-in _ _ _ _ ux (ok .x) in
-      let y = axis-in _ _ _ _ uy (ok .y) in
-      record { x-low = x .0; x-high = x .1; y-low = y .0; y-high = y .1; x-unset = λ q. absurd (omega arith); y-unset = λ q. absurd (omega arith) }
+    pub replaced-is : (r : Candidate) → BestHeld b
+        → (s .sum < b .error → r ≡ record { ux = ux; uy = uy; error = s .sum }) × (b .error ≤ s .sum → r ≡ b)
+        → (bestSoFar r ≡ consider (spotSearch t ref p) (loweredMv ux uy) (bestSoFar b)) × BestHeld r
+    replaced-is r h q = go (decLt (s .sum) (b .error))
+      where
+        go : Dec (s .sum < b .error) → (bestSoFar r ≡ consider (spotSearch t ref p) (loweredMv ux uy) (bestSoFar b)) × BestHeld r
+        go (yes l) = rw (q .0 l) (better l, held)
+        go (no l) = let m : b .error ≤ s .sum = omega arith in rw (q .1 m) (sym (left-is true (le-leb _ _ m)), h)
 
   module _ (r : MotionReady t ref p) where
     pub reads-x : ReadsAt (p .side) (p .x) (p .stride) ux
@@ -214,11 +219,30 @@ module _ (t ref : List ℕ) (p : Spot) (ux uy : ℕ) (ok : Both p ux uy) where
       y-in = reads-y .high;
     }
 
+    -- the sum over rows read in the canvas is the vector's
+    pub sum-is : (b : Candidate) (s : VectorSum)
+        → Summed t (record { samples = ref; stride = p .stride; rows = p .rows }) (p .side) (ux % 2) (uy % 2) (p .x + ux / 2 - 512) (p .y + uy / 2 - 512) (b .error) s
+        → s ≡ vectorSum (spotSearch t ref p) (loweredMv ux uy) (errorFound (bestSoFar b))
+    unfolding vectorSum spotSearch
+    sum-is b s q =
+        rw (found-is b)
+        (q .answer ∙ rows-same _ _ (bestOrNone (b .error)) (p .side) 0 0 (λ i h. row-is t ref p ux uy i (omega arith) (r .target-len) reads-x reads-y))
+
+    -- at a full sample
+    module _ (full-x : ux % 2 ≡ 0) (full-y : uy % 2 ≡ 0) where
+      pub full-read-in : ReadIn t (record { samples = ref; stride = p .stride; rows = p .rows }) (p .side) 0 0 (p .x + ux / 2 - 512) (p .y + uy / 2 - 512)
+      full-read-in = rw (full-x, full-y) at read-in
+
+      pub full-sum-is : (b : Candidate) (s : VectorSum)
+          → Summed t (record { samples = ref; stride = p .stride; rows = p .rows }) (p .side) 0 0 (p .x + ux / 2 - 512) (p .y + uy / 2 - 512) (b .error) s
+          → s ≡ vectorSum (spotSearch t ref p) (loweredMv ux uy) (errorFound (bestSoFar b))
+      full-sum-is b s q = sum-is b s (rw (full-x, full-y) q)
+
 -- the centre of the half-sample neighbours
 pub centre-is : (b : Candidate) → BestHeld b → centre (bestSoFar b) ≡ loweredMv (b .ux) (b .uy)
 unfolding bestSoFar
-centre-is b h = go (ltb (b .error) 65536) refl
+centre-is b h = go (ltb (b .error) noBest) refl
   where
-    go : (k : Bool) → ltb (b .error) 65536 ≡ k → centre (pick k (best (loweredMv (b .ux) (b .uy)) (b .error)) nothing) ≡ loweredMv (b .ux) (b .uy)
+    go : (k : Bool) → ltb (b .error) noBest ≡ k → centre (pick k (best (loweredMv (b .ux) (b .uy)) (b .error)) nothing) ≡ loweredMv (b .ux) (b .uy)
     go true e = refl
-    go false e = let l : 65536 ≤ b .error = ltb-false _ _ e in rw (h .x-unset l, h .y-unset l) refl
+    go false e = let l : noBest ≤ b .error = ltb-false _ _ e in rw (h .x-unset l, h .y-unset l) refl

@@ -1,23 +1,34 @@
-// The motion search as a call.
+// The motion search and the sum of one vector, as calls.
 pub mod inner;
 
 ghost use mathlib.Core.Path.{_≡_};
 ghost use mathlib.Core.Bool.{_&&_};
-ghost use Prim.Native.Nat.{_≤_};
+ghost use Prim.Native.Nat.{_≤_, _<_};
+ghost use Rattle.compensation.specs.RowForms.{bestOrNone};
 ghost use Rattle.vectors.specs.Vectors.{inRange};
 ghost use Rattle.vectors.specs.VectorsLaws.{InRange};
 ghost use Rattle.motion.specs.Search.{vectorOf, vectorAnswer, searchRefusal, searchAnswer};
-ghost use Rattle.motion.specs.CandidateForms.{lowered, bestSoFar, BestHeld};
-ghost use Rattle.motion.specs.SearchCall.{searchedAnswer, eitherSide, searchBlockOk, Raised};
+ghost use Rattle.motion.specs.Sum.{sumOr23, sumAnswer};
+ghost use Rattle.motion.specs.CandidateForms.{raisedEnd, spotSearch, MotionReady, lowered, loweredMv, bestSoFar, BestHeld};
+ghost use Rattle.motion.specs.SearchCall.{searchedAnswer, summedAnswer, eitherSide, searchBlockOk, Raised};
 use super::svq1_enc_inter::inner::Candidate;
 use super::svq1_enc_inter::inner::Spot;
+use super::svq1_enc_inter::inner::axis_ok;
 use super::svq1_enc_inter::inner::search_best;
+use super::svq1_enc_inter::inner::vector_sum;
 use canvas::svq1_plane::plane_refusal;
+use compensation::svq1_enc_inter::inner::VectorSum;
 use vectors::svq1_motion_predictor::Svq1Mv;
 
 // What a search answers: the vector, or the number of the refusal.
 pub enum Searched {
     Vector(Svq1Mv),
+    Refused(u8),
+}
+
+// What summing one vector answers: its sum and the rows taken, or the number of the refusal.
+pub enum SummedVector {
+    Sum(VectorSum),
     Refused(u8),
 }
 
@@ -166,4 +177,79 @@ pub fn search_motion_vector(
     };
     let b = search_best(target, reference, p);
     answered(b)
+}
+
+// The sum of a vector that may be tried, its components raised by 1024; 23 for any other.
+fn summed(target: &[u8], reference: &[u8], p: Spot, ux: usize, uy: usize, best: u64) -> SummedVector
+    requires { ⌜ MotionReady (now target) (now reference) p × (ux < raisedEnd) × (uy < raisedEnd) ⌝ }
+    ensures { λ r. ⌜ summedAnswer r ≡ sumOr23 (spotSearch (now (target .entry)) (now (reference .entry)) p) (loweredMv ux uy) (bestOrNone best) ⌝ }
+{
+    if !axis_ok(p.side, p.x, p.width, p.px, ux) {
+        return SummedVector::Refused(23);
+    }
+    if !axis_ok(p.side, p.y, p.height, p.py, uy) {
+        return SummedVector::Refused(23);
+    }
+    let found = Candidate {
+        ux: 1024,
+        uy: 1024,
+        error: best,
+    };
+    SummedVector::Sum(vector_sum(target, reference, p, ux, uy, found))
+}
+
+// The sum of one vector against the best absolute error found so far, 65536 or more for none found: it ends behind the first row in which it
+// reaches the best, else behind the last.
+pub fn sum_motion_vector(
+    reference: &[u8],
+    width: usize,
+    height: usize,
+    stride: usize,
+    rows: usize,
+    target: &[u8],
+    side: usize,
+    x: usize,
+    y: usize,
+    predictor: Svq1Mv,
+    v: Svq1Mv,
+    best: u64,
+) -> SummedVector
+    ensures { λ r. ⌜ summedAnswer r ≡ sumAnswer (record { reference = record { samples = now (reference .entry); stride = stride; rows = rows }; width = width; height = height; target = now (target .entry); side = side; x = x; y = y; predictor = predictor; radius = 0 }) v (bestOrNone best) ⌝ }
+{
+    let n = search_refusal(
+        reference,
+        width,
+        height,
+        stride,
+        rows,
+        target,
+        side,
+        x,
+        y,
+        predictor,
+        0,
+    );
+    if n != 0 {
+        return SummedVector::Refused(n);
+    }
+    if !vector_ok(v) {
+        return SummedVector::Refused(23);
+    }
+    let px = raise(predictor.x);
+    let py = raise(predictor.y);
+    let ux = raise(v.x);
+    let uy = raise(v.y);
+    let p = Spot {
+        x,
+        y,
+        width,
+        height,
+        stride,
+        rows,
+        side,
+        px,
+        py,
+        radius: 0,
+    };
+    summed(target, reference, p, ux, uy, best)
 }

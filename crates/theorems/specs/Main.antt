@@ -27,6 +27,10 @@ use Rattle.leaf.specs.MarginLaws.{margins}
 use Rattle.plan.specs.PlanClaim.{PlanClaimed}
 use Rattle.plan.specs.PlanClaimLaws.{plan-claimed}
 use Rattle.canvas.specs.Canvas.{blocksAlong}
+use Rattle.vectors.specs.declared.svq1_motion_predictor.Svq1Mv.{Svq1Mv}
+use Rattle.motion.specs.Search.{Search}
+use Rattle.motion.specs.Sum.{DroppedEarly}
+use Rattle.motion.specs.SumLaws.{dropped-early}
 use Rattle.macroblock.specs.Macroblock.{Given}
 use Rattle.macroblock.specs.Limit.{canSkipRest}
 use Rattle.macroblock.specs.Choice.{Task, withoutLimit}
@@ -139,6 +143,12 @@ room-for-an-allowance = allowance-room
 pub within-an-allowance : (g : Given) (t : Task) → canSkipRest (t .limit) g 0 0 ≡ true → (out : List ℕ) (start : ℕ) (a : Slices) → FirstFits g t out start a
     → writePlane g t out start a ≡ writePlane g (withoutLimit t) out start a
 within-an-allowance = as-alone
+
+-- Document 02, §6, of every search, vector and best found so far: the sum and the rows taken, that the sum reaches the best exactly where the whole absolute
+-- error does, and that a candidate judged by it leaves the best that it leaves by its whole error: the fields of `DroppedEarly` (motion/Sum). So
+-- `search_motion_vector`, whose contract speaks of whole errors, finds what it found. Of memory: `sum_motion_vector`.
+pub a-beaten-vector-dropped-early : (g : Search) (v : Svq1Mv) → DroppedEarly g v
+a-beaten-vector-dropped-early = dropped-early
 
 -- Document 02, §1: a plane's visible error has each sample inside width × height once; of a plane written to its end it is never above the stated total; and a job of
 -- whole macroblocks prints what it printed by the stated errors. Of memory: `visible_error`, `encode_inter_plane`, `listing`.

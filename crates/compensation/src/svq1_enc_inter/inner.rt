@@ -6,10 +6,19 @@ ghost use Rattle.bits.specs.Basics.{gap as gapOf};
 ghost use Rattle.compensation.specs.Compensation.{mean2 as meanOf2, mean4 as meanOf4};
 ghost use Rattle.compensation.specs.RowForms.{against, againstTwo, againstFour, cells, ReadIn, Summed};
 
-// What summing a vector's absolute error answers: its sum, and the rows taken.
-pub struct Taken {
-    pub error: u64,
+// What summing a vector's absolute error against the best found so far answers: the sum of the rows taken, and their number.
+pub struct VectorSum {
+    pub sum: u64,
     pub rows: usize,
+}
+
+// The absolute difference of two samples, in two forms that the compiler makes `psadbw` of in a sum: by a signed number where both are read, which
+// takes nothing else, and of bytes where one is a mean.
+fn signed_gap(a: u8, b: u8) -> u32
+    ensures { λ r. ⌜ (r ≡ gapOf a b) × (r < 256) ⌝ }
+{
+    let d = a as i32 - b as i32;
+    if d < 0 { (-d) as u32 } else { d as u32 }
 }
 
 fn gap(a: u8, b: u8) -> u16
@@ -34,16 +43,15 @@ pub fn mean4(a: u8, b: u8, c: u8, d: u8) -> u8
     ((a as u16 + b as u16 + c as u16 + d as u16 + 2) / 4) as u8
 }
 
-// The absolute error of n samples against a row, against the means of two rows, and of four. The gaps are made of bytes and a row's
-// sum is kept in 16 bits, which lets it be made by `psadbw`.
-fn sad(t: &[u8], a: &[u8], n: usize) -> u16
+// The absolute error of n samples against a row, against the means of two rows, and of four.
+fn sad(t: &[u8], a: &[u8], n: usize) -> u32
     requires { ⌜ (n ≤ 16) × (length (now t) ≡ n) × (length (now a) ≡ n) ⌝ }
     ensures { λ r. ⌜ (r ≡ against (now (t .entry)) (now (a .entry)) n) × (r ≤ 255 * n) ⌝ }
 {
-    let mut sum: u16 = 0;
+    let mut sum: u32 = 0;
     let mut i = 0;
     while i < n {
-        sum += gap(t[i], a[i]);
+        sum += signed_gap(t[i], a[i]);
         i += 1;
     }
     sum
@@ -111,8 +119,29 @@ fn row_between(
     )
 }
 
-// The rows of a block that lies between samples, one by one, until the limit is reached.
-fn rows_between(
+// The row of n samples of t from ti on against those read at p, at a full sample or between samples.
+fn row_error(
+    t: &[u8],
+    reference: &[u8],
+    ti: usize,
+    p: usize,
+    stride: usize,
+    rows: usize,
+    n: usize,
+    ox: usize,
+    oy: usize,
+) -> u32
+    requires { ⌜ (n ≤ 16) × (ox < 2) × (oy < 2) × (ti + n ≤ length (now t)) × (p + oy * stride + ox + n ≤ length (now reference)) ⌝ }
+    ensures { λ r. ⌜ (r ≡ cells (now (t .entry)) (record { samples = now (reference .entry); stride = stride; rows = rows }) n ox oy ti p) × (r ≤ 255 * n) ⌝ }
+{
+    if 0 < ox + oy {
+        return row_between(t, reference, ti, p, stride, rows, n, ox, oy) as u32;
+    }
+    sad(&t[ti..ti + n], &reference[p..p + n], n)
+}
+
+// The rows of a block, one by one, until their sum reaches the best found so far.
+fn sum_rows(
     t: &[u8],
     reference: &[u8],
     x0: usize,
@@ -122,15 +151,15 @@ fn rows_between(
     n: usize,
     ox: usize,
     oy: usize,
-    limit: u64,
-) -> Taken
-    requires { ⌜ ReadIn (now t) (record { samples = now reference; stride = stride; rows = rows }) n ox oy x0 y0 × (1 ≤ ox + oy) ⌝ }
-    ensures { λ r. ⌜ Summed (now (t .entry)) (record { samples = now (reference .entry); stride = stride; rows = rows }) n ox oy x0 y0 limit r ⌝ }
+    best: u64,
+) -> VectorSum
+    requires { ⌜ ReadIn (now t) (record { samples = now reference; stride = stride; rows = rows }) n ox oy x0 y0 ⌝ }
+    ensures { λ r. ⌜ Summed (now (t .entry)) (record { samples = now (reference .entry); stride = stride; rows = rows }) n ox oy x0 y0 best r ⌝ }
 {
     let mut sum: u64 = 0;
     let mut i = 0;
     while i < n {
-        sum += row_between(
+        let row = row_error(
             t,
             reference,
             n * i,
@@ -140,23 +169,24 @@ fn rows_between(
             n,
             ox,
             oy,
-        ) as u64;
-        i += 1;
-        if limit <= sum {
-            return Taken {
-                error: sum,
-                rows: i,
+        );
+        let more = sum + row as u64;
+        let taken = i + 1;
+        if best <= more {
+            return VectorSum {
+                sum: more,
+                rows: taken,
             };
         }
+        sum = more;
+        i = taken;
     }
-    Taken {
-        error: sum,
-        rows: i,
-    }
+    VectorSum { sum: sum, rows: i }
 }
 
-// The rows of a block at a full-sample place.
-fn rows_full(
+// The same at a full sample and between samples, with numbers for the side and the place between samples, so that every loop has a known length and no
+// row a test.
+fn sum_full(
     t: &[u8],
     reference: &[u8],
     x0: usize,
@@ -164,53 +194,18 @@ fn rows_full(
     stride: usize,
     rows: usize,
     n: usize,
-    limit: u64,
-) -> Taken
+    best: u64,
+) -> VectorSum
     requires { ⌜ ReadIn (now t) (record { samples = now reference; stride = stride; rows = rows }) n 0 0 x0 y0 ⌝ }
-    ensures { λ r. ⌜ Summed (now (t .entry)) (record { samples = now (reference .entry); stride = stride; rows = rows }) n 0 0 x0 y0 limit r ⌝ }
-{
-    let mut sum: u64 = 0;
-    let mut i = 0;
-    while i < n {
-        let a = n * i;
-        let p = (y0 + i) * stride + x0;
-        sum += sad(&t[a..a + n], &reference[p..p + n], n) as u64;
-        i += 1;
-        if limit <= sum {
-            return Taken {
-                error: sum,
-                rows: i,
-            };
-        }
-    }
-    Taken {
-        error: sum,
-        rows: i,
-    }
-}
-
-// The two above, each with the side as a constant in each call, so that every loop has a known length.
-pub fn full_error(
-    t: &[u8],
-    reference: &[u8],
-    x0: usize,
-    y0: usize,
-    stride: usize,
-    rows: usize,
-    n: usize,
-    limit: u64,
-) -> Taken
-    requires { ⌜ ReadIn (now t) (record { samples = now reference; stride = stride; rows = rows }) n 0 0 x0 y0 ⌝ }
-    ensures { λ r. ⌜ Summed (now (t .entry)) (record { samples = now (reference .entry); stride = stride; rows = rows }) n 0 0 x0 y0 limit r ⌝ }
+    ensures { λ r. ⌜ Summed (now (t .entry)) (record { samples = now (reference .entry); stride = stride; rows = rows }) n 0 0 x0 y0 best r ⌝ }
 {
     if n == 16 {
-        return rows_full(t, reference, x0, y0, stride, rows, 16, limit);
+        return sum_rows(t, reference, x0, y0, stride, rows, 16, 0, 0, best);
     }
-    rows_full(t, reference, x0, y0, stride, rows, 8, limit)
+    sum_rows(t, reference, x0, y0, stride, rows, 8, 0, 0, best)
 }
 
-// Between samples.
-fn between_error(
+fn sum_half(
     t: &[u8],
     reference: &[u8],
     x0: usize,
@@ -220,20 +215,32 @@ fn between_error(
     n: usize,
     ox: usize,
     oy: usize,
-    limit: u64,
-) -> Taken
+    best: u64,
+) -> VectorSum
     requires { ⌜ ReadIn (now t) (record { samples = now reference; stride = stride; rows = rows }) n ox oy x0 y0 × (1 ≤ ox + oy) ⌝ }
-    ensures { λ r. ⌜ Summed (now (t .entry)) (record { samples = now (reference .entry); stride = stride; rows = rows }) n ox oy x0 y0 limit r ⌝ }
+    ensures { λ r. ⌜ Summed (now (t .entry)) (record { samples = now (reference .entry); stride = stride; rows = rows }) n ox oy x0 y0 best r ⌝ }
 {
     if n == 16 {
-        return rows_between(t, reference, x0, y0, stride, rows, 16, ox, oy, limit);
+        if ox == 0 {
+            return sum_rows(t, reference, x0, y0, stride, rows, 16, 0, 1, best);
+        }
+        if oy == 0 {
+            return sum_rows(t, reference, x0, y0, stride, rows, 16, 1, 0, best);
+        }
+        return sum_rows(t, reference, x0, y0, stride, rows, 16, 1, 1, best);
     }
-    rows_between(t, reference, x0, y0, stride, rows, 8, ox, oy, limit)
+    if ox == 0 {
+        return sum_rows(t, reference, x0, y0, stride, rows, 8, 0, 1, best);
+    }
+    if oy == 0 {
+        return sum_rows(t, reference, x0, y0, stride, rows, 8, 1, 0, best);
+    }
+    sum_rows(t, reference, x0, y0, stride, rows, 8, 1, 1, best)
 }
 
-// The absolute error of the block of n by n samples read from x0, y0, all inside the canvas. It ends after the first row in which it
-// reaches the limit: such a vector cannot replace the best found.
-pub fn block_error(
+// The absolute error of the block of n by n samples read from x0, y0, all inside the canvas, against the best found so far, 65536 or more for none
+// found: it ends behind the first row in which it reaches the best, else behind the last.
+pub fn block_sum(
     t: &[u8],
     reference: &[u8],
     x0: usize,
@@ -243,13 +250,13 @@ pub fn block_error(
     n: usize,
     ox: usize,
     oy: usize,
-    limit: u64,
-) -> Taken
+    best: u64,
+) -> VectorSum
     requires { ⌜ ReadIn (now t) (record { samples = now reference; stride = stride; rows = rows }) n ox oy x0 y0 ⌝ }
-    ensures { λ r. ⌜ Summed (now (t .entry)) (record { samples = now (reference .entry); stride = stride; rows = rows }) n ox oy x0 y0 limit r ⌝ }
+    ensures { λ r. ⌜ Summed (now (t .entry)) (record { samples = now (reference .entry); stride = stride; rows = rows }) n ox oy x0 y0 best r ⌝ }
 {
     if 0 < ox + oy {
-        return between_error(t, reference, x0, y0, stride, rows, n, ox, oy, limit);
+        return sum_half(t, reference, x0, y0, stride, rows, n, ox, oy, best);
     }
-    full_error(t, reference, x0, y0, stride, rows, n, limit)
+    sum_full(t, reference, x0, y0, stride, rows, n, best)
 }

@@ -2,10 +2,12 @@
 ghost use mathlib.Core.Path.{_≡_};
 ghost use mathlib.Core.Bool.{true};
 ghost use Prim.Native.Nat.{_+_, _-_, _*_, _/_, _%_, _<_, _≤_, min};
+ghost use Rattle.compensation.specs.RowForms.{noBest};
 ghost use Rattle.motion.specs.Search.{consider, rowTo, rowsTo, searchBest};
-ghost use Rattle.motion.specs.CandidateForms.{raisedEnd, spotSearch, MotionReady, lowered, loweredMv, axisUp, bestSoFar, BestHeld, Spans, Clipped, refined};
-use compensation::svq1_enc_inter::inner::block_error;
-use compensation::svq1_enc_inter::inner::full_error;
+ghost use Rattle.motion.specs.Sum.{vectorSum, errorFound};
+ghost use Rattle.motion.specs.CandidateForms.{raisedEnd, spotSearch, MotionReady, lowered, loweredMv, axisUp, Both, bestSoFar, BestHeld, Spans, Clipped, refined};
+use compensation::svq1_enc_inter::inner::VectorSum;
+use compensation::svq1_enc_inter::inner::block_sum;
 
 // A block's place, the visible size, the canvas, the block's side, the predicted vector, raised by 1024, and the radius.
 pub struct Spot {
@@ -21,7 +23,7 @@ pub struct Spot {
     pub radius: usize,
 }
 
-// The best vector so far, raised by 1024, and its absolute error. An error of 65536, above every block's, stands for none, with the
+// The best vector so far, raised by 1024, and its absolute error. An error of 65536 or more, which no block's is, stands for none, with the
 // vector at zero: the half-sample neighbours are then those of zero.
 pub struct Candidate {
     pub ux: usize,
@@ -47,7 +49,7 @@ fn last_seen(place: usize, side: usize, size: usize) -> usize
 }
 
 // Codable and in the window, on one axis.
-fn axis_ok(side: usize, place: usize, size: usize, p: usize, u: usize) -> bool
+pub fn axis_ok(side: usize, place: usize, size: usize, p: usize, u: usize) -> bool
     requires { ⌜ (place + side < raisedEnd) × (1 ≤ side) × (1 ≤ size) × (size < raisedEnd) × (p < raisedEnd) × (u < raisedEnd) ⌝ }
     ensures { λ r. ⌜ r ≡ axisUp side place size p u ⌝ }
 {
@@ -70,6 +72,46 @@ fn axis_ok(side: usize, place: usize, size: usize, p: usize, u: usize) -> bool
     last + (u + 1) / 2 < size + 512
 }
 
+// Of an allowed vector: its sum against the best that the search has found so far, and the rows taken.
+pub fn vector_sum(
+    target: &[u8],
+    reference: &[u8],
+    p: Spot,
+    ux: usize,
+    uy: usize,
+    best: Candidate,
+) -> VectorSum
+    requires { ⌜ MotionReady (now target) (now reference) p × Both p ux uy ⌝ }
+    ensures { λ r. ⌜ (r ≡ vectorSum (spotSearch (now (target .entry)) (now (reference .entry)) p) (loweredMv ux uy) (errorFound (bestSoFar best))) × (r .sum < noBest) ⌝ }
+{
+    block_sum(
+        target,
+        reference,
+        p.x + ux / 2 - 512,
+        p.y + uy / 2 - 512,
+        p.stride,
+        p.rows,
+        p.side,
+        ux % 2,
+        uy % 2,
+        best.error,
+    )
+}
+
+// A candidate's sum against the best so far: only a strictly lower one replaces it.
+fn replaced(s: VectorSum, ux: usize, uy: usize, best: Candidate) -> Candidate
+    ensures { λ r. ⌜ (s .sum < best .error → r ≡ record { ux = ux; uy = uy; error = s .sum }) × (best .error ≤ s .sum → r ≡ best) ⌝ }
+{
+    if s.sum < best.error {
+        return Candidate {
+            ux: ux,
+            uy: uy,
+            error: s.sum,
+        };
+    }
+    best
+}
+
 // One candidate: it replaces the best so far if it is allowed and its absolute error is strictly lower.
 fn tried(
     target: &[u8],
@@ -88,26 +130,8 @@ fn tried(
     if !axis_ok(p.side, p.y, p.height, p.py, uy) {
         return best;
     }
-    let s = block_error(
-        target,
-        reference,
-        p.x + ux / 2 - 512,
-        p.y + uy / 2 - 512,
-        p.stride,
-        p.rows,
-        p.side,
-        ux % 2,
-        uy % 2,
-        best.error,
-    );
-    if s.error < best.error {
-        return Candidate {
-            ux: ux,
-            uy: uy,
-            error: s.error,
-        };
-    }
-    best
+    let s = vector_sum(target, reference, p, ux, uy, best);
+    replaced(s, ux, uy, best)
 }
 
 // The places f of low <= centre + f - radius <= high among 0 .. 2 radius.
@@ -152,7 +176,7 @@ fn span_of(p: usize, radius: usize) -> Span
     clip(radius, (p - 31) / 2, p / 2, 527)
 }
 
-// One full-sample candidate of a row that is allowed.
+// One full-sample candidate of a row that is allowed. It calls `block_sum` itself, with plain numbers: `vector_sum` would take the whole spot for each.
 fn full_tried(
     target: &[u8],
     reference: &[u8],
@@ -167,7 +191,7 @@ fn full_tried(
     if !axis_ok(p.side, p.x, p.width, p.px, ux) {
         return best;
     }
-    let taken = full_error(
+    let s = block_sum(
         target,
         reference,
         p.x + ux / 2 - 512,
@@ -175,16 +199,11 @@ fn full_tried(
         p.stride,
         p.rows,
         p.side,
+        0,
+        0,
         best.error,
     );
-    if taken.error < best.error {
-        return Candidate {
-            ux: ux,
-            uy: uy,
-            error: taken.error,
-        };
-    }
-    best
+    replaced(s, ux, uy, best)
 }
 
 // The full-sample candidates of one row.

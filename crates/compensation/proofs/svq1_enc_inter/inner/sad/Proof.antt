@@ -19,14 +19,14 @@ loop-holds : tie.Need-loop-holds Inv-loop μ-loop
 unfolding sum
 loop-holds c = (omega arith, refl, omega arith)
 
-shared-slice-read-gap : tie.Need-shared-slice-read-gap Inv-loop μ-loop
-shared-slice-read-gap c = search needs
+shared-slice-read-signed-gap : tie.Need-shared-slice-read-signed-gap Inv-loop μ-loop
+shared-slice-read-signed-gap c = search needs
 
-shared-slice-read-gap-2 : tie.Need-shared-slice-read-gap-2 Inv-loop μ-loop
-shared-slice-read-gap-2 c = search needs
+shared-slice-read-signed-gap-2 : tie.Need-shared-slice-read-signed-gap-2 Inv-loop μ-loop
+shared-slice-read-signed-gap-2 c = search needs
 
-gap-requires : tie.Need-gap-requires Inv-loop μ-loop
-gap-requires c κs = search needs
+signed-gap-requires : tie.Need-signed-gap-requires Inv-loop μ-loop
+signed-gap-requires c κs = search needs
 
 add-sum : tie.Need-add-sum Inv-loop μ-loop
 add-sum c = search needs
@@ -39,7 +39,7 @@ loop-less c = search needs
 
 loop-again : tie.Need-loop-again Inv-loop μ-loop
 loop-again c =
-    (omega arith, sum-more _ _ _ _ (c .before .before .before .before .loop .inv .1) (c .gap .ensures .0), omega arith)
+    (omega arith, sum-more _ _ _ _ (c .before .before .before .before .loop .inv .1) (c .signed-gap .ensures .0), omega arith)
 
 returns : tie.Need-returns Inv-loop μ-loop
 returns c =
@@ -52,9 +52,9 @@ sad-spec =
     Inv-loop
     μ-loop
     loop-holds
-    shared-slice-read-gap
-    shared-slice-read-gap-2
-    gap-requires
+    shared-slice-read-signed-gap
+    shared-slice-read-signed-gap-2
+    signed-gap-requires
     add-sum
     add-i
     loop-less

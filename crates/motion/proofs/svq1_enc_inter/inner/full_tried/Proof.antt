@@ -1,11 +1,8 @@
--- An error that ends early has reached the best one, so it does not replace it; whole, it is the definition's error.
-use mathlib.Core.Path.{_≡_, refl, sym, _∙_}
-use Prim.Native.Nat.{_+_, _-_, _/_, _%_}
-use native.Mathlib.Omega.{arith}
+-- A candidate whose column is not allowed changes nothing; the sum of any other replaces the best so far where it stays below it.
+use mathlib.Core.Path.{sym, _∙_}
 use borrow.Author.Tests.{not-true, not-false}
-use Rattle.canvas.specs.Canvas.{Canvas}
-use Rattle.compensation.specs.RowFormsLaws.{read-full, summed-full}
-use Rattle.motion.specs.CandidateFormsLaws.{Both, not-x, better, no-better, held, reads-x, reads-y, read-in, judged}
+use Rattle.motion.specs.CandidateForms.{Both}
+use Rattle.motion.specs.CandidateFormsLaws.{not-x, reads-x, reads-y, full-read-in, full-sum-is, replaced-is}
 use borrow.Author.Needs.{needs}
 use Rattle.motion.proofs.svq1_enc_inter.inner.full_tried.Statement.{statement}
 use Rattle.motion.proofs.svq1_enc_inter.inner.full_tried.Tie as tie
@@ -19,71 +16,44 @@ returns c =
     let a = s .args in
     (not-x (a .target .now) (a .reference .now) (a .p) (a .ux) (a .uy) _ (sym (c .before .axis-ok .ensures) ∙ not-true _ (c .if1 .taken)), s .pre .1)
 
-add-full-error : tie.Need-add-full-error
-add-full-error c = search needs
+add-block-sum : tie.Need-add-block-sum
+add-block-sum c = search needs
 
-sub-full-error : tie.Need-sub-full-error
-sub-full-error c =
-    let s = c .before .before .before .before .before in
-    let a = s .args in
-    let r = s .pre in
-    let t = a .target .now in
-    let f = a .reference .now in
+sub-block-sum : tie.Need-sub-block-sum
+sub-block-sum c =
+    let a = c .before .before .before .before .before .args in
+    let r = c .before .before .before .before .before .pre in
     let ok : Both (a .p) (a .ux) (a .uy) = record { x = sym (c .before .before .axis-ok .ensures) ∙ not-false _ (c .before .if1 .left); y = r .5 } in
-    reads-x t f (a .p) (a .ux) (a .uy) ok (r .0) .low
+    reads-x (a .target .now) (a .reference .now) (a .p) (a .ux) (a .uy) ok (r .0) .low
 
-add-full-error-2 : tie.Need-add-full-error-2
-add-full-error-2 c = search needs
+add-block-sum-2 : tie.Need-add-block-sum-2
+add-block-sum-2 c = search needs
 
-sub-full-error-2 : tie.Need-sub-full-error-2
-sub-full-error-2 c =
-    let s = c .before .before .before .before .before .before in
-    let a = s .args in
-    let r = s .pre in
-    let t = a .target .now in
-    let f = a .reference .now in
+sub-block-sum-2 : tie.Need-sub-block-sum-2
+sub-block-sum-2 c =
+    let a = c .before .before .before .before .before .before .args in
+    let r = c .before .before .before .before .before .before .pre in
     let ok : Both (a .p) (a .ux) (a .uy) = record { x = sym (c .before .before .before .axis-ok .ensures) ∙ not-false _ (c .before .before .if1 .left); y = r .5 } in
-    reads-y t f (a .p) (a .ux) (a .uy) ok (r .0) .low
+    reads-y (a .target .now) (a .reference .now) (a .p) (a .ux) (a .uy) ok (r .0) .low
 
-full-error-requires : tie.Need-full-error-requires
-full-error-requires c κs =
-    let s = c .before .before .before .before .before .before in
-    let a = s .args in
-    let r = s .pre in
-    let t = a .target .now in
-    let f = a .reference .now in
+block-sum-requires : tie.Need-block-sum-requires
+block-sum-requires c κs =
+    let a = c .before .before .before .before .before .before .args in
+    let r = c .before .before .before .before .before .before .pre in
     let ok : Both (a .p) (a .ux) (a .uy) = record { x = sym (c .before .before .before .axis-ok .ensures) ∙ not-false _ (c .before .before .if1 .left); y = r .5 } in
-    let none : a .ux % 2 + a .uy % 2 ≡ 0 = omega (arith, r .3, r .4) in
-    let v : Canvas = record { samples = f; stride = a .p .stride; rows = a .p .rows } in
-    read-full t v (a .p .side) (a .p .side) (a .ux % 2) (a .uy % 2) (a .p .x + a .ux / 2 - 512) (a .p .y + a .uy / 2 - 512) refl none (read-in t f (a .p) (a .ux) (a .uy) ok (r .0))
+    full-read-in (a .target .now) (a .reference .now) (a .p) (a .ux) (a .uy) ok (r .0) (r .3) (r .4)
+
+replaced-requires : tie.Need-replaced-requires
+replaced-requires c κs = search needs
 
 returns-2 : tie.Need-returns-2
 returns-2 c =
-    let s = c .before .before .before .before .before .before .before .before .before .before in
-    let a = s .args in
-    let r = s .pre in
-    let t = a .target .now in
-    let f = a .reference .now in
-    let ok : Both (a .p) (a .ux) (a .uy) = record { x = sym (c .before .before .before .before .before .before .before .axis-ok .ensures) ∙ not-false _ (c .before .before .before .before .before .before .if1 .left); y = r .5 } in
-    let none : a .ux % 2 + a .uy % 2 ≡ 0 = omega (arith, r .3, r .4) in
-    let v : Canvas = record { samples = f; stride = a .p .stride; rows = a .p .rows } in
-    let e = summed-full t v (a .p .side) (a .p .side) (a .ux % 2) (a .uy % 2) (a .p .x + a .ux / 2 - 512) (a .p .y + a .uy / 2 - 512) refl none (a .best .error) _ (c .before .before .before .full-error .ensures) in
-    let j = judged t f (a .p) (a .ux) (a .uy) (a .best .error) (c .before .before .before .full-error .result) (r .0) (reads-x t f (a .p) (a .ux) (a .uy) ok (r .0)) (reads-y t f (a .p) (a .ux) (a .uy) ok (r .0)) (e .answer) in
-    (better t f (a .p) (a .ux) (a .uy) ok _ (a .best) j (e .most) (c .if2 .taken), held t f (a .p) (a .ux) (a .uy) ok _ (e .most))
-
-returns-3 : tie.Need-returns-3
-returns-3 c =
-    let s = c .before .before .before .before .before .before .before .before .before .before in
-    let a = s .args in
-    let r = s .pre in
-    let t = a .target .now in
-    let f = a .reference .now in
-    let ok : Both (a .p) (a .ux) (a .uy) = record { x = sym (c .before .before .before .before .before .before .before .axis-ok .ensures) ∙ not-false _ (c .before .before .before .before .before .before .if1 .left); y = r .5 } in
-    let none : a .ux % 2 + a .uy % 2 ≡ 0 = omega (arith, r .3, r .4) in
-    let v : Canvas = record { samples = f; stride = a .p .stride; rows = a .p .rows } in
-    let e = summed-full t v (a .p .side) (a .p .side) (a .ux % 2) (a .uy % 2) (a .p .x + a .ux / 2 - 512) (a .p .y + a .uy / 2 - 512) refl none (a .best .error) _ (c .before .before .before .full-error .ensures) in
-    let j = judged t f (a .p) (a .ux) (a .uy) (a .best .error) (c .before .before .before .full-error .result) (r .0) (reads-x t f (a .p) (a .ux) (a .uy) ok (r .0)) (reads-y t f (a .p) (a .ux) (a .uy) ok (r .0)) (e .answer) in
-    (no-better t f (a .p) (a .ux) (a .uy) ok _ (a .best) j (e .most) (c .if2 .left), r .1)
+    let a = c .before .before .before .before .before .before .before .before .args in
+    let r = c .before .before .before .before .before .before .before .before .pre in
+    let ok : Both (a .p) (a .ux) (a .uy) = record { x = sym (c .before .before .before .before .before .axis-ok .ensures) ∙ not-false _ (c .before .before .before .before .if1 .left); y = r .5 } in
+    let q = c .before .block-sum .ensures in
+    let e = full-sum-is (a .target .now) (a .reference .now) (a .p) (a .ux) (a .uy) ok (r .0) (r .3) (r .4) (a .best) _ q in
+    replaced-is (a .target .now) (a .reference .now) (a .p) (a .ux) (a .uy) ok (a .best) _ e (q .small) _ (r .1) (c .replaced .ensures)
 
 pub full-tried-spec : {M : Type 1} → statement M
 full-tried-spec =
@@ -91,10 +61,10 @@ full-tried-spec =
     (tie.spec
     axis-ok-requires
     returns
-    add-full-error
-    sub-full-error
-    add-full-error-2
-    sub-full-error-2
-    full-error-requires
-    returns-2
-    returns-3)
+    add-block-sum
+    sub-block-sum
+    add-block-sum-2
+    sub-block-sum-2
+    block-sum-requires
+    replaced-requires
+    returns-2)
