@@ -186,7 +186,7 @@ fn sum_rows(
 
 // The same at a full sample and between samples, with numbers for the side and the place between samples, so that every loop has a known length and no
 // row a test.
-fn sum_full(
+pub fn sum_full(
     t: &[u8],
     reference: &[u8],
     x0: usize,

@@ -8,6 +8,7 @@ ghost use Rattle.motion.specs.Sum.{vectorSum, errorFound};
 ghost use Rattle.motion.specs.CandidateForms.{raisedEnd, spotSearch, MotionReady, lowered, loweredMv, axisUp, Both, bestSoFar, BestHeld, Spans, Clipped, refined};
 use compensation::svq1_enc_inter::inner::VectorSum;
 use compensation::svq1_enc_inter::inner::block_sum;
+use compensation::svq1_enc_inter::inner::sum_full;
 
 // A block's place, the visible size, the canvas, the block's side, the predicted vector, raised by 1024, and the radius.
 pub struct Spot {
@@ -176,7 +177,7 @@ fn span_of(p: usize, radius: usize) -> Span
     clip(radius, (p - 31) / 2, p / 2, 527)
 }
 
-// One full-sample candidate of a row that is allowed. It calls `block_sum` itself, with plain numbers: `vector_sum` would take the whole spot for each.
+// One full-sample candidate of a row that is allowed: the same sum, without the loops between samples.
 fn full_tried(
     target: &[u8],
     reference: &[u8],
@@ -191,7 +192,7 @@ fn full_tried(
     if !axis_ok(p.side, p.x, p.width, p.px, ux) {
         return best;
     }
-    let s = block_sum(
+    let s = sum_full(
         target,
         reference,
         p.x + ux / 2 - 512,
@@ -199,8 +200,6 @@ fn full_tried(
         p.stride,
         p.rows,
         p.side,
-        0,
-        0,
         best.error,
     );
     replaced(s, ux, uy, best)

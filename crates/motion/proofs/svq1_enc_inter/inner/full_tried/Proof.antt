@@ -16,28 +16,28 @@ returns c =
     let a = s .args in
     (not-x (a .target .now) (a .reference .now) (a .p) (a .ux) (a .uy) _ (sym (c .before .axis-ok .ensures) ∙ not-true _ (c .if1 .taken)), s .pre .1)
 
-add-block-sum : tie.Need-add-block-sum
-add-block-sum c = search needs
+add-sum-full : tie.Need-add-sum-full
+add-sum-full c = search needs
 
-sub-block-sum : tie.Need-sub-block-sum
-sub-block-sum c =
+sub-sum-full : tie.Need-sub-sum-full
+sub-sum-full c =
     let a = c .before .before .before .before .before .args in
     let r = c .before .before .before .before .before .pre in
     let ok : Both (a .p) (a .ux) (a .uy) = record { x = sym (c .before .before .axis-ok .ensures) ∙ not-false _ (c .before .if1 .left); y = r .5 } in
     reads-x (a .target .now) (a .reference .now) (a .p) (a .ux) (a .uy) ok (r .0) .low
 
-add-block-sum-2 : tie.Need-add-block-sum-2
-add-block-sum-2 c = search needs
+add-sum-full-2 : tie.Need-add-sum-full-2
+add-sum-full-2 c = search needs
 
-sub-block-sum-2 : tie.Need-sub-block-sum-2
-sub-block-sum-2 c =
+sub-sum-full-2 : tie.Need-sub-sum-full-2
+sub-sum-full-2 c =
     let a = c .before .before .before .before .before .before .args in
     let r = c .before .before .before .before .before .before .pre in
     let ok : Both (a .p) (a .ux) (a .uy) = record { x = sym (c .before .before .before .axis-ok .ensures) ∙ not-false _ (c .before .before .if1 .left); y = r .5 } in
     reads-y (a .target .now) (a .reference .now) (a .p) (a .ux) (a .uy) ok (r .0) .low
 
-block-sum-requires : tie.Need-block-sum-requires
-block-sum-requires c κs =
+sum-full-requires : tie.Need-sum-full-requires
+sum-full-requires c κs =
     let a = c .before .before .before .before .before .before .args in
     let r = c .before .before .before .before .before .before .pre in
     let ok : Both (a .p) (a .ux) (a .uy) = record { x = sym (c .before .before .before .axis-ok .ensures) ∙ not-false _ (c .before .before .if1 .left); y = r .5 } in
@@ -51,7 +51,7 @@ returns-2 c =
     let a = c .before .before .before .before .before .before .before .before .args in
     let r = c .before .before .before .before .before .before .before .before .pre in
     let ok : Both (a .p) (a .ux) (a .uy) = record { x = sym (c .before .before .before .before .before .axis-ok .ensures) ∙ not-false _ (c .before .before .before .before .if1 .left); y = r .5 } in
-    let q = c .before .block-sum .ensures in
+    let q = c .before .sum-full .ensures in
     let e = full-sum-is (a .target .now) (a .reference .now) (a .p) (a .ux) (a .uy) ok (r .0) (r .3) (r .4) (a .best) _ q in
     replaced-is (a .target .now) (a .reference .now) (a .p) (a .ux) (a .uy) ok (a .best) _ e (q .small) _ (r .1) (c .replaced .ensures)
 
@@ -61,10 +61,10 @@ full-tried-spec =
     (tie.spec
     axis-ok-requires
     returns
-    add-block-sum
-    sub-block-sum
-    add-block-sum-2
-    sub-block-sum-2
-    block-sum-requires
+    add-sum-full
+    sub-sum-full
+    add-sum-full-2
+    sub-sum-full-2
+    sum-full-requires
     replaced-requires
     returns-2)
