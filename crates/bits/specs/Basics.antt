@@ -35,9 +35,9 @@ sum f zero = 0
 sum f (suc n) = sum f n + f n
 
 -- the n values f j, f (j + 1), ..
-unfoldable pub valuesFrom : {A : Type 0} → (ℕ → A) → ℕ → ℕ → List A
-valuesFrom f zero j = []
-valuesFrom f (suc n) j = f j ∷ valuesFrom f n (suc j)
+unfoldable pub values_from : {A : Type 0} → (ℕ → A) → ℕ → ℕ → List A
+values_from f zero j = []
+values_from f (suc n) j = f j ∷ values_from f n (suc j)
 
 -- refusals (document 01, "Refused for what came in"): the first of two that is one, 0 being none. Calls list theirs lowest number first, but for those that document 02 places otherwise
 abbrev pub or_else : ℕ → ℕ → ℕ
@@ -57,9 +57,9 @@ abbrev pub signed_of : ℕ → ℤ
 signed_of n = pick (ltb n 128) (pos n) (negsuc (255 - n))
 
 -- the two's complement byte of a signed number
-abbrev pub signedByte : ℤ → ℕ
-signedByte (pos n) = n
-signedByte (negsuc n) = 255 - n
+abbrev pub signed_byte : ℤ → ℕ
+signed_byte (pos n) = n
+signed_byte (negsuc n) = 255 - n
 
 -- the natural number that a signed one is, 0 below 0
 abbrev pub natural : ℤ → ℕ

@@ -17,18 +17,18 @@ bits_of [] = []
 bits_of (b ∷ bs) = msb 8 b ++ bits_of bs
 
 -- where the byte ends that bit n - 1 lies in
-abbrev pub byteEnd : ℕ → ℕ
-byteEnd n = (n + 7) / 8 * 8
+abbrev pub byte_end : ℕ → ℕ
+byte_end n = (n + 7) / 8 * 8
 
 -- what stands behind the last bit written, bit n - 1: zeros to the end of its byte, and then what bs has
 unfoldable pub cleared : List ℕ → ℕ → List ℕ
-cleared bs n = replicate (byteEnd n - n) 0 ++ drop (byteEnd n) bs
+cleared bs n = replicate (byte_end n - n) 0 ++ drop (byte_end n) bs
 
 -- what stands behind the bits xs that are put into bs at bit `at`; putting none changes nothing
-unfoldable pub afterBits : List ℕ → ℕ → List ℕ → List ℕ
-afterBits bs at [] = drop at bs
-afterBits bs at (x ∷ xs) = cleared bs (at + length (x ∷ xs))
+unfoldable pub after_bits : List ℕ → ℕ → List ℕ → List ℕ
+after_bits bs at [] = drop at bs
+after_bits bs at (x ∷ xs) = cleared bs (at + length (x ∷ xs))
 
 -- the bits bs with xs put at bit `at`: the bits before stay, the unused low bits of the last byte become 0, the rest stays
-unfoldable pub putBits : List ℕ → ℕ → List ℕ → List ℕ
-putBits bs at xs = take at bs ++ (xs ++ afterBits bs at xs)
+unfoldable pub put_bits : List ℕ → ℕ → List ℕ → List ℕ
+put_bits bs at xs = take at bs ++ (xs ++ after_bits bs at xs)

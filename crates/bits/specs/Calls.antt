@@ -1,11 +1,11 @@
 -- What the public calls on bits answer and leave (document 01, refusals 6, 21, 22, 24).
 use Rattle.std.specs.Prelude.{ℕ, ◌+◌, ◌-◌, ◌*◌, ◌^◌, ◌≡◌, ◌&&◌, List, eqb, leb, length, take, drop}
 use Rattle.bits.specs.Basics.{pick, or_else, unless}
-use Rattle.bits.specs.Bits.{val_of, bits_of, putBits}
+use Rattle.bits.specs.Bits.{val_of, bits_of, put_bits}
 use Rattle.bits.specs.declared.svq1_enc.Pushed.{Pushed}
 use Rattle.bits.specs.declared.svq1_enc.Pushed.TheVariants as pushed
 use Rattle.bits.specs.declared.svq1_vlc.BitsRead.{BitsRead}
-use Rattle.bits.specs.declared.svq1_vlc.BitsRead.TheVariants as bits-read
+use Rattle.bits.specs.declared.svq1_vlc.BitsRead.TheVariants as bits_read
 
 -- ---- answers
 -- what a call gives: its value, or the number of document 01's refusal
@@ -14,8 +14,8 @@ pub data Answer (A : Type 0) : Type 0 where
   refused : ℕ → Answer A
 
 -- an answer, unless the number of a refusal is given, 0 being none
-abbrev pub unlessRefused : {A : Type 0} → ℕ → Answer A → Answer A
-unlessRefused n a = pick (eqb n 0) a (refused n)
+abbrev pub unless_refused : {A : Type 0} → ℕ → Answer A → Answer A
+unless_refused n a = pick (eqb n 0) a (refused n)
 
 -- a value read, and the bit behind it
 pub record Read : Type 0 where
@@ -23,34 +23,34 @@ pub record Read : Type 0 where
   pub next : ℕ
 
 -- the number and the values of each case of the answers' enums
-abbrev pub pushedAnswer : Pushed → Answer ℕ
-pushedAnswer (pushed.Next next) = done next
-pushedAnswer (pushed.Refused n) = refused n
+abbrev pub pushed_answer : Pushed → Answer ℕ
+pushed_answer (pushed.Next next) = done next
+pushed_answer (pushed.Refused n) = refused n
 
-abbrev pub bitsAnswer : BitsRead → Answer Read
-bitsAnswer (bits-read.Bits v next) = done (record { value = v; next = next })
-bitsAnswer (bits-read.Refused n) = refused n
+abbrev pub bits_answer : BitsRead → Answer Read
+bits_answer (bits_read.Bits v next) = done (record { value = v; next = next })
+bits_answer (bits_read.Refused n) = refused n
 
 -- ---- refusals, by the bytes of the bit string, the start bit and the width
 -- 21: more than 2^28 bytes, or the start bit lies beyond them
-abbrev pub startRefusal : ℕ → ℕ → ℕ
-startRefusal bytes at = unless (leb bytes (2 ^ 28) && leb at (8 * bytes)) 21
+abbrev pub start_refusal : ℕ → ℕ → ℕ
+start_refusal bytes at = unless (leb bytes (2 ^ 28) && leb at (8 * bytes)) 21
 
 -- else `short` where fewer than w bits are left: 22 in a writer, 24 in a reader
-unfoldable pub roomRefusal : ℕ → ℕ → ℕ → ℕ → ℕ
-roomRefusal bytes at w short = or_else (startRefusal bytes at) (unless (leb w (8 * bytes - at)) short)
+unfoldable pub room_refusal : ℕ → ℕ → ℕ → ℕ → ℕ
+room_refusal bytes at w short = or_else (start_refusal bytes at) (unless (leb w (8 * bytes - at)) short)
 
 -- 6 for a width above 32
-unfoldable pub bitsRefusal : ℕ → ℕ → ℕ → ℕ → ℕ
-bitsRefusal bytes at w short = or_else (unless (leb w 32) 6) (roomRefusal bytes at w short)
+unfoldable pub bits_refusal : ℕ → ℕ → ℕ → ℕ → ℕ
+bits_refusal bytes at w short = or_else (unless (leb w 32) 6) (room_refusal bytes at w short)
 
 -- ---- the calls
 -- the bits xs put at bit `at` of `out`, unless refused: the answer is the bit behind them; `left` is what the slice holds at the end
 pub record Put (refusal : ℕ) (out : List ℕ) (at : ℕ) (xs : List ℕ) (r : Pushed) (left : List ℕ) : Type 0 where
-  pub answer : pushedAnswer r ≡ unlessRefused refusal (done (at + length xs))
-  pub bits : bits_of left ≡ pick (eqb refusal 0) (putBits (bits_of out) at xs) (bits_of out)
+  pub answer : pushed_answer r ≡ unless_refused refusal (done (at + length xs))
+  pub bits : bits_of left ≡ pick (eqb refusal 0) (put_bits (bits_of out) at xs) (bits_of out)
   pub untouched : (refusal ≡ 0 → ⊥) → left ≡ out
 
 -- the number that the w bits from bit `at` on stand for
 unfoldable pub bits_at : List ℕ → ℕ → ℕ → Answer Read
-bits_at s at w = unlessRefused (bitsRefusal (length s) at w 24) (done (record { value = val_of (take w (drop at (bits_of s))); next = at + w }))
+bits_at s at w = unless_refused (bits_refusal (length s) at w 24) (done (record { value = val_of (take w (drop at (bits_of s))); next = at + w }))

@@ -14,24 +14,24 @@ fill_end whole out i n h e = sym (take_all i out (omega arith)) ∙ e ∙ take_a
 
 -- ---- a run written
 -- two runs, the second behind the first
-pub sets-append : (l : List ℕ) (k : ℕ) (x y : List ℕ) → sets l k (x ++ y) ≡ sets (sets l k x) (k + length x) y
-sets-append l k [] y = ap (λ (n : ℕ). sets l n y) (sym (add-zero k))
-sets-append l k (a ∷ x) y =
-    sets-append (set l k a) (suc k) x y
+pub sets_append : (l : List ℕ) (k : ℕ) (x y : List ℕ) → sets l k (x ++ y) ≡ sets (sets l k x) (k + length x) y
+sets_append l k [] y = ap (λ (n : ℕ). sets l n y) (sym (add-zero k))
+sets_append l k (a ∷ x) y =
+    sets_append (set l k a) (suc k) x y
     ∙ ap (λ (n : ℕ). sets (sets (set l k a) (suc k) x) n y) (let e : suc k + length x ≡ k + suc (length x) = omega arith in e)
 
 -- its first i elements are there, and element i is stored
 pub row_step : (o xs : List ℕ) (at i : ℕ) → i < length xs → set (sets o at (take i xs)) (at + i) (get_or xs i 0) ≡ sets o at (take (i + 1) xs)
 row_step o xs at i h =
     let e : length (take i xs) ≡ i = length-take-le i xs (omega arith) in
-    rw (add-one, take-suc xs i 0, sets-append o at (take i xs) (get_or xs i 0 ∷ []), e)
+    rw (add-one, take-suc xs i 0, sets_append o at (take i xs) (get_or xs i 0 ∷ []), e)
 
-pub row-end : (o xs out : List ℕ) (at i : ℕ) → length xs ≤ i → i ≤ length xs → out ≡ sets o at (take i xs) → out ≡ sets o at xs
-row-end o xs out at i a b e = let q : i ≡ length xs = omega arith in e ∙ rw (q, take-length xs)
+pub row_end : (o xs out : List ℕ) (at i : ℕ) → length xs ≤ i → i ≤ length xs → out ≡ sets o at (take i xs) → out ≡ sets o at xs
+row_end o xs out at i a b e = let q : i ≡ length xs = omega arith in e ∙ rw (q, take-length xs)
 
 -- one as long as the list is the list
-pub sets-all : (o xs : List ℕ) → length o ≡ length xs → sets o 0 xs ≡ xs
-sets-all o xs e = sets-eq xs o 0 (omega arith) ∙ rw (drop_of_length-le o {i = 0 + length xs} (omega arith)) (append-nil xs)
+pub sets_all : (o xs : List ℕ) → length o ≡ length xs → sets o 0 xs ≡ xs
+sets_all o xs e = sets-eq xs o 0 (omega arith) ∙ rw (drop_of_length-le o {i = 0 + length xs} (omega arith)) (append-nil xs)
 
 -- ---- the run of w elements from q on, as a part of a slice has it
 abbrev pub run_of : List ℕ → ℕ → ℕ → List ℕ

@@ -20,40 +20,40 @@ pub all_both : {A : Type 0} (P Q R : A → Type 0) (xs : List A) → ((x : A) �
 all_both P Q R [] f h k = tt
 all_both P Q R (x ∷ xs) f h k = (f x h.0 k.0, all_both P Q R xs f h.1 k.1)
 
-pub all-at : {A : Type 0} (P : A → Type 0) (xs : List A) (i : ℕ) (d : A) → i < length xs → All P xs → P (get_or xs i d)
-all-at P [] i d h a = absurd (omega arith)
-all-at P (x ∷ xs) zero d h a = a.0
-all-at P (x ∷ xs) (suc i) d h a = all-at P xs i d (omega arith) a.1
+pub all_at : {A : Type 0} (P : A → Type 0) (xs : List A) (i : ℕ) (d : A) → i < length xs → All P xs → P (get_or xs i d)
+all_at P [] i d h a = absurd (omega arith)
+all_at P (x ∷ xs) zero d h a = a.0
+all_at P (x ∷ xs) (suc i) d h a = all_at P xs i d (omega arith) a.1
 
 pub all_set : {A : Type 0} (P : A → Type 0) (xs : List A) (i : ℕ) (v : A) → P v → All P xs → All P (set xs i v)
 all_set P [] i v p a = tt
 all_set P (x ∷ xs) zero v p a = (p, a.1)
 all_set P (x ∷ xs) (suc i) v p a = (a.0, all_set P xs i v p a.1)
 
-pub all-repeat : {A : Type 0} (P : A → Type 0) (n : ℕ) (x : A) → P x → All P (replicate n x)
-all-repeat P zero x p = tt
-all-repeat P (suc n) x p = (p, all-repeat P n x p)
+pub all_repeat : {A : Type 0} (P : A → Type 0) (n : ℕ) (x : A) → P x → All P (replicate n x)
+all_repeat P zero x p = tt
+all_repeat P (suc n) x p = (p, all_repeat P n x p)
 
 -- ---- those that pass a test
 pick_all : {A : Type 0} (P : A → Type 0) (q : Bool) (x : A) (xs : List A) → (q ≡ true → P x) → All P xs → All P (pick q (x ∷ xs) xs)
 pick_all P true x xs h k = (h refl, k)
 pick_all P false x xs h k = k
 
-pub all-passing : {A : Type 0} (P : A → Type 0) (f : A → Bool) (xs : List A) → All P xs → All P (passing f xs)
+pub all_passing : {A : Type 0} (P : A → Type 0) (f : A → Bool) (xs : List A) → All P xs → All P (passing f xs)
 unfolding passing
-all-passing P f [] h = tt
-all-passing P f (x ∷ xs) h = pick_all P (f x) x (passing f xs) (λ e. h.0) (all-passing P f xs h.1)
+all_passing P f [] h = tt
+all_passing P f (x ∷ xs) h = pick_all P (f x) x (passing f xs) (λ e. h.0) (all_passing P f xs h.1)
 
-pub passing-pass : {A : Type 0} (f : A → Bool) (xs : List A) → All (λ x. f x ≡ true) (passing f xs)
+pub passing_pass : {A : Type 0} (f : A → Bool) (xs : List A) → All (λ x. f x ≡ true) (passing f xs)
 unfolding passing
-passing-pass f [] = tt
-passing-pass f (x ∷ xs) = pick_all (λ x. f x ≡ true) (f x) x (passing f xs) (λ e. e) (passing-pass f xs)
+passing_pass f [] = tt
+passing_pass f (x ∷ xs) = pick_all (λ x. f x ≡ true) (f x) x (passing f xs) (λ e. e) (passing_pass f xs)
 
 -- all of them, where each passes
-pub passing-all : {A : Type 0} (f : A → Bool) (P : A → Type 0) (xs : List A) → ((x : A) → P x → f x ≡ true) → All P xs → passing f xs ≡ xs
+pub passing_all : {A : Type 0} (f : A → Bool) (P : A → Type 0) (xs : List A) → ((x : A) → P x → f x ≡ true) → All P xs → passing f xs ≡ xs
 unfolding passing
-passing-all f P [] e h = refl
-passing-all f P (x ∷ xs) e h = rw (e x h.0) (ap (◌∷◌ x) (passing-all f P xs e h.1))
+passing_all f P [] e h = refl
+passing_all f P (x ∷ xs) e h = rw (e x h.0) (ap (◌∷◌ x) (passing_all f P xs e h.1))
 
 -- the same ones under two tests that agree
 pub passing-same : {A : Type 0} (f e : A → Bool) (P : A → Type 0) (xs : List A) → ((x : A) → P x → f x ≡ e x) → All P xs → passing f xs ≡ passing e xs

@@ -7,25 +7,25 @@ use Rattle.std.proofs.lemmas.Nat.{mod-pow-add}
 use Rattle.std.proofs.Math.Pow.{high}
 use Rattle.std.proofs.Math.Arith.{digits_lt}
 use Rattle.bits.specs.Bits.{msb, val_of, bits_of}
-use Rattle.bits.specs.BitsLaws.{bitsOf-append, msb_split, msb-low, length-msb, length-bitsOf}
+use Rattle.bits.specs.BitsLaws.{bits_of-append, msb_split, msb_low, length_msb, length_bits_of}
 
-pub valOf-append : (xs ys : List ℕ) → val_of (xs ++ ys) ≡ val_of xs * 2 ^ length ys + val_of ys
+pub val_of-append : (xs ys : List ℕ) → val_of (xs ++ ys) ≡ val_of xs * 2 ^ length ys + val_of ys
 unfolding val_of
-valOf-append [] ys = omega arith
-valOf-append (x ∷ xs) ys =
-    rw (valOf-append xs ys, length-append xs ys, pow-add 2 (length xs) (length ys), add-mul, mul_assoc) (omega arith)
+val_of-append [] ys = omega arith
+val_of-append (x ∷ xs) ys =
+    rw (val_of-append xs ys, length-append xs ys, pow-add 2 (length xs) (length ys), add-mul, mul_assoc) (omega arith)
 
-pub valOf-msb : (w v : ℕ) → val_of (msb w v) ≡ v % 2 ^ w
+pub val_of-msb : (w v : ℕ) → val_of (msb w v) ≡ v % 2 ^ w
 unfolding val_of msb
-valOf-msb zero v = omega arith
-valOf-msb (suc w) v =
+val_of-msb zero v = omega arith
+val_of-msb (suc w) v =
     let two : v % 2 ^ suc w ≡ v / 2 ^ w % 2 * 2 ^ w + v % 2 ^ w = subst (λ (m : ℕ). v % 2 ^ m ≡ v / 2 ^ w % 2 * 2 ^ w + v % 2 ^ w) (one-add w) (mod-pow-add v 1 w) in
-    rw (length-msb w v, valOf-msb w v, two)
+    rw (length_msb w v, val_of-msb w v, two)
 
 -- k bits within one byte
-pub part-bits : (s : List ℕ) (q r k z : ℕ) → q < length s → r + (k + z) ≡ 8 → take k (drop (8 * q + r) (bits_of s)) ≡ msb k (get_or s q 0 / 2 ^ z)
+pub part_bits : (s : List ℕ) (q r k z : ℕ) → q < length s → r + (k + z) ≡ 8 → take k (drop (8 * q + r) (bits_of s)) ≡ msb k (get_or s q 0 / 2 ^ z)
 unfolding bits_of
-part-bits s q r k z hq e =
+part_bits s q r k z hq e =
     let b : ℕ = get_or s q 0 in
     let P : List ℕ = bits_of (take q s) in
     let H : List ℕ = msb r (b / 2 ^ (k + z)) in
@@ -34,83 +34,83 @@ part-bits s q r k z hq e =
     let byte : msb 8 b ≡ H ++ (K ++ msb z b) =
     subst (λ (n : ℕ). msb n b ≡ H ++ (K ++ msb z b)) e (rw (msb_split r (k + z) b, msb_split k z b)) in
     let whole : bits_of s ≡ (P ++ H) ++ (K ++ R) =
-    ap bits_of (split_at s q 0 hq) ∙ bitsOf-append (take q s) (b ∷ drop (suc q) s) ∙ rw byte (simp append_assoc) in
-    let hp : length (P ++ H) ≡ 8 * q + r = rw (length-append P H, length-bitsOf (take q s), length-take-le q s (omega arith), length-msb r (b / 2 ^ (k + z))) in
-    rw (whole, drop_at (P ++ H) (K ++ R) (8 * q + r) hp) (take_at K R k (length-msb k (b / 2 ^ z)))
+    ap bits_of (split_at s q 0 hq) ∙ bits_of-append (take q s) (b ∷ drop (suc q) s) ∙ rw byte (simp append_assoc) in
+    let hp : length (P ++ H) ≡ 8 * q + r = rw (length-append P H, length_bits_of (take q s), length-take-le q s (omega arith), length_msb r (b / 2 ^ (k + z))) in
+    rw (whole, drop_at (P ++ H) (K ++ R) (8 * q + r) hp) (take_at K R k (length_msb k (b / 2 ^ z)))
 
 -- the bits from bit at on: n of them and then k more, within a byte
-pub more-bits : (s : List ℕ) (at n q r k z : ℕ) → at + n ≡ 8 * q + r → q < length s → r + (k + z) ≡ 8
+pub more_bits : (s : List ℕ) (at n q r k z : ℕ) → at + n ≡ 8 * q + r → q < length s → r + (k + z) ≡ 8
     → val_of (take (n + k) (drop at (bits_of s))) ≡ val_of (take n (drop at (bits_of s))) * 2 ^ k + get_or s q 0 / 2 ^ z % 2 ^ k
-more-bits s at n q r k z h hq e =
+more_bits s at n q r k z h hq e =
     let K : List ℕ = msb k (get_or s q 0 / 2 ^ z) in
-    let last : take k (drop n (drop at (bits_of s))) ≡ K = rw (drop-drop n at (bits_of s), h) (part-bits s q r k z hq e) in
-    rw (take-add n k (drop at (bits_of s)), last, valOf-append (take n (drop at (bits_of s))) K, length-msb k (get_or s q 0 / 2 ^ z), valOf-msb k (get_or s q 0 / 2 ^ z))
+    let last : take k (drop n (drop at (bits_of s))) ≡ K = rw (drop-drop n at (bits_of s), h) (part_bits s q r k z hq e) in
+    rw (take-add n k (drop at (bits_of s)), last, val_of-append (take n (drop at (bits_of s))) K, length_msb k (get_or s q 0 / 2 ^ z), val_of-msb k (get_or s q 0 / 2 ^ z))
 
 -- each is 0 or 1
 abbrev pub AreBits : List ℕ → Type 0
 AreBits [] = Unit
 AreBits (x ∷ xs) = (x < 2) × AreBits xs
 
-bits-append : (xs ys : List ℕ) → AreBits xs → AreBits ys → AreBits (xs ++ ys)
-bits-append [] ys h k = k
-bits-append (x ∷ xs) ys h k = (h.0, bits-append xs ys h.1 k)
+bits_append : (xs ys : List ℕ) → AreBits xs → AreBits ys → AreBits (xs ++ ys)
+bits_append [] ys h k = k
+bits_append (x ∷ xs) ys h k = (h.0, bits_append xs ys h.1 k)
 
-bits-take : (n : ℕ) (xs : List ℕ) → AreBits xs → AreBits (take n xs)
-bits-take zero xs h = tt
-bits-take (suc n) [] h = tt
-bits-take (suc n) (x ∷ xs) h = (h.0, bits-take n xs h.1)
+bits_take : (n : ℕ) (xs : List ℕ) → AreBits xs → AreBits (take n xs)
+bits_take zero xs h = tt
+bits_take (suc n) [] h = tt
+bits_take (suc n) (x ∷ xs) h = (h.0, bits_take n xs h.1)
 
-bits-drop : (n : ℕ) (xs : List ℕ) → AreBits xs → AreBits (drop n xs)
-bits-drop zero xs h = h
-bits-drop (suc n) [] h = tt
-bits-drop (suc n) (x ∷ xs) h = bits-drop n xs h.1
+bits_drop : (n : ℕ) (xs : List ℕ) → AreBits xs → AreBits (drop n xs)
+bits_drop zero xs h = h
+bits_drop (suc n) [] h = tt
+bits_drop (suc n) (x ∷ xs) h = bits_drop n xs h.1
 
-bits-msb : (w v : ℕ) → AreBits (msb w v)
+bits_msb : (w v : ℕ) → AreBits (msb w v)
 unfolding msb
-bits-msb zero v = tt
-bits-msb (suc w) v = (omega arith, bits-msb w v)
+bits_msb zero v = tt
+bits_msb (suc w) v = (omega arith, bits_msb w v)
 
-bits-of : (s : List ℕ) → AreBits (bits_of s)
+bits_of_lem : (s : List ℕ) → AreBits (bits_of s)
 unfolding bits_of
-bits-of [] = tt
-bits-of (b ∷ s) = bits-append (msb 8 b) (bits_of s) (bits-msb 8 b) (bits-of s)
+bits_of_lem [] = tt
+bits_of_lem (b ∷ s) = bits_append (msb 8 b) (bits_of s) (bits_msb 8 b) (bits_of_lem s)
 
-valOf-lt : (xs : List ℕ) → AreBits xs → val_of xs < 2 ^ length xs
+val_of_lt : (xs : List ℕ) → AreBits xs → val_of xs < 2 ^ length xs
 unfolding val_of
-valOf-lt [] h = omega arith
-valOf-lt (x ∷ xs) h = rw (pow-succ' 2 (length xs)) (digits_lt h.0 (valOf-lt xs h.1))
+val_of_lt [] h = omega arith
+val_of_lt (x ∷ xs) h = rw (pow-succ' 2 (length xs)) (digits_lt h.0 (val_of_lt xs h.1))
 
-msb-valOf : (xs : List ℕ) → AreBits xs → msb (length xs) (val_of xs) ≡ xs
+msb-val_of : (xs : List ℕ) → AreBits xs → msb (length xs) (val_of xs) ≡ xs
 unfolding val_of msb
-msb-valOf [] h = refl
-msb-valOf (x ∷ xs) h =
+msb-val_of [] h = refl
+msb-val_of (x ∷ xs) h =
     let m : x % 2 ≡ x = let l : x < 2 = h.0 in omega arith in
-    rw (high x (length xs) (valOf-lt xs h.1), m, msb-low (length xs) x (val_of xs), msb-valOf xs h.1)
+    rw (high x (length xs) (val_of_lt xs h.1), m, msb_low (length xs) x (val_of xs), msb-val_of xs h.1)
 
 -- n bits of a list of bytes and their number
 module _ (s : List ℕ) (at n : ℕ) (h : at + n ≤ 8 * length s) where
   run_length : length (take n (drop at (bits_of s))) ≡ n
-  run_length = length-take-le n (drop at (bits_of s)) (rw (length-drop at (bits_of s), length-bitsOf s) (omega arith))
+  run_length = length-take-le n (drop at (bits_of s)) (rw (length-drop at (bits_of s), length_bits_of s) (omega arith))
 
-  run-bits : AreBits (take n (drop at (bits_of s)))
-  run-bits = bits-take n (drop at (bits_of s)) (bits-drop at (bits_of s) (bits-of s))
+  run_bits : AreBits (take n (drop at (bits_of s)))
+  run_bits = bits_take n (drop at (bits_of s)) (bits_drop at (bits_of s) (bits_of_lem s))
 
-  pub run-lt : val_of (take n (drop at (bits_of s))) < 2 ^ n
-  run-lt = subst (λ (k : ℕ). val_of (take n (drop at (bits_of s))) < 2 ^ k) run_length (valOf-lt (take n (drop at (bits_of s))) run-bits)
+  pub run_lt : val_of (take n (drop at (bits_of s))) < 2 ^ n
+  run_lt = subst (λ (k : ℕ). val_of (take n (drop at (bits_of s))) < 2 ^ k) run_length (val_of_lt (take n (drop at (bits_of s))) run_bits)
 
   pub run-msb : msb n (val_of (take n (drop at (bits_of s)))) ≡ take n (drop at (bits_of s))
-  run-msb = subst (λ (k : ℕ). msb k (val_of (take n (drop at (bits_of s)))) ≡ take n (drop at (bits_of s))) run_length (msb-valOf (take n (drop at (bits_of s))) run-bits)
+  run-msb = subst (λ (k : ℕ). msb k (val_of (take n (drop at (bits_of s)))) ≡ take n (drop at (bits_of s))) run_length (msb-val_of (take n (drop at (bits_of s))) run_bits)
 
 -- lists of bytes with the same bits are the same: an equation of bits says every byte
 pub bytes_same : (s t : List ℕ) → ((k : ℕ) → get_or s k 0 < 256) → ((k : ℕ) → get_or t k 0 < 256) → bits_of s ≡ bits_of t → s ≡ t
 unfolding bits_of
 bytes_same [] [] hs ht e = refl
-bytes_same [] (b ∷ t) hs ht e = absurd (omega (arith, ap length e, length-bitsOf (b ∷ t)))
-bytes_same (a ∷ s) [] hs ht e = absurd (omega (arith, ap length e, length-bitsOf (a ∷ s)))
+bytes_same [] (b ∷ t) hs ht e = absurd (omega (arith, ap length e, length_bits_of (b ∷ t)))
+bytes_same (a ∷ s) [] hs ht e = absurd (omega (arith, ap length e, length_bits_of (a ∷ s)))
 bytes_same (a ∷ s) (b ∷ t) hs ht e =
-    let first : msb 8 a ≡ msb 8 b = sym (take_at (msb 8 a) (bits_of s) 8 (length-msb 8 a)) ∙ ap (take 8) e ∙ take_at (msb 8 b) (bits_of t) 8 (length-msb 8 b) in
-    let rest : bits_of s ≡ bits_of t = sym (drop_at (msb 8 a) (bits_of s) 8 (length-msb 8 a)) ∙ ap (drop 8) e ∙ drop_at (msb 8 b) (bits_of t) 8 (length-msb 8 b) in
-    let val : a % 256 ≡ b % 256 = sym (valOf-msb 8 a) ∙ ap val_of first ∙ valOf-msb 8 b in
+    let first : msb 8 a ≡ msb 8 b = sym (take_at (msb 8 a) (bits_of s) 8 (length_msb 8 a)) ∙ ap (take 8) e ∙ take_at (msb 8 b) (bits_of t) 8 (length_msb 8 b) in
+    let rest : bits_of s ≡ bits_of t = sym (drop_at (msb 8 a) (bits_of s) 8 (length_msb 8 a)) ∙ ap (drop 8) e ∙ drop_at (msb 8 b) (bits_of t) 8 (length_msb 8 b) in
+    let val : a % 256 ≡ b % 256 = sym (val_of-msb 8 a) ∙ ap val_of first ∙ val_of-msb 8 b in
     let ha : a < 256 = hs 0 in
     let hb : b < 256 = ht 0 in
     let same : a ≡ b = omega arith in

@@ -3,9 +3,9 @@
 ghost use Rattle.std.specs.Prelude.{◌≡◌, ◌+◌, ◌*◌, ◌/◌, ◌%◌, ◌-◌, ◌^◌, ◌<◌, ◌≤◌, min, length, take, drop};
 ghost use Rattle.std.proofs.lemmas.List.Edits.{sets};
 ghost use Rattle.bits.specs.Basics.{signed_of};
-ghost use Rattle.bits.specs.Bits.{msb, val_of, bits_of, putBits};
+ghost use Rattle.bits.specs.Bits.{msb, val_of, bits_of, put_bits};
 ghost use Rattle.bits.specs.BitNeeds.{Fits, Wrote};
-ghost use Rattle.bits.specs.Calls.{startRefusal, roomRefusal, bitsRefusal};
+ghost use Rattle.bits.specs.Calls.{start_refusal, room_refusal, bits_refusal};
 
 // The byte b with its low k bits replaced by v shifted up by z.
 fn byte_with(b: u8, k: u32, z: u32, v: u32) -> u8
@@ -19,7 +19,7 @@ fn byte_with(b: u8, k: u32, z: u32, v: u32) -> u8
 // The n bits of v from bit `at` on, all in one byte, whose bits behind them become 0.
 fn put_part(out: &mut [u8], at: usize, n: u32, v: u32)
     requires { (0 < n) × (at % 8 + n ≤ 8) × (at / 8 < length out.old) × (v < 2 ^ n) }
-    ensures { bits_of out.new ≡ putBits (bits_of out.old) at (msb n v) }
+    ensures { bits_of out.new ≡ put_bits (bits_of out.old) at (msb n v) }
 {
     let q = at / 8;
     let z = 8 - (at % 8) as u32 - n;
@@ -88,7 +88,7 @@ fn joined(acc: u32, k: u32, part: u32) -> u32
 
 // 21 where a bit string is too long or the start bit lies beyond it, else 0.
 pub fn start_refusal(bytes: usize, at: usize) -> u8
-    ensures { result ≡ startRefusal bytes at }
+    ensures { result ≡ start_refusal bytes at }
 {
     if 268435456 < bytes {
         return 21;
@@ -101,7 +101,7 @@ pub fn start_refusal(bytes: usize, at: usize) -> u8
 
 // The same, and `short` where fewer than `width` bits are left.
 pub fn room_refusal(bytes: usize, at: usize, width: u32, short: u8) -> u8
-    ensures { result ≡ roomRefusal bytes at width short }
+    ensures { result ≡ room_refusal bytes at width short }
 {
     if start_refusal(bytes, at) != 0 {
         return 21;
@@ -114,7 +114,7 @@ pub fn room_refusal(bytes: usize, at: usize, width: u32, short: u8) -> u8
 
 // The same, and before it 6 for a width above 32.
 pub fn bits_refusal(bytes: usize, at: usize, width: u32, short: u8) -> u8
-    ensures { result ≡ bitsRefusal bytes at width short }
+    ensures { result ≡ bits_refusal bytes at width short }
 {
     if 32 < width {
         return 6;

@@ -1,6 +1,6 @@
 // Numbers read from a lent slice.
 ghost use Rattle.std.specs.Prelude.{◌≡◌};
-ghost use Rattle.bits.specs.Calls.{bitsAnswer, bits_at};
+ghost use Rattle.bits.specs.Calls.{bits_answer, bits_at};
 
 use super::inner;
 
@@ -13,7 +13,7 @@ pub enum BitsRead {
 
 // The `width` bits from bit `at` on, as a number.
 pub fn read_bits(s: &[u8], at: usize, width: u32) -> BitsRead
-    ensures { bitsAnswer result ≡ bits_at s.now at width }
+    ensures { bits_answer result ≡ bits_at s.now at width }
 {
     let refusal = inner::bits_refusal(s.len(), at, width, 24);
     if refusal != 0 {

@@ -2,8 +2,8 @@
 use Rattle.std.specs.Prelude.{ℕ, zero, suc, List, [], eqb, length}
 use Rattle.std.proofs.Math.Option.{Option, some, none}
 use Rattle.bits.specs.Basics.{pick}
-use Rattle.book.specs.Level.{levelNumber}
-use Rattle.book.specs.Book.{stageTable}
+use Rattle.book.specs.Level.{level_number}
+use Rattle.book.specs.Book.{stage_table}
 use Rattle.book.specs.declared.svq1_blocktree.Subdivision.{Subdivision}
 use Rattle.book.specs.declared.svq1_blocktree.Subdivision.TheVariants.{Parts, Whole}
 use Rattle.book.specs.declared.svq1_vlc.Svq1Half.{Svq1Half}
@@ -11,23 +11,23 @@ use Rattle.book.specs.declared.svq1_vlc.Svq1Half.TheVariants.{Intra, Inter}
 
 -- the number of the level of a block's two parts, for each case of the answer's enum; none for a block that is not split
 abbrev pub parts_of : Subdivision → Option ℕ
-parts_of (Parts l) = some (levelNumber l)
+parts_of (Parts l) = some (level_number l)
 parts_of Whole = none
 
 -- a block's two parts are one level down; L0 has none
-abbrev pub partsLevel : ℕ → Option ℕ
-partsLevel zero = none
-partsLevel (suc d) = some d
+abbrev pub parts_level : ℕ → Option ℕ
+parts_level zero = none
+parts_level (suc d) = some d
 
 -- of two lent stage families the one that the half names
-abbrev pub lentFamily : Svq1Half → List ℕ → List ℕ → List ℕ
-lentFamily Intra intra inter = intra
-lentFamily Inter intra inter = inter
+abbrev pub lent_family : Svq1Half → List ℕ → List ℕ → List ℕ
+lent_family Intra intra inter = intra
+lent_family Inter intra inter = inter
 
 -- bytes of a stage family: 48 entries
-abbrev pub familyBytes : ℕ
-familyBytes = 144
+abbrev pub family_bytes : ℕ
+family_bytes = 144
 
 -- level d's eight entries of a lent family; nothing of one that has another size
-unfoldable pub familyPart : ℕ → List ℕ → List ℕ
-familyPart d family = pick (eqb (length family) familyBytes) (stageTable d family) []
+unfoldable pub family_part : ℕ → List ℕ → List ℕ
+family_part d family = pick (eqb (length family) family_bytes) (stage_table d family) []

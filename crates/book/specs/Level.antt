@@ -5,13 +5,13 @@ use Rattle.book.specs.declared.svq1_blocktree.Svq1Level.{Svq1Level}
 use Rattle.book.specs.declared.svq1_blocktree.Svq1Level.TheVariants.{L0, L1, L2, L3, L4, L5}
 
 -- definitions speak of a level by its number, 0 to 5
-abbrev pub levelNumber : Svq1Level → ℕ
-levelNumber L0 = 0
-levelNumber L1 = 1
-levelNumber L2 = 2
-levelNumber L3 = 3
-levelNumber L4 = 4
-levelNumber L5 = 5
+abbrev pub level_number : Svq1Level → ℕ
+level_number L0 = 0
+level_number L1 = 1
+level_number L2 = 2
+level_number L3 = 3
+level_number L4 = 4
+level_number L5 = 5
 
 -- L1, L3 and L5 are square
 abbrev pub square : ℕ → Bool

@@ -1,8 +1,8 @@
 // The sizes of a lent book and codebook in bytes, and a lent book's tables by name.
 // Functions that only the crates of this repository call. Most have a `requires`: the caller, proved too, meets it.
 ghost use Rattle.std.specs.Prelude.{◌≡◌, ◌≤◌, length};
-ghost use Rattle.book.specs.Book.{bookBytes, modeTable, vector_table, meanTable, stageFamily, stageTable};
-ghost use Rattle.book.specs.Level.{levelNumber};
+ghost use Rattle.book.specs.Book.{book_bytes, mode_table, vector_table, mean_table, stage_family, stage_table};
+ghost use Rattle.book.specs.Level.{level_number};
 
 use super::svq1_blocktree::Svq1Level;
 use super::svq1_vlc::Svq1Half;
@@ -29,7 +29,7 @@ pub const CODEBOOK_BYTES: usize = 23040;
 // The level of this number.
 pub fn level_at(d: usize) -> Svq1Level
     requires { d ≤ 5 }
-    ensures { levelNumber result ≡ d }
+    ensures { level_number result ≡ d }
 {
     match d {
         0 => Svq1Level::L0,
@@ -43,15 +43,15 @@ pub fn level_at(d: usize) -> Svq1Level
 
 // The codes of the modes.
 pub fn mode_table(book: &[u8]) -> &[u8]
-    requires { length book.now ≡ bookBytes }
-    ensures { result.now ≡ modeTable book.now }
+    requires { length book.now ≡ book_bytes }
+    ensures { result.now ≡ mode_table book.now }
 {
     &book[0..MODE_END]
 }
 
 // Those of a vector difference's components.
 pub fn vector_table(book: &[u8]) -> &[u8]
-    requires { length book.now ≡ bookBytes }
+    requires { length book.now ≡ book_bytes }
     ensures { result.now ≡ vector_table book.now }
 {
     &book[MODE_END..VECTOR_END]
@@ -59,38 +59,38 @@ pub fn vector_table(book: &[u8]) -> &[u8]
 
 // Those of the means, for each half.
 pub fn intra_mean_table(book: &[u8]) -> &[u8]
-    requires { length book.now ≡ bookBytes }
-    ensures { result.now ≡ meanTable Svq1Half.Intra book.now }
+    requires { length book.now ≡ book_bytes }
+    ensures { result.now ≡ mean_table Svq1Half.Intra book.now }
 {
     &book[VECTOR_END..INTRA_MEAN_END]
 }
 
 pub fn inter_mean_table(book: &[u8]) -> &[u8]
-    requires { length book.now ≡ bookBytes }
-    ensures { result.now ≡ meanTable Svq1Half.Inter book.now }
+    requires { length book.now ≡ book_bytes }
+    ensures { result.now ≡ mean_table Svq1Half.Inter book.now }
 {
     &book[INTRA_MEAN_END..INTER_MEAN_END]
 }
 
 // Those of the stage counts at all levels, for each half.
 pub fn intra_stage_family(book: &[u8]) -> &[u8]
-    requires { length book.now ≡ bookBytes }
-    ensures { result.now ≡ stageFamily Svq1Half.Intra book.now }
+    requires { length book.now ≡ book_bytes }
+    ensures { result.now ≡ stage_family Svq1Half.Intra book.now }
 {
     &book[INTER_MEAN_END..INTRA_STAGE_END]
 }
 
 pub fn inter_stage_family(book: &[u8]) -> &[u8]
-    requires { length book.now ≡ bookBytes }
-    ensures { result.now ≡ stageFamily Svq1Half.Inter book.now }
+    requires { length book.now ≡ book_bytes }
+    ensures { result.now ≡ stage_family Svq1Half.Inter book.now }
 {
     &book[INTRA_STAGE_END..BOOK_BYTES]
 }
 
 // The mean table of a half.
 pub fn mean_table(book: &[u8], half: Svq1Half) -> &[u8]
-    requires { length book.now ≡ bookBytes }
-    ensures { result.now ≡ meanTable half book.now }
+    requires { length book.now ≡ book_bytes }
+    ensures { result.now ≡ mean_table half book.now }
 {
     match half {
         Svq1Half::Intra => intra_mean_table(book),
@@ -100,8 +100,8 @@ pub fn mean_table(book: &[u8], half: Svq1Half) -> &[u8]
 
 // The stage table of a half and a level.
 pub fn stage_table(book: &[u8], half: Svq1Half, level: Svq1Level) -> &[u8]
-    requires { length book.now ≡ bookBytes }
-    ensures { result.now ≡ stageTable (levelNumber level) (stageFamily half book.now) }
+    requires { length book.now ≡ book_bytes }
+    ensures { result.now ≡ stage_table (level_number level) (stage_family half book.now) }
 {
     let intra = intra_stage_family(book);
     let inter = inter_stage_family(book);

@@ -1,7 +1,7 @@
 // The levels of the block tree.
 ghost use Rattle.std.specs.Prelude.{◌≡◌, ◌≤◌};
-ghost use Rattle.book.specs.Calls.{parts_of, partsLevel};
-ghost use Rattle.book.specs.Level.{levelNumber, width, height, area};
+ghost use Rattle.book.specs.Calls.{parts_of, parts_level};
+ghost use Rattle.book.specs.Level.{level_number, width, height, area};
 
 // The six block sizes of a macroblock's tree, from 4×2 samples to 16×16.
 #[derive(Drop)]
@@ -30,7 +30,7 @@ pub enum Subdivision {
 
 impl Svq1Level {
     pub fn number(self) -> usize
-        ensures { (result ≡ levelNumber self) × (result ≤ 5) }
+        ensures { (result ≡ level_number self) × (result ≤ 5) }
     {
         match self {
             Svq1Level::L0 => 0,
@@ -43,7 +43,7 @@ impl Svq1Level {
     }
 
     pub fn block_dims(self) -> BlockDims
-        ensures { (result.width ≡ width (levelNumber self)) × (result.height ≡ height (levelNumber self)) }
+        ensures { (result.width ≡ width (level_number self)) × (result.height ≡ height (level_number self)) }
     {
         match self {
             Svq1Level::L0 => BlockDims {
@@ -75,7 +75,7 @@ impl Svq1Level {
 
     // Samples of a block, and of a vector for it.
     pub fn vector_length(self) -> usize
-        ensures { result ≡ area (levelNumber self) }
+        ensures { result ≡ area (level_number self) }
     {
         match self {
             Svq1Level::L0 => 8,
@@ -88,7 +88,7 @@ impl Svq1Level {
     }
 
     pub fn subdivide(self) -> Subdivision
-        ensures { parts_of result ≡ partsLevel (levelNumber self) }
+        ensures { parts_of result ≡ parts_level (level_number self) }
     {
         match self {
             Svq1Level::L0 => Subdivision::Whole,

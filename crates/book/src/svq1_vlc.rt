@@ -1,7 +1,7 @@
 // The selectors of stage tables.
 ghost use Rattle.std.specs.Prelude.{◌≡◌};
-ghost use Rattle.book.specs.Level.{levelNumber};
-ghost use Rattle.book.specs.Calls.{lentFamily, familyPart};
+ghost use Rattle.book.specs.Level.{level_number};
+ghost use Rattle.book.specs.Calls.{lent_family, family_part};
 
 use super::svq1_blocktree::Svq1Level;
 
@@ -15,7 +15,7 @@ pub enum Svq1Half {
 impl Svq1Level {
     // The level's eight entries of a family of 48; nothing of a slice that is no family.
     pub fn family_part(self, family: &[u8]) -> &[u8]
-        ensures { result.now ≡ familyPart (levelNumber self) family.now }
+        ensures { result.now ≡ family_part (level_number self) family.now }
     {
         if family.len() != 144 {
             return &family[0..0];
@@ -27,7 +27,7 @@ impl Svq1Level {
 
     // The level's eight entries of the lent family that the half names.
     pub fn stage_table<'a>(self, intra: &'a [u8], inter: &'a [u8], half: Svq1Half) -> &'a [u8]
-        ensures { result.now ≡ familyPart (levelNumber self) (lentFamily half intra.now inter.now) }
+        ensures { result.now ≡ family_part (level_number self) (lent_family half intra.now inter.now) }
     {
         match half {
             Svq1Half::Intra => self.family_part(intra),

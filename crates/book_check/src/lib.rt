@@ -1,7 +1,7 @@
 // What refuses a lent book.
 ghost use Rattle.std.specs.Prelude.{◌≡◌, true, ◌<◌, length, get_or};
-ghost use Rattle.code_tables.specs.Codes.{goodTable};
-ghost use Rattle.book.specs.Book.{bookBytes, codeTableSizes, eachPrefixFree, bookRefusal, dataRefusal};
+ghost use Rattle.code_tables.specs.Codes.{good_table};
+ghost use Rattle.book.specs.Book.{book_bytes, code_table_sizes, each_prefix_free, book_refusal, data_refusal};
 
 use book::inner::{BOOK_BYTES, CODEBOOK_BYTES};
 use code_tables::inner;
@@ -11,15 +11,15 @@ const CODE_TABLE_SIZES: [usize; 16] = [4, 64, 256, 512, 8, 8, 8, 8, 8, 8, 8, 8, 
 
 fn code_table_size(i: usize) -> usize
     requires { i < 16 }
-    ensures { result ≡ get_or codeTableSizes i 0 }
+    ensures { result ≡ get_or code_table_sizes i 0 }
 {
     CODE_TABLE_SIZES[i]
 }
 
 // Whether each of the sixteen tables is prefix-free, with room for the ranges of a table's codes.
 fn each_prefix_free_in(book: &[u8], lows: &mut [u32], highs: &mut [u32]) -> bool
-    requires { (length book.now ≡ bookBytes) × (goodTable book.now ≡ true) × (length lows.old ≡ 512) × (length highs.old ≡ 512) }
-    ensures { result ≡ eachPrefixFree codeTableSizes book.now }
+    requires { (length book.now ≡ book_bytes) × (good_table book.now ≡ true) × (length lows.old ≡ 512) × (length highs.old ≡ 512) }
+    ensures { result ≡ each_prefix_free code_table_sizes book.now }
 {
     let mut i = 0;
     let mut before = 0;
@@ -39,8 +39,8 @@ fn each_prefix_free_in(book: &[u8], lows: &mut [u32], highs: &mut [u32]) -> bool
 
 // The same, with room of its own.
 fn each_prefix_free(book: &[u8]) -> bool
-    requires { (length book.now ≡ bookBytes) × (goodTable book.now ≡ true) }
-    ensures { result ≡ eachPrefixFree codeTableSizes book.now }
+    requires { (length book.now ≡ book_bytes) × (good_table book.now ≡ true) }
+    ensures { result ≡ each_prefix_free code_table_sizes book.now }
 {
     let mut lows = [0u32; 512];
     let mut highs = [0u32; 512];
@@ -49,7 +49,7 @@ fn each_prefix_free(book: &[u8]) -> bool
 
 // 5, 6 or 7 of a lent book, or 0.
 pub fn book_refusal(book: &[u8]) -> u8
-    ensures { result ≡ bookRefusal book.now }
+    ensures { result ≡ book_refusal book.now }
 {
     if book.len() != BOOK_BYTES {
         return 5;
@@ -65,7 +65,7 @@ pub fn book_refusal(book: &[u8]) -> u8
 
 // The same of a lent book and codebook.
 pub fn data_refusal(book: &[u8], codebook: &[u8]) -> u8
-    ensures { result ≡ dataRefusal book.now codebook.now }
+    ensures { result ≡ data_refusal book.now codebook.now }
 {
     if codebook.len() != CODEBOOK_BYTES {
         return 5;

@@ -2,10 +2,10 @@
 use Rattle.std.specs.Prelude.{ℕ, zero, suc, ◌+◌, ◌/◌, ◌%◌, Bool, true, ◌&&◌, List, [], ◌∷◌, ◌++◌, eqb, ltb}
 use Rattle.std.proofs.Math.Option.{Option, none, some}
 use Rattle.bits.specs.Basics.{pick, first_of, unless}
-use Rattle.code_tables.specs.Codes.{codeLen, codeVal}
-use Rattle.text.specs.Text.{ascii, decimal, numberUpTo, line_of, lines_of, fields_of, same}
-use Rattle.text.specs.WritingForms.{textRefusal}
-use Rattle.book.specs.Book.{bookEntries, codesRefusal, bookRefusal}
+use Rattle.code_tables.specs.Codes.{code_len, code_val}
+use Rattle.text.specs.Text.{ascii, decimal, number_up_to, line_of, lines_of, fields_of, same}
+use Rattle.text.specs.WritingForms.{text_refusal}
+use Rattle.book.specs.Book.{book_entries, codes_refusal, book_refusal}
 
 -- a table as a file names it, its first entry in a book and its entries
 pub record Table : Type 0 where
@@ -14,8 +14,8 @@ pub record Table : Type 0 where
   pub size : ℕ
 
 -- the six tables in a book's order, which is the file's
-abbrev pub fileTables : List Table
-fileTables =
+abbrev pub file_tables : List Table
+file_tables =
     record { name = ascii "mode"; from = 0; size = 4 }
     ∷ record { name = ascii "vector"; from = 4; size = 64 }
     ∷ record { name = ascii "intramean"; from = 68; size = 256 }
@@ -26,26 +26,26 @@ fileTables =
 
 -- ---- the file of a book
 -- the line at position p of a table: table, position, length, code
-unfoldable pub tableLine : List ℕ → Table → ℕ → List ℕ
-tableLine book t p = line_of (t.name ∷ decimal p ∷ decimal (codeLen book (t.from + p)) ∷ decimal (codeVal book (t.from + p)) ∷ [])
+unfoldable pub table_line : List ℕ → Table → ℕ → List ℕ
+table_line book t p = line_of (t.name ∷ decimal p ∷ decimal (code_len book (t.from + p)) ∷ decimal (code_val book (t.from + p)) ∷ [])
 
 -- the lines of a table's first n positions, rising
-unfoldable pub tableLines : List ℕ → Table → ℕ → List ℕ
-tableLines book t zero = []
-tableLines book t (suc n) = tableLines book t n ++ tableLine book t n
+unfoldable pub table_lines : List ℕ → Table → ℕ → List ℕ
+table_lines book t zero = []
+table_lines book t (suc n) = table_lines book t n ++ table_line book t n
 
 -- tables one behind the other
-unfoldable pub tablesText : List ℕ → List Table → List ℕ
-tablesText book [] = []
-tablesText book (t ∷ ts) = tableLines book t t.size ++ tablesText book ts
+unfoldable pub tables_text : List ℕ → List Table → List ℕ
+tables_text book [] = []
+tables_text book (t ∷ ts) = table_lines book t t.size ++ tables_text book ts
 
 -- the one file of a book
-unfoldable pub bookFile : List ℕ → List ℕ
-bookFile book = tablesText book fileTables
+unfoldable pub book_file : List ℕ → List ℕ
+book_file book = tables_text book file_tables
 
 -- 5, 6 or 7 of a book to be filed, then 20: the slice lent for its file is shorter than the file
-unfoldable pub writeFileRefusal : List ℕ → ℕ → ℕ
-writeFileRefusal book room = first_of (bookRefusal book ∷ textRefusal (bookFile book) room ∷ [])
+unfoldable pub write_file_refusal : List ℕ → ℕ → ℕ
+write_file_refusal book room = first_of (book_refusal book ∷ text_refusal (book_file book) room ∷ [])
 
 -- ---- the lines of a file
 -- what a line says: the code's length and value at an entry of the book
@@ -55,13 +55,13 @@ pub record Line : Type 0 where
   pub value : ℕ
 
 -- the entry that a table's name and a position mean; none for another name or a position past the table
-unfoldable pub entryNamed : List Table → List ℕ → ℕ → Option ℕ
-entryNamed [] name p = none
-entryNamed (t ∷ ts) name p = pick (same t.name name) (pick (ltb p t.size) (some (t.from + p)) none) (entryNamed ts name p)
+unfoldable pub entry_named : List Table → List ℕ → ℕ → Option ℕ
+entry_named [] name p = none
+entry_named (t ∷ ts) name p = pick (same t.name name) (pick (ltb p t.size) (some (t.from + p)) none) (entry_named ts name p)
 
 -- a field of a line: a decimal number up to 65,535
-abbrev pub lineNumber : List ℕ → Option ℕ
-lineNumber = numberUpTo 65535
+abbrev pub line_number : List ℕ → Option ℕ
+line_number = number_up_to 65535
 
 abbrev pub line_at : Option ℕ → Option ℕ → Option ℕ → Option Line
 line_at none n v = none
@@ -70,35 +70,35 @@ line_at (some e) (some n) none = none
 line_at (some e) (some n) (some v) = some (record { entry = e; long = n; value = v })
 
 -- the entry of a name and a position field
-abbrev pub entryField : List ℕ → Option ℕ → Option ℕ
-entryField name none = none
-entryField name (some p) = entryNamed fileTables name p
+abbrev pub entry_field : List ℕ → Option ℕ → Option ℕ
+entry_field name none = none
+entry_field name (some p) = entry_named file_tables name p
 
 -- table, position, length, code; none where a line has another form
-unfoldable pub lineRead : List (List ℕ) → Option Line
-lineRead [] = none
-lineRead (t ∷ []) = none
-lineRead (t ∷ (p ∷ [])) = none
-lineRead (t ∷ (p ∷ (n ∷ []))) = none
-lineRead (t ∷ (p ∷ (n ∷ (v ∷ [])))) = line_at (entryField t (lineNumber p)) (lineNumber n) (lineNumber v)
-lineRead (t ∷ (p ∷ (n ∷ (v ∷ (x ∷ xs))))) = none
+unfoldable pub line_read : List (List ℕ) → Option Line
+line_read [] = none
+line_read (t ∷ []) = none
+line_read (t ∷ (p ∷ [])) = none
+line_read (t ∷ (p ∷ (n ∷ []))) = none
+line_read (t ∷ (p ∷ (n ∷ (v ∷ [])))) = line_at (entry_field t (line_number p)) (line_number n) (line_number v)
+line_read (t ∷ (p ∷ (n ∷ (v ∷ (x ∷ xs))))) = none
 
 -- all lines, none where one of them is malformed
-abbrev pub ontoLines : Option Line → Option (List Line) → Option (List Line)
-ontoLines none ls = none
-ontoLines (some l) none = none
-ontoLines (some l) (some ls) = some (l ∷ ls)
+abbrev pub onto_lines : Option Line → Option (List Line) → Option (List Line)
+onto_lines none ls = none
+onto_lines (some l) none = none
+onto_lines (some l) (some ls) = some (l ∷ ls)
 
 unfoldable pub lines_read : List (List ℕ) → Option (List Line)
 lines_read [] = some []
-lines_read (t ∷ ts) = ontoLines (lineRead (fields_of t)) (lines_read ts)
+lines_read (t ∷ ts) = onto_lines (line_read (fields_of t)) (lines_read ts)
 
-abbrev pub ofLines : Option (List (List ℕ)) → Option (List Line)
-ofLines none = none
-ofLines (some ls) = lines_read ls
+abbrev pub of_lines : Option (List (List ℕ)) → Option (List Line)
+of_lines none = none
+of_lines (some ls) = lines_read ls
 
-unfoldable pub fileLines : List ℕ → Option (List Line)
-fileLines file = ofLines (lines_of file)
+unfoldable pub file_lines : List ℕ → Option (List Line)
+file_lines file = of_lines (lines_of file)
 
 -- how many lines speak of entry e
 unfoldable pub mentions : ℕ → List Line → ℕ
@@ -106,35 +106,35 @@ mentions e [] = 0
 mentions e (l ∷ ls) = pick (eqb l.entry e) 1 0 + mentions e ls
 
 -- each of the n entries from e on has one line
-unfoldable pub onceEach : ℕ → ℕ → List Line → Bool
-onceEach zero e ls = true
-onceEach (suc n) e ls = eqb (mentions e ls) 1 && onceEach n (suc e) ls
+unfoldable pub once_each : ℕ → ℕ → List Line → Bool
+once_each zero e ls = true
+once_each (suc n) e ls = eqb (mentions e ls) 1 && once_each n (suc e) ls
 
 -- the lines follow a book's order: entry after entry from e on
-unfoldable pub inOrder : ℕ → List Line → Bool
-inOrder e [] = true
-inOrder e (l ∷ ls) = eqb l.entry e && inOrder (suc e) ls
+unfoldable pub in_order : ℕ → List Line → Bool
+in_order e [] = true
+in_order e (l ∷ ls) = eqb l.entry e && in_order (suc e) ls
 
 -- the book of lines in order, three bytes each: the code's high byte, its low byte, its length. A length that no byte holds is refused by 6
-unfoldable pub bookOf : List Line → List ℕ
-bookOf [] = []
-bookOf (l ∷ ls) = l.value / 256 ∷ l.value % 256 ∷ l.long ∷ bookOf ls
+unfoldable pub book_of : List Line → List ℕ
+book_of [] = []
+book_of (l ∷ ls) = l.value / 256 ∷ l.value % 256 ∷ l.long ∷ book_of ls
 
 -- 5: a line malformed, missing or doubled. 30: all lines are there, in another order. 6 and 7 as for a lent book
-unfoldable pub linesRefusal : List Line → ℕ
-linesRefusal ls = first_of (unless (onceEach bookEntries 0 ls) 5 ∷ unless (inOrder 0 ls) 30 ∷ codesRefusal (bookOf ls) ∷ [])
+unfoldable pub lines_refusal : List Line → ℕ
+lines_refusal ls = first_of (unless (once_each book_entries 0 ls) 5 ∷ unless (in_order 0 ls) 30 ∷ codes_refusal (book_of ls) ∷ [])
 
-abbrev pub refusalRead : Option (List Line) → ℕ
-refusalRead none = 5
-refusalRead (some ls) = linesRefusal ls
+abbrev pub refusal_read : Option (List Line) → ℕ
+refusal_read none = 5
+refusal_read (some ls) = lines_refusal ls
 
-unfoldable pub fileRefusal : List ℕ → ℕ
-fileRefusal file = refusalRead (fileLines file)
+unfoldable pub file_refusal : List ℕ → ℕ
+file_refusal file = refusal_read (file_lines file)
 
-abbrev pub bookRead : Option (List Line) → List ℕ
-bookRead none = []
-bookRead (some ls) = bookOf ls
+abbrev pub book_read : Option (List Line) → List ℕ
+book_read none = []
+book_read (some ls) = book_of ls
 
 -- the book that an accepted file holds
-unfoldable pub fileBook : List ℕ → List ℕ
-fileBook file = bookRead (fileLines file)
+unfoldable pub file_book : List ℕ → List ℕ
+file_book file = book_read (file_lines file)

@@ -4,135 +4,135 @@ use Rattle.std.specs.Prelude.{◌≡◌, refl, true, false, ◌&&◌, List, [], 
 use Rattle.std.proofs.Math.Path.{sym, ap}
 use Rattle.std.proofs.Common.{◌∙◌, arith, take_at, leb-true}
 use Rattle.std.proofs.Math.Option.{Option, none, some}
-use Rattle.bits.specs.Basics.{All, Bytes, unless, valuesFrom}
-use Rattle.bits.specs.BasicsLaws.{first-none, unless-none, both_true, length-values}
-use Rattle.code_tables.specs.Codes.{goodEntry, goodTable}
-use Rattle.text.specs.WritingForms.{putText, TextWritten}
+use Rattle.bits.specs.Basics.{All, Bytes, unless, values_from}
+use Rattle.bits.specs.BasicsLaws.{first-none, unless-none, both_true, length_values}
+use Rattle.code_tables.specs.Codes.{good_entry, good_table}
+use Rattle.text.specs.WritingForms.{put_text, TextWritten}
 use Rattle.text.specs.declared.Written.{Written}
-use Rattle.book.specs.Book.{bookEntries, bookBytes, codesRefusal, bookRefusal}
+use Rattle.book.specs.Book.{book_entries, book_bytes, codes_refusal, book_refusal}
 use Rattle.book.specs.BookLaws.{good_book}
-use Rattle.book_file.specs.BookFile.{Line, bookFile, writeFileRefusal, fileLines, onceEach, inOrder, bookOf, linesRefusal, refusalRead, fileRefusal, fileBook}
-use Rattle.book_file.specs.FileText.{line_for, bookLines, fileOf}
-use Rattle.book_file.specs.FileLength.{fileLength, longestBookFile}
-use Rattle.book_file.specs.FileLengthLaws.{file-length, file-most}
-use Rattle.book_file.specs.BookFileFormsLaws.{LineFits, file-fits}
-use Rattle.book_file.specs.FileTextLaws.{file-back, file-lines}
-use Rattle.book_file.specs.OneFileLaws.{file-text}
-use Rattle.book_file.specs.OrderLaws.{order-once, book-length, order-lines, values-order, values-book, codes-good}
-use Rattle.book_file.specs.CallLaws.{lines-moved, lines_codes, book-codes, whole_length}
+use Rattle.book_file.specs.BookFile.{Line, book_file, write_file_refusal, file_lines, once_each, in_order, book_of, lines_refusal, refusal_read, file_refusal, file_book}
+use Rattle.book_file.specs.FileText.{line_for, book_lines, file_of}
+use Rattle.book_file.specs.FileLength.{file_length, longest_book_file}
+use Rattle.book_file.specs.FileLengthLaws.{file_length_lem, file_most}
+use Rattle.book_file.specs.BookFileFormsLaws.{LineFits, file_fits}
+use Rattle.book_file.specs.FileTextLaws.{file_back, file_lines_lem}
+use Rattle.book_file.specs.OneFileLaws.{file_text}
+use Rattle.book_file.specs.OrderLaws.{order_once, book_length_lem, order_lines, values_order, values_book, codes_good}
+use Rattle.book_file.specs.CallLaws.{lines_moved, lines_codes, book_codes, whole_length}
 
 -- ---- a book's file is read
 module _ (book : List ℕ) (bytes : Bytes book) where
-  values-fit : (n e : ℕ) → e + n ≤ bookEntries → All LineFits (valuesFrom (line_for book) n e)
-  unfolding valuesFrom
-  values-fit zero e h = tt
-  values-fit (suc n) e h = (
+  values_fit : (n e : ℕ) → e + n ≤ book_entries → All LineFits (values_from (line_for book) n e)
+  unfolding values_from
+  values_fit zero e h = tt
+  values_fit (suc n) e h = (
     record {
       entry-below = omega arith;
-      long-le = omega (arith, bytes (3 * e + 2));
-      value-le = omega (arith, bytes (3 * e), bytes (3 * e + 1));
+      long_le = omega (arith, bytes (3 * e + 2));
+      value_le = omega (arith, bytes (3 * e), bytes (3 * e + 1));
     },
-    values-fit n (suc e) (omega arith),
+    values_fit n (suc e) (omega arith),
   )
 
-  filed-lines : fileLines (bookFile book) ≡ some (bookLines book)
-  filed-lines = ap fileLines (file-lines book) ∙ file-back (bookLines book) (values-fit bookEntries 0 (omega arith))
+  filed_lines : file_lines (book_file book) ≡ some (book_lines book)
+  filed_lines = ap file_lines (file_lines_lem book) ∙ file_back (book_lines book) (values_fit book_entries 0 (omega arith))
 
-  module _ (size : length book ≡ bookBytes) where
-    filed-is : bookOf (bookLines book) ≡ book
-    filed-is = values-book book bookEntries 0 bytes (omega (arith, size))
+  module _ (size : length book ≡ book_bytes) where
+    filed_is : book_of (book_lines book) ≡ book
+    filed_is = values_book book book_entries 0 bytes (omega (arith, size))
 
     -- it is refused as the book is
-    filed-refused : fileRefusal (bookFile book) ≡ bookRefusal book
-    unfolding fileRefusal
-    filed-refused =
-        let order = values-order book bookEntries 0 in
-        rw filed-lines (lines_codes (bookLines book) (order-once (bookLines book) order (length-values (line_for book) bookEntries 0)) order ∙ ap codesRefusal filed-is ∙ sym (book-codes book size))
+    filed_refused : file_refusal (book_file book) ≡ book_refusal book
+    unfolding file_refusal
+    filed_refused =
+        let order = values_order book book_entries 0 in
+        rw filed_lines (lines_codes (book_lines book) (order_once (book_lines book) order (length_values (line_for book) book_entries 0)) order ∙ ap codes_refusal filed_is ∙ sym (book_codes book size))
 
     -- and holds it
-    filed-read : fileBook (bookFile book) ≡ book
-    unfolding fileBook
-    filed-read = rw filed-lines filed-is
+    filed_read : file_book (book_file book) ≡ book
+    unfolding file_book
+    filed_read = rw filed_lines filed_is
 
 -- what holds of the file of a book of bytes: it is refused as the book is and holds it; its length, and the most that it can be
 pub record FiledBook (book : List ℕ) : Type 0 where
-  pub refused : fileRefusal (bookFile book) ≡ bookRefusal book
-  pub holds : fileBook (bookFile book) ≡ book
-  pub long : length (bookFile book) ≡ fileLength book
-  pub most : bookRefusal book ≡ 0 → length (bookFile book) ≤ longestBookFile
+  pub refused : file_refusal (book_file book) ≡ book_refusal book
+  pub holds : file_book (book_file book) ≡ book
+  pub long : length (book_file book) ≡ file_length book
+  pub most : book_refusal book ≡ 0 → length (book_file book) ≤ longest_book_file
 
-pub filed : (book : List ℕ) → Bytes book → length book ≡ bookBytes → FiledBook book
-filed book bytes size = record { refused = filed-refused book bytes size; holds = filed-read book bytes size; long = file-length book; most = file-most book bytes }
+pub filed : (book : List ℕ) → Bytes book → length book ≡ book_bytes → FiledBook book
+filed book bytes size = record { refused = filed_refused book bytes size; holds = filed_read book bytes size; long = file_length_lem book; most = file_most book bytes }
 
 -- what a call has written is read as the book
-pub written_read : (book out : List ℕ) (r : Written) (left : List ℕ) → Bytes book → writeFileRefusal book (length out) ≡ 0
-    → TextWritten (writeFileRefusal book (length out)) (bookFile book) out r left → (fileRefusal (take r.bytes left) ≡ 0) × (fileBook (take r.bytes left) ≡ book)
-unfolding writeFileRefusal putText
+pub written_read : (book out : List ℕ) (r : Written) (left : List ℕ) → Bytes book → write_file_refusal book (length out) ≡ 0
+    → TextWritten (write_file_refusal book (length out)) (book_file book) out r left → (file_refusal (take r.bytes left) ≡ 0) × (file_book (take r.bytes left) ≡ book)
+unfolding write_file_refusal put_text
 written_read book out r left bytes z w =
-    let passes : bookRefusal book ≡ 0 = (first-none _ z).0 in
+    let passes : book_refusal book ≡ 0 = (first-none _ z).0 in
     let f = filed book bytes (good_book book passes).size in
-    let long : r.bytes ≡ length (bookFile book) = ap (λ (x : Written). x.bytes) w.answer ∙ rw z in
-    let text : take r.bytes left ≡ bookFile book = rw (long, w.left, z) (take_at (bookFile book) _ (length (bookFile book)) refl) in
+    let long : r.bytes ≡ length (book_file book) = ap (λ (x : Written). x.bytes) w.answer ∙ rw z in
+    let text : take r.bytes left ≡ book_file book = rw (long, w.left, z) (take_at (book_file book) _ (length (book_file book)) refl) in
     rw text (f.refused ∙ passes, f.holds)
 
 -- a book's lines, each once, in another order
-pub filed-otherwise : (ls : List Line) → All LineFits ls → onceEach bookEntries 0 ls ≡ true → inOrder 0 ls ≡ false → fileRefusal (fileOf ls) ≡ 30
-unfolding fileRefusal
-filed-otherwise ls fit once moved = rw (file-back ls fit) (lines-moved ls once moved)
+pub filed_otherwise : (ls : List Line) → All LineFits ls → once_each book_entries 0 ls ≡ true → in_order 0 ls ≡ false → file_refusal (file_of ls) ≡ 30
+unfolding file_refusal
+filed_otherwise ls fit once moved = rw (file_back ls fit) (lines_moved ls once moved)
 
 -- ---- what is accepted
 -- the book that an accepted file holds, as bytes that pass, and the file as its text
 pub record FileAccepted (file : List ℕ) : Type 0 where
-  pub bytes : Bytes (fileBook file)
-  pub passes : bookRefusal (fileBook file) ≡ 0
-  pub text : file ≡ bookFile (fileBook file)
+  pub bytes : Bytes (file_book file)
+  pub passes : book_refusal (file_book file) ≡ 0
+  pub text : file ≡ book_file (file_book file)
 
-book-bytes : (ls : List Line) → All LineFits ls → goodTable (bookOf ls) ≡ true → Bytes (bookOf ls)
-unfolding bookOf goodTable
-book-bytes [] fit g k = omega arith
-book-bytes (l ∷ ls) fit g zero = omega (arith, fit.0.value-le)
-book-bytes (l ∷ ls) fit g (suc zero) = omega arith
-book-bytes (l ∷ ls) fit g (suc (suc zero)) =
+book_bytes_lem : (ls : List Line) → All LineFits ls → good_table (book_of ls) ≡ true → Bytes (book_of ls)
+unfolding book_of good_table
+book_bytes_lem [] fit g k = omega arith
+book_bytes_lem (l ∷ ls) fit g zero = omega (arith, fit.0.value_le)
+book_bytes_lem (l ∷ ls) fit g (suc zero) = omega arith
+book_bytes_lem (l ∷ ls) fit g (suc (suc zero)) =
     let v : ℕ = l.value / 256 * 256 + l.value % 256 in
-    let good : goodEntry v l.long ≡ true = (both_true (goodEntry v l.long) (goodTable (bookOf ls)) g).0 in
+    let good : good_entry v l.long ≡ true = (both_true (good_entry v l.long) (good_table (book_of ls)) g).0 in
     omega (arith, leb-true l.long 32 (both_true (leb 1 l.long) (leb l.long 32) (both_true (leb 1 l.long && leb l.long 32) (ltb v (2 ^ l.long)) good).0).1)
-book-bytes (l ∷ ls) fit g (suc (suc (suc k))) = book-bytes ls fit.1 (both_true (goodEntry (l.value / 256 * 256 + l.value % 256) l.long) (goodTable (bookOf ls)) g).1 k
+book_bytes_lem (l ∷ ls) fit g (suc (suc (suc k))) = book_bytes_lem ls fit.1 (both_true (good_entry (l.value / 256 * 256 + l.value % 256) l.long) (good_table (book_of ls)) g).1 k
 
-module _ (ls : List Line) (fit : All LineFits ls) (passes : linesRefusal ls ≡ 0) where
-  links : All (λ n. n ≡ 0) (unless (onceEach bookEntries 0 ls) 5 ∷ unless (inOrder 0 ls) 30 ∷ codesRefusal (bookOf ls) ∷ [])
-  unfolding linesRefusal
+module _ (ls : List Line) (fit : All LineFits ls) (passes : lines_refusal ls ≡ 0) where
+  links : All (λ n. n ≡ 0) (unless (once_each book_entries 0 ls) 5 ∷ unless (in_order 0 ls) 30 ∷ codes_refusal (book_of ls) ∷ [])
+  unfolding lines_refusal
   links = first-none _ passes
 
-  order : inOrder 0 ls ≡ true
-  order = unless-none (inOrder 0 ls) 30 (omega arith) links.1.0
+  order : in_order 0 ls ≡ true
+  order = unless-none (in_order 0 ls) 30 (omega arith) links.1.0
 
-  many : length ls ≡ bookEntries
-  many = whole_length ls fit (unless-none (onceEach bookEntries 0 ls) 5 (omega arith) links.0) order
+  many : length ls ≡ book_entries
+  many = whole_length ls fit (unless-none (once_each book_entries 0 ls) 5 (omega arith) links.0) order
 
-  lines-bytes : Bytes (bookOf ls)
-  lines-bytes = book-bytes ls fit (codes-good (bookOf ls) links.1.1.0)
+  lines_bytes : Bytes (book_of ls)
+  lines_bytes = book_bytes_lem ls fit (codes_good (book_of ls) links.1.1.0)
 
-  lines-pass : bookRefusal (bookOf ls) ≡ 0
-  lines-pass = book-codes (bookOf ls) (omega (arith, book-length ls, many)) ∙ links.1.1.0
+  lines_pass : book_refusal (book_of ls) ≡ 0
+  lines_pass = book_codes (book_of ls) (omega (arith, book_length_lem ls, many)) ∙ links.1.1.0
 
-  lines-text : fileOf ls ≡ bookFile (bookOf ls)
-  lines-text = let own : ls ≡ bookLines (bookOf ls) = rw many at (order-lines ls order) in ap fileOf own ∙ sym (file-lines (bookOf ls))
+  lines_text : file_of ls ≡ book_file (book_of ls)
+  lines_text = let own : ls ≡ book_lines (book_of ls) = rw many at (order_lines ls order) in ap file_of own ∙ sym (file_lines_lem (book_of ls))
 
-pub accepted : (file : List ℕ) → fileRefusal file ≡ 0 → FileAccepted file
-unfolding fileRefusal fileBook
-accepted file passes = go (fileLines file) refl (sym passes)
+pub accepted : (file : List ℕ) → file_refusal file ≡ 0 → FileAccepted file
+unfolding file_refusal file_book
+accepted file passes = go (file_lines file) refl (sym passes)
   where
-    go : (o : Option (List Line)) → fileLines file ≡ o → 0 ≡ refusalRead (fileLines file) → FileAccepted file
+    go : (o : Option (List Line)) → file_lines file ≡ o → 0 ≡ refusal_read (file_lines file) → FileAccepted file
     go none q z = absurd (omega (arith, rw q at z))
     go (some ls) q z =
-        let fit = file-fits file ls q in
-        let fine : linesRefusal ls ≡ 0 = sym (rw q at z) in
+        let fit = file_fits file ls q in
+        let fine : lines_refusal ls ≡ 0 = sym (rw q at z) in
         record {
-          bytes = rw q (lines-bytes ls fit fine);
-          passes = rw q (lines-pass ls fit fine);
-          text = rw q (file-text file ls q ∙ lines-text ls fit fine);
+          bytes = rw q (lines_bytes ls fit fine);
+          passes = rw q (lines_pass ls fit fine);
+          text = rw q (file_text file ls q ∙ lines_text ls fit fine);
         }
 
 -- a book has one file
-pub one-file : (file other : List ℕ) → fileRefusal file ≡ 0 → fileRefusal other ≡ 0 → fileBook file ≡ fileBook other → file ≡ other
-one-file file other p q same = (accepted file p).text ∙ ap bookFile same ∙ sym (accepted other q).text
+pub one_file : (file other : List ℕ) → file_refusal file ≡ 0 → file_refusal other ≡ 0 → file_book file ≡ file_book other → file ≡ other
+one_file file other p q same = (accepted file p).text ∙ ap book_file same ∙ sym (accepted other q).text

@@ -7,16 +7,16 @@ use mathlib.Core.List.{List, [], ◌∷◌}
 use native.Mathlib.Omega.{arith}
 use Rattle.std.proofs.Math.ListN.{length-append}
 use Rattle.bits.specs.Basics.{sum, Bytes}
-use Rattle.bits.specs.SumLaws.{sum-each-le, sum-add}
-use Rattle.code_tables.specs.Codes.{codeLen, codeVal}
-use Rattle.code_tables.specs.CodesLaws.{good-is}
-use Rattle.text.specs.Text.{digitsBefore, decimal}
-use Rattle.text.specs.LengthLaws.{decimal-few, fieldsSize, line-size}
-use Rattle.book.specs.Book.{bookEntries, bookRefusal}
+use Rattle.bits.specs.SumLaws.{sum_each_le, sum_add}
+use Rattle.code_tables.specs.Codes.{code_len, code_val}
+use Rattle.code_tables.specs.CodesLaws.{good_is}
+use Rattle.text.specs.Text.{digits_before, decimal}
+use Rattle.text.specs.LengthLaws.{decimal_few, fields_size, line_size}
+use Rattle.book.specs.Book.{book_entries, book_refusal}
 use Rattle.book.specs.BookLaws.{good_book}
-use Rattle.book_file.specs.BookFile.{Table, fileTables, tableLine, tableLines, tablesText, bookFile}
-use Rattle.book_file.specs.FileTextLaws.{Follow, tables-follow}
-use Rattle.book_file.specs.FileLength.{digitsAt, frameBytes, fileLength, longestBookFile}
+use Rattle.book_file.specs.BookFile.{Table, file_tables, table_line, table_lines, tables_text, book_file}
+use Rattle.book_file.specs.FileTextLaws.{Follow, tables_follow}
+use Rattle.book_file.specs.FileLength.{digits_at, frame_bytes, file_length, longest_book_file}
 
 -- ---- beside lengths and codes
 -- what the line at position p of a table holds beside length and code
@@ -27,56 +27,56 @@ unfoldable frames : List Table → ℕ
 frames [] = 0
 frames (t ∷ ts) = sum (frame_at t) t.size + frames ts
 
-frames-all : frames fileTables ≡ frameBytes
-unfolding frames sum decimal digitsBefore
-frames-all = refl
+frames_all : frames file_tables ≡ frame_bytes
+unfolding frames sum decimal digits_before
+frames_all = refl
 
 -- ---- digits
-sevens : sum (λ e. 7) bookEntries ≡ 7 * bookEntries
+sevens : sum (λ e. 7) book_entries ≡ 7 * book_entries
 unfolding sum
 sevens = refl
 
 -- ---- the file
 module _ (book : List ℕ) where
-  line-length : (t : Table) (p : ℕ) → length (tableLine book t p) ≡ frame_at t p + digitsAt book (t.from + p)
-  unfolding tableLine fieldsSize
-  line-length t p =
-      let long : List ℕ = decimal (codeLen book (t.from + p)) in
-      let value : List ℕ = decimal (codeVal book (t.from + p)) in
-      line-size t.name (decimal p ∷ long ∷ value ∷ []) ∙ omega arith
+  line_length : (t : Table) (p : ℕ) → length (table_line book t p) ≡ frame_at t p + digits_at book (t.from + p)
+  unfolding table_line fields_size
+  line_length t p =
+      let long : List ℕ = decimal (code_len book (t.from + p)) in
+      let value : List ℕ = decimal (code_val book (t.from + p)) in
+      line_size t.name (decimal p ∷ long ∷ value ∷ []) ∙ omega arith
 
-  lines-length : (t : Table) (n : ℕ) → length (tableLines book t n) ≡ sum (frame_at t) n + sum (λ p. digitsAt book (t.from + p)) n
-  unfolding tableLines sum
-  lines-length t zero = refl
-  lines-length t (suc n) = length-append (tableLines book t n) (tableLine book t n) ∙ omega (arith, lines-length t n, line-length t n)
+  lines_length : (t : Table) (n : ℕ) → length (table_lines book t n) ≡ sum (frame_at t) n + sum (λ p. digits_at book (t.from + p)) n
+  unfolding table_lines sum
+  lines_length t zero = refl
+  lines_length t (suc n) = length-append (table_lines book t n) (table_line book t n) ∙ omega (arith, lines_length t n, line_length t n)
 
   -- tables from entry s to the last
-  tables-length : (ts : List Table) (s : ℕ) → Follow s ts → sum (digitsAt book) s + length (tablesText book ts) ≡ frames ts + sum (digitsAt book) bookEntries
-  unfolding tablesText frames
-  tables-length [] s f = rw f (omega arith)
-  tables-length (t ∷ ts) s f =
-      let next = tables-length ts (t.from + t.size) f.1 in
-      let first = lines-length t t.size in
-      let two = length-append (tableLines book t t.size) (tablesText book ts) in
-      omega (arith, next, first, two, sum-add (digitsAt book) t.from t.size, ap (sum (digitsAt book)) f.0)
+  tables_length : (ts : List Table) (s : ℕ) → Follow s ts → sum (digits_at book) s + length (tables_text book ts) ≡ frames ts + sum (digits_at book) book_entries
+  unfolding tables_text frames
+  tables_length [] s f = rw f (omega arith)
+  tables_length (t ∷ ts) s f =
+      let next = tables_length ts (t.from + t.size) f.1 in
+      let first = lines_length t t.size in
+      let two = length-append (table_lines book t t.size) (tables_text book ts) in
+      omega (arith, next, first, two, sum_add (digits_at book) t.from t.size, ap (sum (digits_at book)) f.0)
 
-  none_before : sum (digitsAt book) 0 ≡ 0
+  none_before : sum (digits_at book) 0 ≡ 0
   unfolding sum
   none_before = refl
 
   -- what all files have in common, and the digits of this one
-  pub file-length : length (bookFile book) ≡ fileLength book
-  unfolding bookFile fileLength
-  file-length = omega (arith, tables-length fileTables 0 tables-follow, none_before, frames-all)
+  pub file_length_lem : length (book_file book) ≡ file_length book
+  unfolding book_file file_length
+  file_length_lem = omega (arith, tables_length file_tables 0 tables_follow, none_before, frames_all)
 
   -- in a book that passes a length has at most two digits and a code at most five
-  pub file-most : Bytes book → bookRefusal book ≡ 0 → length (bookFile book) ≤ longestBookFile
-  unfolding fileLength
-  file-most bytes passes = omega (arith, file-length, sum-each-le (digitsAt book) (λ e. 7) bookEntries each, sevens)
+  pub file_most : Bytes book → book_refusal book ≡ 0 → length (book_file book) ≤ longest_book_file
+  unfolding file_length
+  file_most bytes passes = omega (arith, file_length_lem, sum_each_le (digits_at book) (λ e. 7) book_entries each, sevens)
     where
-      each : (e : ℕ) → e < bookEntries → digitsAt book e ≤ 7
+      each : (e : ℕ) → e < book_entries → digits_at book e ≤ 7
       each e h =
           let good = good_book book passes in
-          let long : codeLen book e ≤ 32 = (good-is book good.good).long e (omega (arith, good.size)) in
-          let value : codeVal book e < 65536 = omega (arith, bytes (3 * e), bytes (3 * e + 1)) in
-          omega (arith, decimal-few 2 (codeLen book e) (omega arith) (omega arith), decimal-few 5 (codeVal book e) (omega arith) (omega arith))
+          let long : code_len book e ≤ 32 = (good_is book good.good).long e (omega (arith, good.size)) in
+          let value : code_val book e < 65536 = omega (arith, bytes (3 * e), bytes (3 * e + 1)) in
+          omega (arith, decimal_few 2 (code_len book e) (omega arith) (omega arith), decimal_few 5 (code_val book e) (omega arith) (omega arith))

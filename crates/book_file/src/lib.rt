@@ -3,9 +3,9 @@ ghost use Rattle.std.specs.Prelude.{◌≡◌, ◌&&◌, ◌+◌, ◌*◌, ◌�
 ghost use Rattle.std.proofs.Math.Option.{some, none};
 ghost use Rattle.bits.specs.Basics.{pick};
 ghost use Rattle.text.specs.Text.{fields_of};
-ghost use Rattle.book.specs.Book.{bookEntries, bookBytes};
-ghost use Rattle.book_file.specs.BookFile.{fileTables, entryNamed, lineRead, fileLines};
-ghost use Rattle.book_file.specs.BookFileForms.{Unmet, begun, FileHeld, BookFileRead, entryTold, lineTold, heldTold, fileCodeAt, withEntry, scanned, allMet};
+ghost use Rattle.book.specs.Book.{book_entries, book_bytes};
+ghost use Rattle.book_file.specs.BookFile.{file_tables, entry_named, line_read, file_lines};
+ghost use Rattle.book_file.specs.BookFileForms.{Unmet, begun, FileHeld, BookFileRead, entry_told, line_told, held_told, file_code_at, with_entry, scanned, all_met};
 
 use book::inner::{BOOK_BYTES, BOOK_ENTRIES};
 use text::NumberRead;
@@ -33,8 +33,8 @@ enum LinesRead {
 
 // Position p of the table that starts at entry `from` and has `size` entries.
 fn entry_in(p: u64, from: usize, size: u64) -> EntryRead
-    requires { from + size ≤ bookEntries }
-    ensures { entryTold result ≡ pick (ltb p size) (some (from + p)) none }
+    requires { from + size ≤ book_entries }
+    ensures { entry_told result ≡ pick (ltb p size) (some (from + p)) none }
 {
     if p < size {
         EntryRead::At(from + p as usize)
@@ -45,7 +45,7 @@ fn entry_in(p: u64, from: usize, size: u64) -> EntryRead
 
 // The entry that a table's name and a position mean.
 fn entry_named(name: &[u8], p: u64) -> EntryRead
-    ensures { entryTold result ≡ entryNamed fileTables name.now p }
+    ensures { entry_told result ≡ entry_named file_tables name.now p }
 {
     if text::same(b"mode", name) {
         return entry_in(p, 0, 4);
@@ -70,7 +70,7 @@ fn entry_named(name: &[u8], p: u64) -> EntryRead
 
 // The two last fields of a line, behind its entry: a length and a code.
 fn read_code(t: &[u8], e: usize) -> LineRead
-    ensures { lineTold result ≡ fileCodeAt (some e) (fields_of t.now) }
+    ensures { line_told result ≡ file_code_at (some e) (fields_of t.now) }
 {
     let a = text::find(t, b',');
     if a == t.len() {
@@ -92,7 +92,7 @@ fn read_code(t: &[u8], e: usize) -> LineRead
 
 // A line, without its line feed: table, position, length, code.
 fn read_line(t: &[u8]) -> LineRead
-    ensures { lineTold result ≡ lineRead (fields_of t.now) }
+    ensures { line_told result ≡ line_read (fields_of t.now) }
 {
     let a = text::find(t, b',');
     if a == t.len() {
@@ -124,7 +124,7 @@ fn length_byte(long: u64) -> u8
 // An entry's three bytes put into a book: the code's high byte, its low byte, its length.
 fn put_entry(book: &mut [u8], e: usize, long: u64, value: u64)
     requires { (3 * e + 3 ≤ length book.old) × (value ≤ 65535) }
-    ensures { book.new ≡ withEntry book.old e long value }
+    ensures { book.new ≡ with_entry book.old e long value }
 {
     let entry = [(value / 256) as u8, (value % 256) as u8, length_byte(long)];
     text::put_text(book, 3 * e, &entry);
@@ -139,8 +139,8 @@ fn both(a: bool, b: bool) -> bool
 
 // Every line of a file: its entry put into the book and marked as met. The lines are in order where each speaks of the next entry.
 fn read_lines(file: &[u8], book: &mut [u8], met: &mut [u8]) -> LinesRead
-    requires { (length book.old ≡ bookBytes) × (length met.old ≡ bookEntries) }
-    ensures { heldTold result book.new met.new ≡ scanned 0 (fileLines file.now) (begun book.old met.old) }
+    requires { (length book.old ≡ book_bytes) × (length met.old ≡ book_entries) }
+    ensures { held_told result book.new met.new ≡ scanned 0 (file_lines file.now) (begun book.old met.old) }
 {
     let mut at = 0;
     let mut next = 0;
@@ -168,7 +168,7 @@ fn read_lines(file: &[u8], book: &mut [u8], met: &mut [u8]) -> LinesRead
 
 // Whether every entry was met.
 fn all_met(met: &[u8]) -> bool
-    ensures { result ≡ allMet met.now }
+    ensures { result ≡ all_met met.now }
 {
     let mut i = 0;
     while i < met.len() {
@@ -182,7 +182,7 @@ fn all_met(met: &[u8]) -> bool
 
 // A file's book read into local bytes: 0 where it is a good one, else the refusal.
 fn read_into(file: &[u8], book: &mut [u8], met: &mut [u8]) -> u8
-    requires { (length book.old ≡ bookBytes) × Unmet met.old }
+    requires { (length book.old ≡ book_bytes) × Unmet met.old }
     ensures { FileHeld file.now result book.new }
 {
     let LinesRead::Whole(ordered) = read_lines(file, book, met) else {

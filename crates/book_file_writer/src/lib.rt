@@ -2,8 +2,8 @@
 ghost use Rattle.std.specs.Prelude.{◌≡◌, [], ◌∷◌, ◌+◌, ◌≤◌, length};
 ghost use Rattle.text.specs.Text.{decimal, line_of};
 ghost use Rattle.text.specs.WritingForms.{PutInRoom, TextWritten};
-ghost use Rattle.book.specs.Book.{bookEntries, bookBytes};
-ghost use Rattle.book_file.specs.BookFile.{tableLines, bookFile, writeFileRefusal};
+ghost use Rattle.book.specs.Book.{book_entries, book_bytes};
+ghost use Rattle.book_file.specs.BookFile.{table_lines, book_file, write_file_refusal};
 
 use book::inner::BOOK_ENTRIES;
 use book_check::book_refusal;
@@ -26,8 +26,8 @@ fn put_line(out: &mut [u8], at: usize, name: &[u8], position: u64, long: u64, va
 
 // The lines of the table that begins at entry `from` and has `size` entries.
 fn put_table(out: &mut [u8], at: usize, book: &[u8], name: &[u8], from: usize, size: usize) -> usize
-    requires { (length book.now ≡ bookBytes) × (from + size ≤ bookEntries) }
-    ensures { PutInRoom out.old at (tableLines book.now (record { name = name.entry.now; from = from; size = size }) size) result out.new }
+    requires { (length book.now ≡ book_bytes) × (from + size ≤ book_entries) }
+    ensures { PutInRoom out.old at (table_lines book.now (record { name = name.entry.now; from = from; size = size }) size) result out.new }
 {
     let mut next = at;
     let mut p = 0;
@@ -43,8 +43,8 @@ fn put_table(out: &mut [u8], at: usize, book: &[u8], name: &[u8], from: usize, s
 
 // Every table of a book.
 fn put_tables(out: &mut [u8], book: &[u8]) -> usize
-    requires { length book.now ≡ bookBytes }
-    ensures { PutInRoom out.old 0 (bookFile book.now) result out.new }
+    requires { length book.now ≡ book_bytes }
+    ensures { PutInRoom out.old 0 (book_file book.now) result out.new }
 {
     let a = put_table(out, 0, book, b"mode", 0, 4);
     let b = put_table(out, a, book, b"vector", 4, 64);
@@ -56,8 +56,8 @@ fn put_tables(out: &mut [u8], book: &[u8]) -> usize
 
 // Bytes of a book's file.
 fn file_length(book: &[u8]) -> usize
-    requires { length book.now ≡ bookBytes }
-    ensures { result ≡ length (bookFile book.now) }
+    requires { length book.now ≡ book_bytes }
+    ensures { result ≡ length (book_file book.now) }
 {
     let mut n = FRAME_BYTES;
     let mut e = 0;
@@ -71,7 +71,7 @@ fn file_length(book: &[u8]) -> usize
 
 // A book's file written to the front of a lent slice. The answer is how far; what lies behind it stays. A refused call writes nothing.
 pub fn write_book_file(book: &[u8], out: &mut [u8]) -> Written
-    ensures { TextWritten (writeFileRefusal book.now (length out.old)) (bookFile book.now) out.old result out.new }
+    ensures { TextWritten (write_file_refusal book.now (length out.old)) (book_file book.now) out.old result out.new }
 {
     let refused = book_refusal(book);
     if refused != 0 {

@@ -6,11 +6,11 @@ use Rattle.macroblock.specs.Macroblock.{Given}
 use Rattle.macroblock.specs.Choice.{Task}
 use Rattle.macroblock.specs.declared.svq1_enc_inter.Settings.{Settings}
 use Rattle.macroblock.specs.Slices.{Slices, Lent}
-use Rattle.plane.specs.Refusals.{midPlane}
-use Rattle.plane.specs.Calls.{PlaneAnswer, writeAnswer, PlaneWritten, readPlaneAnswer, PlaneRead}
+use Rattle.plane.specs.Refusals.{mid_plane}
+use Rattle.plane.specs.Calls.{PlaneAnswer, write_answer, PlaneWritten, read_plane_answer, PlaneRead}
 use Rattle.plane_enc.specs.Stated.{PlaneStated}
 use Rattle.picture.specs.Picture.{Shared, Results, PlaneIn}
-use Rattle.picture.specs.Calls.{PictureAnswer, pictureAnswer, PictureWritten}
+use Rattle.picture.specs.Calls.{PictureAnswer, picture_answer, PictureWritten}
 use Rattle.plane_room.specs.declared.Room.{Room}
 use Rattle.visible_error.specs.declared.VisibleError.{VisibleError}
 use Rattle.cabunlis.specs.declared.books.HostFile.{HostFile}
@@ -20,49 +20,49 @@ use Rattle.cabunlis.specs.declared.planes.HostAnswer.{HostAnswer}
 use Rattle.cabunlis.specs.declared.rooms.HostRoom.{HostRoom}
 
 -- the settings by a C host's numbers: four vectors are tried unless `four` is 0
-abbrev pub settingsOf : ℕ → ℕ → ℕ → ℕ → Settings
-settingsOf lambda radius four margin = record { lambda = lambda; radius = radius; four = not (eqb four 0); margin = margin }
+abbrev pub settings_of : ℕ → ℕ → ℕ → ℕ → Settings
+settings_of lambda radius four margin = record { lambda = lambda; radius = radius; four = not (eqb four 0); margin = margin }
 
 -- a plane call's answer as a C struct; the index is that of the macroblock met with 10, 11, 22 and 24, else 0
-abbrev pub hostAnswer : PlaneAnswer → HostAnswer
-hostAnswer a =
-    record { refusal = a.refusal; macroblock = pick (midPlane a.refusal) a.done 0; done = a.done; next = a.next; bits = a.bits; error = a.error }
+abbrev pub host_answer : PlaneAnswer → HostAnswer
+host_answer a =
+    record { refusal = a.refusal; macroblock = pick (mid_plane a.refusal) a.done 0; done = a.done; next = a.next; bits = a.bits; error = a.error }
 
 -- the writer: r is the answer of the definition, and the slices are left as it says
 pub record HostWritten (g : Given) (t : Task) (start : ℕ) (l : Lent) (r : HostAnswer) (l' : Lent) : Type 0 where
-  pub answer : r ≡ hostAnswer (writeAnswer g t l.out start l.slices)
-  pub left : PlaneWritten g t start l (writeAnswer g t l.out start l.slices) l'
+  pub answer : r ≡ host_answer (write_answer g t l.out start l.slices)
+  pub left : PlaneWritten g t start l (write_answer g t l.out start l.slices) l'
 
 -- the same with `stated`, which holds held before and what the macroblocks state after
 pub record HostStated (g : Given) (t : Task) (start : ℕ) (l : Lent) (held : List ℕ) (r : HostAnswer) (l' : Lent) (stated' : List ℕ) : Type 0 where
-  pub answer : r ≡ hostAnswer (writeAnswer g t l.out start l.slices)
-  pub left : PlaneStated g t start l held (writeAnswer g t l.out start l.slices) l' stated'
+  pub answer : r ≡ host_answer (write_answer g t l.out start l.slices)
+  pub left : PlaneStated g t start l held (write_answer g t l.out start l.slices) l' stated'
 
 -- the reader
 pub record HostRead (g : Given) (bytes : List ℕ) (start : ℕ) (s : Slices) (r : HostAnswer) (s' : Slices) : Type 0 where
-  pub answer : r ≡ hostAnswer (readPlaneAnswer g bytes start s)
-  pub left : PlaneRead g bytes start s (readPlaneAnswer g bytes start s) s'
+  pub answer : r ≡ host_answer (read_plane_answer g bytes start s)
+  pub left : PlaneRead g bytes start s (read_plane_answer g bytes start s) s'
 
 -- a picture's answer as a C struct; the index is that of the macroblock met with 22, counted through the planes, else 0
 pub record PictureTold (a : PictureAnswer) (r : HostPicture) : Type 0 where
   pub refusal : r.refusal ≡ a.refusal
-  pub macroblock : r.macroblock ≡ pick (midPlane a.refusal) a.done 0
+  pub macroblock : r.macroblock ≡ pick (mid_plane a.refusal) a.done 0
   pub done : r.done ≡ a.done
-  pub planes : r.first ∷ r.second ∷ r.third ∷ [] ≡ map hostAnswer a.planes
+  pub planes : r.first ∷ r.second ∷ r.third ∷ [] ≡ map host_answer a.planes
 
 -- the writer of pictures: r is the answer of the definition, and the slices are left as it says
 pub record HostPictureWritten (s : Shared) (ps : List PlaneIn) (allowance : ℕ) (out : List ℕ) (start : ℕ) (r : HostPicture) (out' : List ℕ) (results' : List Results) : Type 0 where
-  pub answer : PictureTold (pictureAnswer s ps allowance out start) r
-  pub left : PictureWritten s ps allowance out start (pictureAnswer s ps allowance out start) out' results'
+  pub answer : PictureTold (picture_answer s ps allowance out start) r
+  pub left : PictureWritten s ps allowance out start (picture_answer s ps allowance out start) out' results'
 
 -- a room as a C struct stands for it
-abbrev pub roomOf : HostRoom → Room
-roomOf r = record { refused = r.refusal; bytes = r.bytes }
+abbrev pub room_of : HostRoom → Room
+room_of r = record { refused = r.refusal; bytes = r.bytes }
 
 -- an error over what the panel shows, as a C struct
-abbrev pub hostVisible : VisibleError → HostVisible
-hostVisible v = record { refusal = v.refused; error = v.error }
+abbrev pub host_visible : VisibleError → HostVisible
+host_visible v = record { refusal = v.refused; error = v.error }
 
 -- a file written, as a C struct stands for it
-abbrev pub fileWritten : HostFile → Written
-fileWritten r = record { refused = r.refusal; bytes = r.bytes }
+abbrev pub file_written : HostFile → Written
+file_written r = record { refused = r.refusal; bytes = r.bytes }

@@ -2,9 +2,9 @@
 ghost use Rattle.std.specs.Prelude.{length};
 ghost use Rattle.text.specs.WritingForms.{TextWritten};
 ghost use Rattle.house.specs.Fill.{BookFilled, CodebookFilled};
-ghost use Rattle.book_file.specs.BookFile.{bookFile, writeFileRefusal};
+ghost use Rattle.book_file.specs.BookFile.{book_file, write_file_refusal};
 ghost use Rattle.book_file.specs.BookFileForms.{BookFileRead};
-ghost use Rattle.cabunlis.specs.Host.{fileWritten};
+ghost use Rattle.cabunlis.specs.Host.{file_written};
 
 use book_file::read_book_file;
 use book_file_writer::write_book_file;
@@ -29,7 +29,7 @@ pub extern "C" fn cabunlis2_read_book_file(file: &[u8], book: &mut [u8]) -> u32
 // Writes a lent book's file to the front of a lent slice; what lies behind it stays.
 #[unsafe(no_mangle)]
 pub extern "C" fn cabunlis2_write_book_file(book: &[u8], out: &mut [u8]) -> HostFile
-    ensures { TextWritten (writeFileRefusal book.now (length out.old)) (bookFile book.now) out.old (fileWritten result) out.new }
+    ensures { TextWritten (write_file_refusal book.now (length out.old)) (book_file book.now) out.old (file_written result) out.new }
 {
     let written = write_book_file(book, out);
     HostFile {

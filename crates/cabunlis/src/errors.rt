@@ -1,8 +1,8 @@
 // The error over the samples that the panel shows.
 ghost use Rattle.std.specs.Prelude.{◌≡◌};
-ghost use Rattle.visible_error.specs.Visible.{visibleAnswer};
-ghost use Rattle.visible_error.specs.VisibleNeeds.{shownBy};
-ghost use Rattle.cabunlis.specs.Host.{hostVisible};
+ghost use Rattle.visible_error.specs.Visible.{visible_answer};
+ghost use Rattle.visible_error.specs.VisibleNeeds.{shown_by};
+ghost use Rattle.cabunlis.specs.Host.{host_visible};
 
 use canvas::svq1_plane::Svq1PlaneCanvas;
 use visible_error::visible_error;
@@ -25,7 +25,7 @@ pub extern "C" fn cabunlis2_visible_error(
     source: &[u8],
     recon: &[u8],
 ) -> HostVisible
-    ensures { result ≡ hostVisible (visibleAnswer (shownBy (record { width = width; height = height; stride = stride; rows = rows }) source.now recon.now)) }
+    ensures { result ≡ host_visible (visible_answer (shown_by (record { width = width; height = height; stride = stride; rows = rows }) source.now recon.now)) }
 {
     let canvas = Svq1PlaneCanvas {
         width,

@@ -1,8 +1,8 @@
 // The writer of pictures.
 ghost use Rattle.std.specs.Prelude.{[], ◌∷◌};
-ghost use Rattle.picture.specs.Picture.{sharedBy, resultsBy, planeBy};
-ghost use Rattle.picture.specs.PictureNeeds.{pictureEndOf};
-ghost use Rattle.cabunlis.specs.Host.{settingsOf, PictureTold, HostPictureWritten};
+ghost use Rattle.picture.specs.Picture.{shared_by, results_by, plane_by};
+ghost use Rattle.picture.specs.PictureNeeds.{picture_end_of};
+ghost use Rattle.cabunlis.specs.Host.{settings_of, PictureTold, HostPictureWritten};
 
 use super::planes::{HostAnswer, index_of, plane_answer, settings_of};
 use canvas::svq1_plane::Svq1PlaneCanvas;
@@ -24,7 +24,7 @@ pub struct HostPicture {
 
 // The answer with the macroblock's index where it has one.
 fn picture_answer(e: PictureEnd) -> HostPicture
-    ensures { PictureTold (pictureEndOf e) result }
+    ensures { PictureTold (picture_end_of e) result }
 {
     let first = e.first;
     let second = e.second;
@@ -82,7 +82,7 @@ pub extern "C" fn cabunlis2_encode_picture(
     out: &mut [u8],
     start: usize,
 ) -> HostPicture
-    ensures { HostPictureWritten (sharedBy book.now codebook.now (settingsOf lambda radius four margin)) (planeBy (record { width = width0; height = height0; stride = stride0; rows = rows0 }) source0.now reference0.now (resultsBy recon0.old vx0.old vy0.old stated0.old) ∷ planeBy (record { width = width1; height = height1; stride = stride1; rows = rows1 }) source1.now reference1.now (resultsBy recon1.old vx1.old vy1.old stated1.old) ∷ planeBy (record { width = width2; height = height2; stride = stride2; rows = rows2 }) source2.now reference2.now (resultsBy recon2.old vx2.old vy2.old stated2.old) ∷ []) allowance out.old start result out.new (resultsBy recon0.new vx0.new vy0.new stated0.new ∷ resultsBy recon1.new vx1.new vy1.new stated1.new ∷ resultsBy recon2.new vx2.new vy2.new stated2.new ∷ []) }
+    ensures { HostPictureWritten (shared_by book.now codebook.now (settings_of lambda radius four margin)) (plane_by (record { width = width0; height = height0; stride = stride0; rows = rows0 }) source0.now reference0.now (results_by recon0.old vx0.old vy0.old stated0.old) ∷ plane_by (record { width = width1; height = height1; stride = stride1; rows = rows1 }) source1.now reference1.now (results_by recon1.old vx1.old vy1.old stated1.old) ∷ plane_by (record { width = width2; height = height2; stride = stride2; rows = rows2 }) source2.now reference2.now (results_by recon2.old vx2.old vy2.old stated2.old) ∷ []) allowance out.old start result out.new (results_by recon0.new vx0.new vy0.new stated0.new ∷ results_by recon1.new vx1.new vy1.new stated1.new ∷ results_by recon2.new vx2.new vy2.new stated2.new ∷ []) }
 {
     let canvas0 = Svq1PlaneCanvas {
         width: width0,

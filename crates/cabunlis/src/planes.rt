@@ -1,12 +1,12 @@
 // The plane writer and the plane reader.
 ghost use Rattle.std.specs.Prelude.{not, ◌≡◌, eqb};
 ghost use Rattle.bits.specs.Basics.{pick};
-ghost use Rattle.macroblock.specs.MacroblockNeeds.{givenBy};
-ghost use Rattle.macroblock_choice.specs.ChosenNeeds.{taskBy};
-ghost use Rattle.plane.specs.Refusals.{midPlane};
-ghost use Rattle.plane_enc.specs.WriterNeeds.{writeEndOf};
-ghost use Rattle.cabunlis.specs.Host.{settingsOf, hostAnswer, HostWritten, HostStated, HostRead};
-ghost use Rattle.macroblock.specs.Slices.{slicesBy, lent_by};
+ghost use Rattle.macroblock.specs.MacroblockNeeds.{given_by};
+ghost use Rattle.macroblock_choice.specs.ChosenNeeds.{task_by};
+ghost use Rattle.plane.specs.Refusals.{mid_plane};
+ghost use Rattle.plane_enc.specs.WriterNeeds.{write_end_of};
+ghost use Rattle.cabunlis.specs.Host.{settings_of, host_answer, HostWritten, HostStated, HostRead};
+ghost use Rattle.macroblock.specs.Slices.{slices_by, lent_by};
 
 use canvas::svq1_plane::Svq1PlaneCanvas;
 use macroblock::svq1_enc_inter::Settings;
@@ -27,7 +27,7 @@ pub struct HostAnswer {
 
 // Whether a refusal came in the middle of a plane, at a macroblock.
 fn mid_plane(refused: u8) -> bool
-    ensures { result ≡ midPlane refused }
+    ensures { result ≡ mid_plane refused }
 {
     if refused == 10 {
         return true;
@@ -43,7 +43,7 @@ fn mid_plane(refused: u8) -> bool
 
 // The index of the macroblock at which a refusal came, or 0.
 pub fn index_of(refused: u8, done: usize) -> usize
-    ensures { result ≡ pick (midPlane refused) done 0 }
+    ensures { result ≡ pick (mid_plane refused) done 0 }
 {
     if mid_plane(refused) {
         return done;
@@ -53,7 +53,7 @@ pub fn index_of(refused: u8, done: usize) -> usize
 
 // The answer with the macroblock's index where it has one.
 fn answer(refused: u8, done: usize, next: usize, bits: u64, error: u64) -> HostAnswer
-    ensures { result ≡ hostAnswer (record { refusal = refused; done = done; next = next; bits = bits; error = error }) }
+    ensures { result ≡ host_answer (record { refusal = refused; done = done; next = next; bits = bits; error = error }) }
 {
     HostAnswer {
         refusal: refused as u32,
@@ -67,7 +67,7 @@ fn answer(refused: u8, done: usize, next: usize, bits: u64, error: u64) -> HostA
 
 // That of the writer.
 pub fn plane_answer(e: WriteEnd) -> HostAnswer
-    ensures { result ≡ hostAnswer (writeEndOf e) }
+    ensures { result ≡ host_answer (write_end_of e) }
 {
     answer(e.refused, e.done, e.next, e.bits, e.error)
 }
@@ -81,7 +81,7 @@ fn tries_four(four: u8) -> bool
 
 // The settings by a C host's numbers.
 pub fn settings_of(lambda: u64, radius: u8, four: u8, margin: u32) -> Settings
-    ensures { result ≡ settingsOf lambda radius four margin }
+    ensures { result ≡ settings_of lambda radius four margin }
 {
     Settings {
         lambda,
@@ -112,7 +112,7 @@ pub extern "C" fn cabunlis2_encode_inter_plane(
     vx: &mut [u8],
     vy: &mut [u8],
 ) -> HostAnswer
-    ensures { HostWritten (givenBy (record { width = width; height = height; stride = stride; rows = rows }) reference.now book.now codebook.now) (taskBy source.now (settingsOf lambda radius four margin)) start (lent_by out.old (slicesBy recon.old vx.old vy.old)) result (lent_by out.new (slicesBy recon.new vx.new vy.new)) }
+    ensures { HostWritten (given_by (record { width = width; height = height; stride = stride; rows = rows }) reference.now book.now codebook.now) (task_by source.now (settings_of lambda radius four margin)) start (lent_by out.old (slices_by recon.old vx.old vy.old)) result (lent_by out.new (slices_by recon.new vx.new vy.new)) }
 {
     let canvas = Svq1PlaneCanvas {
         width,
@@ -149,7 +149,7 @@ pub extern "C" fn cabunlis2_encode_inter_plane_stated(
     vy: &mut [u8],
     stated: &mut [u32],
 ) -> HostAnswer
-    ensures { HostStated (givenBy (record { width = width; height = height; stride = stride; rows = rows }) reference.now book.now codebook.now) (taskBy source.now (settingsOf lambda radius four margin)) start (lent_by out.old (slicesBy recon.old vx.old vy.old)) stated.old result (lent_by out.new (slicesBy recon.new vx.new vy.new)) stated.new }
+    ensures { HostStated (given_by (record { width = width; height = height; stride = stride; rows = rows }) reference.now book.now codebook.now) (task_by source.now (settings_of lambda radius four margin)) start (lent_by out.old (slices_by recon.old vx.old vy.old)) stated.old result (lent_by out.new (slices_by recon.new vx.new vy.new)) stated.new }
 {
     let canvas = Svq1PlaneCanvas {
         width,
@@ -180,7 +180,7 @@ pub extern "C" fn cabunlis2_decode_inter_plane(
     vx: &mut [u8],
     vy: &mut [u8],
 ) -> HostAnswer
-    ensures { HostRead (givenBy (record { width = width; height = height; stride = stride; rows = rows }) reference.now book.now codebook.now) bytes.now start (slicesBy recon.old vx.old vy.old) result (slicesBy recon.new vx.new vy.new) }
+    ensures { HostRead (given_by (record { width = width; height = height; stride = stride; rows = rows }) reference.now book.now codebook.now) bytes.now start (slices_by recon.old vx.old vy.old) result (slices_by recon.new vx.new vy.new) }
 {
     let canvas = Svq1PlaneCanvas {
         width,

@@ -1,7 +1,7 @@
 // The room that a plane takes at most.
 ghost use Rattle.plane_room.specs.Room.{OfSize, OfSizeUnder};
-ghost use Rattle.plane_room.specs.Calls.{roomAnswer, roomUnderAnswer, RoomTold};
-ghost use Rattle.cabunlis.specs.Host.{roomOf};
+ghost use Rattle.plane_room.specs.Calls.{room_answer, room_under_answer, RoomTold};
+ghost use Rattle.cabunlis.specs.Host.{room_of};
 
 use plane_room::{plane_room, plane_room_under};
 
@@ -16,7 +16,7 @@ pub struct HostRoom {
 // Under any book that passes.
 #[unsafe(no_mangle)]
 pub extern "C" fn cabunlis2_plane_room(width: usize, height: usize) -> HostRoom
-    ensures { RoomTold (OfSize width height) (roomAnswer width height) (roomOf result) }
+    ensures { RoomTold (OfSize width height) (room_answer width height) (room_of result) }
 {
     let room = plane_room(width, height);
     HostRoom {
@@ -28,7 +28,7 @@ pub extern "C" fn cabunlis2_plane_room(width: usize, height: usize) -> HostRoom
 // Under a given book.
 #[unsafe(no_mangle)]
 pub extern "C" fn cabunlis2_plane_room_under(width: usize, height: usize, book: &[u8]) -> HostRoom
-    ensures { RoomTold (OfSizeUnder width height book.now) (roomUnderAnswer width height book.now) (roomOf result) }
+    ensures { RoomTold (OfSizeUnder width height book.now) (room_under_answer width height book.now) (room_of result) }
 {
     let room = plane_room_under(width, height, book);
     HostRoom {

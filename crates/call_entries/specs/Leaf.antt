@@ -3,8 +3,8 @@ use Rattle.std.specs.Prelude.{ℕ, ◌-◌, List, ◌++◌, pos, length, replica
 use Rattle.bits.specs.Calls.{Answer, done, refused}
 use Rattle.leaf.specs.Leaf.{Leaf}
 use Rattle.leaf.specs.LeafCall.{LeafChosen}
-use Rattle.leaf.specs.LentNeeds.{sixOf}
-use Rattle.call_entries.specs.Node.{kind_of, leafMean, count_of}
+use Rattle.leaf.specs.LentNeeds.{six_of}
+use Rattle.call_entries.specs.Node.{kind_of, leaf_mean, count_of}
 use Rattle.call_entries.specs.declared.leaf_part.LeafPart.{LeafPart}
 
 -- a block's samples, and zeros up to the 256 of a macroblock
@@ -12,15 +12,15 @@ abbrev pub filled : List ℕ → List ℕ
 filled s = s ++ replicate (256 - length s) 0
 
 -- a leaf with its bits, its error and 256 samples
-abbrev pub leafPartOf : Leaf → ℕ → ℕ → List ℕ → LeafPart
-leafPartOf l bits error samples = record {
+abbrev pub leaf_part_of : Leaf → ℕ → ℕ → List ℕ → LeafPart
+leaf_part_of l bits error samples = record {
   bits = bits;
   error = error;
-  mean = leafMean l;
+  mean = leaf_mean l;
   refused = 0;
   kind = kind_of l;
   count = count_of l;
-  stages = sixOf l;
+  stages = six_of l;
   samples = samples;
 }
 
@@ -38,6 +38,6 @@ nothing n = record {
 }
 
 -- the answer of the call
-abbrev pub leafPart : Answer LeafChosen → LeafPart
-leafPart (done c) = leafPartOf c.leaf c.bits c.error (filled c.shown)
-leafPart (refused n) = nothing n
+abbrev pub leaf_part : Answer LeafChosen → LeafPart
+leaf_part (done c) = leaf_part_of c.leaf c.bits c.error (filled c.shown)
+leaf_part (refused n) = nothing n

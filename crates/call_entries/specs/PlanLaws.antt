@@ -4,51 +4,51 @@ use Rattle.std.specs.Prelude.{ℕ, ◌+◌, ◌≤◌, ◌<◌, ◌≡◌, List,
 use Rattle.std.proofs.Common.{sym, ◌∙◌, add-one, arith, length-set, take_all, take-suc, take-suc-set, eq-eqb, ne_eqb}
 use Rattle.std.proofs.Math.ListN.{length-map, get_or-map}
 use Rattle.leaf.specs.LeafCall.{BlockIn}
-use Rattle.tree.specs.Blocks.{blockCount}
+use Rattle.tree.specs.Blocks.{block_count}
 use Rattle.tree.specs.NodeForms.{tree_of}
 use Rattle.plan_call.specs.PlanCall.{PlanAnswered}
 use Rattle.tree.specs.TreeBits.{Node, Off}
-use Rattle.plan.specs.PlanAnswer.{planAnswer}
+use Rattle.plan.specs.PlanAnswer.{plan_answer}
 use Rattle.plan_call.specs.declared.svq1_enc_tree.PlanAnswer.{PlanAnswer}
 use Rattle.call_entries.specs.declared.inner.NodePart.{NodePart}
-use Rattle.call_entries.specs.LeafLaws.{filled-back}
-use Rattle.call_entries.specs.Node.{bareNode, nodePart}
-use Rattle.call_entries.specs.Plan.{nodeParts, madePart, noPlan, planPart}
+use Rattle.call_entries.specs.LeafLaws.{filled_back}
+use Rattle.call_entries.specs.Node.{bare_node, node_part}
+use Rattle.call_entries.specs.Plan.{node_parts, made_part, no_plan, plan_part}
 
 -- ---- the blocks of a tree, one by one
 -- the first i blocks stand there
 pub record Listing (t : List Node) (nodes : List NodePart) (i : ℕ) : Type 0 where
-  pub upto : i ≤ blockCount
-  pub long : length nodes ≡ blockCount
-  pub front : take i nodes ≡ take i (nodeParts t)
+  pub upto : i ≤ block_count
+  pub long : length nodes ≡ block_count
+  pub front : take i nodes ≡ take i (node_parts t)
 
-module _ (t : List Node) (whole : length t ≡ blockCount) (nodes : List NodePart) (i : ℕ) (g : Listing t nodes i) where
-  length-parts : length (nodeParts t) ≡ blockCount
-  unfolding nodeParts
-  length-parts = length-map t nodePart ∙ whole
+module _ (t : List Node) (whole : length t ≡ block_count) (nodes : List NodePart) (i : ℕ) (g : Listing t nodes i) where
+  length_parts : length (node_parts t) ≡ block_count
+  unfolding node_parts
+  length_parts = length-map t node_part ∙ whole
 
-  part_at : get_or (nodeParts t) i (bareNode 0) ≡ nodePart (get_or t i Off)
-  unfolding nodeParts
-  part_at = get_or-map nodePart t i Off
+  part_at : get_or (node_parts t) i (bare_node 0) ≡ node_part (get_or t i Off)
+  unfolding node_parts
+  part_at = get_or-map node_part t i Off
 
-  pub listed_more : (x : NodePart) → i < blockCount → x ≡ nodePart (get_or t i Off) → Listing t (set nodes i x) (i + 1)
+  pub listed_more : (x : NodePart) → i < block_count → x ≡ node_part (get_or t i Off) → Listing t (set nodes i x) (i + 1)
   listed_more x h e =
       let a : i < length nodes = omega (arith, g.long) in
-      let b : i < length (nodeParts t) = omega (arith, length-parts) in
+      let b : i < length (node_parts t) = omega (arith, length_parts) in
       record {
         upto = omega arith;
         long = length-set nodes i x ∙ g.long;
-        front = rw (add-one, take-suc-set nodes i x a, take-suc (nodeParts t) i (bareNode 0) b, g.front, e, part_at);
+        front = rw (add-one, take-suc-set nodes i x a, take-suc (node_parts t) i (bare_node 0) b, g.front, e, part_at);
       }
 
-  pub listed : blockCount ≤ i → nodes ≡ nodeParts t
+  pub listed : block_count ≤ i → nodes ≡ node_parts t
   listed h =
-      sym (take_all i nodes (omega (arith, g.long))) ∙ g.front ∙ take_all i (nodeParts t) (omega (arith, length-parts))
+      sym (take_all i nodes (omega (arith, g.long))) ∙ g.front ∙ take_all i (node_parts t) (omega (arith, length_parts))
 
 -- ---- the answers
 module _ (b : BlockIn) (lambda : ℕ) (r : PlanAnswer) (a : PlanAnswered b lambda r) where
-  pub plan-refused : (r.refused ≡ 0 → ⊥) → noPlan r.refused ≡ planPart (planAnswer b lambda)
-  plan-refused h = rw (← a.answer, ne_eqb r.refused 0 h)
+  pub plan_refused : (r.refused ≡ 0 → ⊥) → no_plan r.refused ≡ plan_part (plan_answer b lambda)
+  plan_refused h = rw (← a.answer, ne_eqb r.refused 0 h)
 
-  pub plan-made : r.refused ≡ 0 → length r.samples ≡ 256 → madePart (tree_of r.blocks) r.bits r.error r.samples ≡ planPart (planAnswer b lambda)
-  plan-made z size = rw (← a.answer, eq-eqb r.refused 0 z, filled-back (length b.target) r.samples size a.behind)
+  pub plan_made_lem : r.refused ≡ 0 → length r.samples ≡ 256 → made_part (tree_of r.blocks) r.bits r.error r.samples ≡ plan_part (plan_answer b lambda)
+  plan_made_lem z size = rw (← a.answer, eq-eqb r.refused 0 z, filled_back (length b.target) r.samples size a.behind)

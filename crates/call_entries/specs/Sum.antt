@@ -4,6 +4,6 @@ use Rattle.compensation.specs.declared.svq1_enc_inter.inner.VectorSum.{VectorSum
 use Rattle.call_entries.specs.declared.sum_part.SumPart.{SumPart}
 
 -- the sum and the rows taken; or a refusal's number, everything else 0
-abbrev pub sumPart : Answer VectorSum → SumPart
-sumPart (done s) = record { sum = s.sum; rows = s.rows; refused = 0 }
-sumPart (refused n) = record { sum = 0; rows = 0; refused = n }
+abbrev pub sum_part : Answer VectorSum → SumPart
+sum_part (done s) = record { sum = s.sum; rows = s.rows; refused = 0 }
+sum_part (refused n) = record { sum = 0; rows = 0; refused = n }

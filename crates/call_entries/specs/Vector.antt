@@ -5,6 +5,6 @@ use Rattle.vectors.specs.declared.svq1_motion_predictor.Svq1Mv.{Svq1Mv}
 use Rattle.call_entries.specs.declared.vector_part.VectorPart.{VectorPart}
 
 -- the vector; or a refusal's number, everything else 0
-abbrev pub vectorPart : Answer Svq1Mv → VectorPart
-vectorPart (done v) = record { refused = 0; x = v.x; y = v.y }
-vectorPart (refused n) = record { refused = n; x = pos 0; y = pos 0 }
+abbrev pub vector_part : Answer Svq1Mv → VectorPart
+vector_part (done v) = record { refused = 0; x = v.x; y = v.y }
+vector_part (refused n) = record { refused = n; x = pos 0; y = pos 0 }

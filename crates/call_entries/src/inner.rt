@@ -2,8 +2,8 @@
 // Functions that only this crate calls.
 ghost use Rattle.std.specs.Prelude.{◌≡◌, ◌≤◌, min, length, take};
 ghost use Rattle.leaf.specs.LentNeeds.{padded};
-ghost use Rattle.leaf.specs.LeafForms.{leafOf};
-ghost use Rattle.call_entries.specs.Node.{leafNode};
+ghost use Rattle.leaf.specs.LeafForms.{leaf_of};
+ghost use Rattle.call_entries.specs.Node.{leaf_node};
 
 use leaf::svq1_enc_leaf::LeafCode;
 
@@ -40,7 +40,7 @@ fn front_of(stages: [u8; 6], count: usize) -> [u8; 6]
 
 // A leaf.
 pub fn leaf_node(code: LeafCode, stages: [u8; 6]) -> NodePart
-    ensures { result ≡ leafNode (leafOf code stages) }
+    ensures { result ≡ leaf_node (leaf_of code stages) }
 {
     match code {
         LeafCode::Skip => NodePart {

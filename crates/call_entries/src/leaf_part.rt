@@ -1,8 +1,8 @@
 // The leaf search as an exported function.
 ghost use Rattle.std.specs.Prelude.{◌≡◌, not, eqb, length};
-ghost use Rattle.leaf.specs.LeafCall.{blockBy, leafAnswer};
-ghost use Rattle.leaf.specs.LeafForms.{leafOf};
-ghost use Rattle.call_entries.specs.Leaf.{leafPartOf, nothing, leafPart};
+ghost use Rattle.leaf.specs.LeafCall.{block_by, leaf_answer};
+ghost use Rattle.leaf.specs.LeafForms.{leaf_of};
+ghost use Rattle.call_entries.specs.Leaf.{leaf_part_of, nothing, leaf_part};
 
 use super::inner::leaf_node;
 use leaf::svq1_enc_leaf::LeafCode;
@@ -46,7 +46,7 @@ fn found_part(
     error: u32,
     samples: [u8; 256],
 ) -> LeafPart
-    ensures { (result ≡ leafPartOf (leafOf code stages) bits error samples) × (length samples ≡ 256) }
+    ensures { (result ≡ leaf_part_of (leaf_of code stages) bits error samples) × (length samples ≡ 256) }
 {
     let leaf = leaf_node(code, stages);
     let front = leaf.stages;
@@ -75,7 +75,7 @@ pub extern "C" fn parts_search_leaf(
     skip: u8,
     margin: u32,
 ) -> LeafPart
-    ensures { result ≡ leafPart (leafAnswer (blockBy book.now codebook.now level half target.now predictor.now cap (not (eqb skip 0)) margin)) }
+    ensures { result ≡ leaf_part (leaf_answer (block_by book.now codebook.now level half target.now predictor.now cap (not (eqb skip 0)) margin)) }
 {
     let found = search_leaf(
         book,

@@ -1,10 +1,10 @@
 // The plan of a block as an exported function.
 ghost use Rattle.std.specs.Prelude.{◌≡◌, not, eqb, length};
-ghost use Rattle.leaf.specs.LeafCall.{blockBy};
+ghost use Rattle.leaf.specs.LeafCall.{block_by};
 ghost use Rattle.tree.specs.NodeForms.{node_of, tree_of};
-ghost use Rattle.plan.specs.PlanAnswer.{planAnswer};
-ghost use Rattle.call_entries.specs.Node.{bareNode, nodePart};
-ghost use Rattle.call_entries.specs.Plan.{nodeParts, madePart, noPlan, planPart};
+ghost use Rattle.plan.specs.PlanAnswer.{plan_answer};
+ghost use Rattle.call_entries.specs.Node.{bare_node, node_part};
+ghost use Rattle.call_entries.specs.Plan.{node_parts, made_part, no_plan, plan_part};
 
 use super::inner::{NodePart, leaf_node};
 use plan_call::svq1_enc_tree::plan_macroblock;
@@ -23,7 +23,7 @@ pub struct PlanPart {
 }
 
 fn refused_part(refused: u8) -> PlanPart
-    ensures { result ≡ noPlan refused }
+    ensures { result ≡ no_plan refused }
 {
     PlanPart {
         bits: 0,
@@ -41,7 +41,7 @@ fn refused_part(refused: u8) -> PlanPart
 
 // A block that is no leaf.
 fn bare_node(kind: u8) -> NodePart
-    ensures { result ≡ bareNode kind }
+    ensures { result ≡ bare_node kind }
 {
     NodePart {
         mean: 0,
@@ -52,7 +52,7 @@ fn bare_node(kind: u8) -> NodePart
 }
 
 fn node_part(b: Block) -> NodePart
-    ensures { result ≡ nodePart (node_of b) }
+    ensures { result ≡ node_part (node_of b) }
 {
     let n = b.node;
     let stages = b.stages;
@@ -65,7 +65,7 @@ fn node_part(b: Block) -> NodePart
 
 // The blocks of a tree.
 fn node_parts(blocks: [Block; 63]) -> [NodePart; 63]
-    ensures { result ≡ nodeParts (tree_of blocks) }
+    ensures { result ≡ node_parts (tree_of blocks) }
 {
     let mut nodes = [NodePart {
         mean: 0,
@@ -84,7 +84,7 @@ fn node_parts(blocks: [Block; 63]) -> [NodePart; 63]
 
 // A plan that was made, field by field. That there are 256 samples is known here, where they come as an array.
 fn made_part(blocks: [Block; 63], bits: u32, error: u32, samples: [u8; 256]) -> PlanPart
-    ensures { (result ≡ madePart (tree_of blocks) bits error samples) × (length samples ≡ 256) }
+    ensures { (result ≡ made_part (tree_of blocks) bits error samples) × (length samples ≡ 256) }
 {
     let nodes = node_parts(blocks);
     PlanPart {
@@ -110,7 +110,7 @@ pub extern "C" fn parts_plan_macroblock(
     lambda: u64,
     margin: u32,
 ) -> PlanPart
-    ensures { result ≡ planPart (planAnswer (blockBy book.now codebook.now level half target.now predictor.now cap (not (eqb skip 0)) margin) lambda) }
+    ensures { result ≡ plan_part (plan_answer (block_by book.now codebook.now level half target.now predictor.now cap (not (eqb skip 0)) margin) lambda) }
 {
     let made = plan_macroblock(
         book,

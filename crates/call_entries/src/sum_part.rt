@@ -1,9 +1,9 @@
 // The sum of one vector as an exported function.
 ghost use Rattle.std.specs.Prelude.{◌≡◌};
-ghost use Rattle.compensation.specs.RowForms.{bestOrNone};
-ghost use Rattle.motion.specs.Sum.{sumAnswer};
-ghost use Rattle.motion.specs.SearchCall.{summedAnswer};
-ghost use Rattle.call_entries.specs.Sum.{sumPart};
+ghost use Rattle.compensation.specs.RowForms.{best_or_none};
+ghost use Rattle.motion.specs.Sum.{sum_answer};
+ghost use Rattle.motion.specs.SearchCall.{summed_answer};
+ghost use Rattle.call_entries.specs.Sum.{sum_part};
 
 use motion::svq1_enc_inter::{SummedVector, sum_motion_vector};
 use vectors::svq1_motion_predictor::Svq1Mv;
@@ -18,7 +18,7 @@ pub struct SumPart {
 }
 
 fn part_of_sum(summed: SummedVector) -> SumPart
-    ensures { result ≡ sumPart (summedAnswer summed) }
+    ensures { result ≡ sum_part (summed_answer summed) }
 {
     match summed {
         SummedVector::Sum(s) => SumPart {
@@ -52,7 +52,7 @@ pub extern "C" fn parts_sum_motion_vector(
     vy: i32,
     best: u64,
 ) -> SumPart
-    ensures { result ≡ sumPart (sumAnswer (record { reference = record { samples = reference.entry.now; stride = stride; rows = rows }; width = width; height = height; target = target.now; side = side; x = x; y = y; predictor = record { x = px; y = py }; radius = 0 }) (record { x = vx; y = vy }) (bestOrNone best)) }
+    ensures { result ≡ sum_part (sum_answer (record { reference = record { samples = reference.entry.now; stride = stride; rows = rows }; width = width; height = height; target = target.now; side = side; x = x; y = y; predictor = record { x = px; y = py }; radius = 0 }) (record { x = vx; y = vy }) (best_or_none best)) }
 {
     let predictor = Svq1Mv { x: px, y: py };
     let v = Svq1Mv { x: vx, y: vy };

@@ -1,8 +1,8 @@
 // The motion search as an exported function.
 ghost use Rattle.std.specs.Prelude.{◌≡◌};
-ghost use Rattle.motion.specs.Search.{searchAnswer};
-ghost use Rattle.motion.specs.SearchCall.{searchedAnswer};
-ghost use Rattle.call_entries.specs.Vector.{vectorPart};
+ghost use Rattle.motion.specs.Search.{search_answer};
+ghost use Rattle.motion.specs.SearchCall.{searched_answer};
+ghost use Rattle.call_entries.specs.Vector.{vector_part};
 
 use motion::svq1_enc_inter::{Searched, search_motion_vector};
 use vectors::svq1_motion_predictor::Svq1Mv;
@@ -17,7 +17,7 @@ pub struct VectorPart {
 }
 
 fn part_of(found: Searched) -> VectorPart
-    ensures { result ≡ vectorPart (searchedAnswer found) }
+    ensures { result ≡ vector_part (searched_answer found) }
 {
     match found {
         Searched::Vector(v) => VectorPart {
@@ -49,7 +49,7 @@ pub extern "C" fn parts_search_motion_vector(
     py: i32,
     radius: u8,
 ) -> VectorPart
-    ensures { result ≡ vectorPart (searchAnswer (record { reference = record { samples = reference.entry.now; stride = stride; rows = rows }; width = width; height = height; target = target.now; side = side; x = x; y = y; predictor = record { x = px; y = py }; radius = radius })) }
+    ensures { result ≡ vector_part (search_answer (record { reference = record { samples = reference.entry.now; stride = stride; rows = rows }; width = width; height = height; target = target.now; side = side; x = x; y = y; predictor = record { x = px; y = py }; radius = radius })) }
 {
     let predictor = Svq1Mv { x: px, y: py };
     part_of(search_motion_vector(

@@ -9,36 +9,36 @@ pub record Canvas : Type 0 where
   pub rows : ℕ
 
 -- the largest width or height
-abbrev pub largestSide : ℕ
-largestSide = 1024
+abbrev pub largest_side : ℕ
+largest_side = 1024
 
 -- not refused by 1
-abbrev pub sideOk : ℕ → Bool
-sideOk n = leb 1 n && leb n largestSide
+abbrev pub side_ok : ℕ → Bool
+side_ok n = leb 1 n && leb n largest_side
 
 -- macroblocks along a side, and the side rounded up to 16
-abbrev pub blocksAlong : ℕ → ℕ
-blocksAlong n = (n + 15) / 16
+abbrev pub blocks_along : ℕ → ℕ
+blocks_along n = (n + 15) / 16
 
 abbrev pub padded16 : ℕ → ℕ
-padded16 n = 16 * blocksAlong n
+padded16 n = 16 * blocks_along n
 
 -- 1: width or height 0 or above the largest side
-abbrev pub sizeRefusal : ℕ → ℕ → ℕ
-sizeRefusal w h = unless (sideOk w && sideOk h) 1
+abbrev pub size_refusal : ℕ → ℕ → ℕ
+size_refusal w h = unless (side_ok w && side_ok h) 1
 
 -- 2: source length not width × height
-abbrev pub sourceRefusal : ℕ → ℕ → ℕ → ℕ
-sourceRefusal w h n = unless (eqb n (w * h)) 2
+abbrev pub source_refusal : ℕ → ℕ → ℕ → ℕ
+source_refusal w h n = unless (eqb n (w * h)) 2
 
 -- 3: stride or rows not the size rounded up to 16. 4: length not stride × rows
-abbrev pub canvasRefusal : ℕ → ℕ → Canvas → ℕ
-canvasRefusal w h c =
+abbrev pub canvas_refusal : ℕ → ℕ → Canvas → ℕ
+canvas_refusal w h c =
     or_else (unless (eqb c.stride (padded16 w) && eqb c.rows (padded16 h)) 3) (unless (eqb (length c.samples) (c.stride * c.rows)) 4)
 
 -- what a call that reads a plane tests first, and one that writes a plane from a source of n samples
-abbrev pub canvasLinks : ℕ → ℕ → Canvas → List ℕ
-canvasLinks w h c = sizeRefusal w h ∷ canvasRefusal w h c ∷ []
+abbrev pub canvas_links : ℕ → ℕ → Canvas → List ℕ
+canvas_links w h c = size_refusal w h ∷ canvas_refusal w h c ∷ []
 
-abbrev pub sourceLinks : ℕ → ℕ → ℕ → Canvas → List ℕ
-sourceLinks w h n c = sizeRefusal w h ∷ sourceRefusal w h n ∷ canvasRefusal w h c ∷ []
+abbrev pub source_links : ℕ → ℕ → ℕ → Canvas → List ℕ
+source_links w h n c = size_refusal w h ∷ source_refusal w h n ∷ canvas_refusal w h c ∷ []

@@ -3,7 +3,7 @@ pub mod inner;
 
 ghost use Rattle.std.specs.Prelude.{◌≡◌, ◌≤◌};
 ghost use Rattle.bits.specs.Basics.{or_else, first_of};
-ghost use Rattle.canvas.specs.Canvas.{largestSide, padded16, sideOk, sizeRefusal, canvasRefusal, sourceLinks};
+ghost use Rattle.canvas.specs.Canvas.{largest_side, padded16, side_ok, size_refusal, canvas_refusal, source_links};
 
 // The side of a macroblock in samples.
 pub const MB_DIM: usize = 16;
@@ -21,7 +21,7 @@ pub struct Svq1PlaneCanvas {
 }
 
 fn side_ok(n: usize) -> bool
-    ensures { result ≡ sideOk n }
+    ensures { result ≡ side_ok n }
 {
     if n < 1 {
         return false;
@@ -31,7 +31,7 @@ fn side_ok(n: usize) -> bool
 
 // Refusal 1: a width or height of 0 or above the largest; 0 for none.
 pub fn size_refusal(width: usize, height: usize) -> u8
-    ensures { result ≡ sizeRefusal width height }
+    ensures { result ≡ size_refusal width height }
 {
     if !side_ok(width) {
         return 1;
@@ -43,16 +43,16 @@ pub fn size_refusal(width: usize, height: usize) -> u8
 }
 
 fn rounded_up(n: usize) -> usize
-    requires { n ≤ largestSide }
-    ensures { (result ≡ padded16 n) × (result ≤ padded16 largestSide) }
+    requires { n ≤ largest_side }
+    ensures { (result ≡ padded16 n) × (result ≤ padded16 largest_side) }
 {
     MB_DIM * ((n + (MB_DIM - 1)) / MB_DIM)
 }
 
 // Of a canvas for a size that passes.
 fn canvas_refusal(reference: &[u8], width: usize, height: usize, stride: usize, rows: usize) -> u8
-    requires { (width ≤ largestSide) × (height ≤ largestSide) }
-    ensures { result ≡ canvasRefusal width height (record { samples = reference.now; stride = stride; rows = rows }) }
+    requires { (width ≤ largest_side) × (height ≤ largest_side) }
+    ensures { result ≡ canvas_refusal width height (record { samples = reference.now; stride = stride; rows = rows }) }
 {
     if stride != rounded_up(width) {
         return 3;
@@ -74,7 +74,7 @@ pub fn plane_refusal(
     stride: usize,
     rows: usize,
 ) -> u8
-    ensures { result ≡ or_else (sizeRefusal width height) (canvasRefusal width height (record { samples = reference.now; stride = stride; rows = rows })) }
+    ensures { result ≡ or_else (size_refusal width height) (canvas_refusal width height (record { samples = reference.now; stride = stride; rows = rows })) }
 {
     let n = size_refusal(width, height);
     if n != 0 {
@@ -85,7 +85,7 @@ pub fn plane_refusal(
 
 // The refusals 1 to 4 of a plane, its source, of which the length is given, and its reference's canvas; 0 for none.
 pub fn source_refusal(canvas: Svq1PlaneCanvas, source: usize, reference: &[u8]) -> u8
-    ensures { result ≡ first_of (sourceLinks canvas.width canvas.height source (record { samples = reference.now; stride = canvas.stride; rows = canvas.rows })) }
+    ensures { result ≡ first_of (source_links canvas.width canvas.height source (record { samples = reference.now; stride = canvas.stride; rows = canvas.rows })) }
 {
     let width = canvas.width;
     let height = canvas.height;

@@ -5,23 +5,23 @@ use Rattle.bits.specs.Calls.{Answer, done, refused, Read}
 use Rattle.code_tables.specs.Calls.{code_at}
 
 -- the byte of a hexadecimal digit: `0` to `9`, then `a` to `f`
-abbrev pub hexDigit : ℕ → ℕ
-hexDigit n = pick (ltb n 10) (48 + n) (87 + n)
+abbrev pub hex_digit : ℕ → ℕ
+hex_digit n = pick (ltb n 10) (48 + n) (87 + n)
 
 -- a byte as two of them
-abbrev pub hexByte : ℕ → List ℕ
-hexByte b = hexDigit (b / 16) ∷ hexDigit (b % 16) ∷ []
+abbrev pub hex_byte : ℕ → List ℕ
+hex_byte b = hex_digit (b / 16) ∷ hex_digit (b % 16) ∷ []
 
 -- 1 for equal numbers, 0 for others
-abbrev pub oneIf : ℕ → ℕ → ℕ
-oneIf a b = pick (eqb a b) 1 0
+abbrev pub one_if : ℕ → ℕ → ℕ
+one_if a b = pick (eqb a b) 1 0
 
 -- how many of the first n elements are v, and how many of all
 unfoldable pub count_to : ℕ → List ℕ → ℕ → ℕ
-count_to v s n = sum (λ k. oneIf (get_or s k 0) v) n
+count_to v s n = sum (λ k. one_if (get_or s k 0) v) n
 
-abbrev pub countIn : ℕ → List ℕ → ℕ
-countIn v s = count_to v s (length s)
+abbrev pub count_in : ℕ → List ℕ → ℕ
+count_in v s = count_to v s (length s)
 
 -- the position of a code that was read; 4, which is no mode's, where there is none
 abbrev pub position_of : Answer Read → ℕ
@@ -29,5 +29,5 @@ position_of (done r) = r.value
 position_of (refused n) = 4
 
 -- the position of the mode whose code stands at a bit: a book's first four entries are the modes'
-unfoldable pub modeRead : List ℕ → List ℕ → ℕ → ℕ
-modeRead book bytes at = pick (ltb (length book) 12) 4 (position_of (code_at bytes at (take 12 book)))
+unfoldable pub mode_read : List ℕ → List ℕ → ℕ → ℕ
+mode_read book bytes at = pick (ltb (length book) 12) 4 (position_of (code_at bytes at (take 12 book)))

@@ -5,8 +5,8 @@ use Rattle.std.proofs.Math.IntN.{sub_ℕ}
 use Rattle.std.specs.Int.{w32}
 use Rattle.std.proofs.lemmas.Int.{to_z-of_z}
 use Rattle.bits.specs.Basics.{sum}
-use Rattle.vectors.specs.ClipLaws.{sub-mag}
-use Rattle.cards.specs.Numbers.{oneIf, count_to}
+use Rattle.vectors.specs.ClipLaws.{sub_mag}
+use Rattle.cards.specs.Numbers.{one_if, count_to}
 
 -- ---- counts
 -- nothing is counted yet, and one element more
@@ -14,14 +14,14 @@ pub count_none : (v : ℕ) (s : List ℕ) → count_to v s 0 ≡ 0
 unfolding count_to sum
 count_none v s = refl
 
-pub count-more : (v : ℕ) (s : List ℕ) (i : ℕ) → count_to v s (i + 1) ≡ count_to v s i + oneIf (get_or s i 0) v
+pub count_more : (v : ℕ) (s : List ℕ) (i : ℕ) → count_to v s (i + 1) ≡ count_to v s i + one_if (get_or s i 0) v
 unfolding count_to sum
-count-more v s i = rw add-one
+count_more v s i = rw add-one
 
 -- ---- one natural number less another
-less-is : (a b : ℕ) → pos a -ℤ pos b ≡ sub_ℕ a b
-less-is a zero = rw (le-ltb a 0 (omega arith)) (ap pos (omega arith))
-less-is a (suc b) = refl
+less_is : (a b : ℕ) → pos a -ℤ pos b ≡ sub_ℕ a b
+less_is a zero = rw (le-ltb a 0 (omega arith)) (ap pos (omega arith))
+less_is a (suc b) = refl
 
 -- two 16-bit numbers, subtracted in 32 bits
 pub record Less (a b : ℕ) : Type 0 where
@@ -32,6 +32,6 @@ pub less : (a b : ℕ) → a < 65536 → b < 65536 → Less a b
 less a b h k =
     let e = to_z-of_z w32 (pos a) (record { sfits = omega arith }) in
     let f = to_z-of_z w32 (pos b) (record { sfits = omega arith }) in
-    let d : to_z w32 a -ℤ to_z w32 b ≡ sub_ℕ a b = rw (e, f) (less-is a b) in
-    let w : SFits w32 (sub_ℕ a b) = record { sfits = omega (arith, sub-mag a b) } in
+    let d : to_z w32 a -ℤ to_z w32 b ≡ sub_ℕ a b = rw (e, f) (less_is a b) in
+    let w : SFits w32 (sub_ℕ a b) = record { sfits = omega (arith, sub_mag a b) } in
     record { whole = rw d w; same = rw d (to_z-of_z w32 (sub_ℕ a b) w) }

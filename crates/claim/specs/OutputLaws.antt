@@ -8,17 +8,17 @@ use native.Mathlib.Omega.{arith}
 use Rattle.std.proofs.Math.Nat.{add-zero}
 use mathlib.Core.List.{List, [], ◌∷◌, ◌++◌, append_assoc}
 use Rattle.std.proofs.Math.ListN.{length}
-use Rattle.bits.specs.Bits.{bits_of, putBits, afterBits}
-use Rattle.bits.specs.BitsLaws.{put-nil, put-put, drop-put, length-bitsOf}
+use Rattle.bits.specs.Bits.{bits_of, put_bits, after_bits}
+use Rattle.bits.specs.BitsLaws.{put_nil, put_put, drop_put, length_bits_of}
 use Rattle.tree.specs.Plan.{Weight}
 use Rattle.macroblock.specs.Macroblock.{Given}
-use Rattle.macroblock.specs.Choice.{Task, weightOf}
+use Rattle.macroblock.specs.Choice.{Task, weight_of}
 use Rattle.macroblock.specs.Slices.{Slices}
 use Rattle.plane.specs.Run.{after}
 use Rattle.plane.specs.RunLaws.{testing, run_on, run_fits}
-use Rattle.plane.specs.Plane.{count, Writing, wroteWeight, wroteBits, fits, written, toWrite, writePlane}
-use Rattle.plane.specs.PlaneLaws.{AppendsOnly, appends-to}
-use Rattle.claim.specs.Claim.{Appended, stateAt, final}
+use Rattle.plane.specs.Plane.{count, Writing, wrote_weight, wrote_bits, fits, written, to_write, write_plane}
+use Rattle.plane.specs.PlaneLaws.{AppendsOnly, appends_to}
+use Rattle.claim.specs.Claim.{Appended, state_at, final}
 
 -- ---- two lists that begin alike
 within : (a n m : ℕ) (l : List ℕ) → a + n ≤ m → take n (drop a (take m l)) ≡ take n (drop a l)
@@ -31,32 +31,32 @@ same-within : (a n m : ℕ) (x y : List ℕ) → a + n ≤ m → take m x ≡ ta
 same-within a n m x y h e = sym (within a n m x h) ∙ ap (λ (l : List ℕ). take n (drop a l)) e ∙ within a n m y h
 
 -- ---- the run
-module _ (g : Given) (t : Task) (bits : List ℕ) (even : length bits % 8 ≡ 0) (start : ℕ) (a : Slices) (whole : (writePlane g t bits start a).refusal ≡ 0) where
+module _ (g : Given) (t : Task) (bits : List ℕ) (even : length bits % 8 ≡ 0) (start : ℕ) (a : Slices) (whole : (write_plane g t bits start a).refusal ≡ 0) where
   abbrev S : ℕ → Writing
-  S = stateAt g t bits start a
+  S = state_at g t bits start a
 
   abbrev weigh : ℕ → Weight
-  weigh k = wroteWeight g t k (S k)
+  weigh k = wrote_weight g t k (S k)
 
   abbrev E : Writing
   E = final g t bits start a
 
   abbrev bits_at : ℕ → List ℕ
-  bits_at k = wroteBits g t k (S k)
+  bits_at k = wrote_bits g t k (S k)
 
   stated : (k : ℕ) → (weigh k).bits ≡ length (bits_at k)
-  unfolding weightOf
+  unfolding weight_of
   stated k = refl
 
   fit : (k : ℕ) → k < count g → fits g t k (S k) ≡ true
-  unfolding after writePlane
-  fit k h = run_fits 21 (fits g t) (written g t) (toWrite bits start a) (count g) 0 whole k (omega arith) (omega arith)
+  unfolding after write_plane
+  fit k h = run_fits 21 (fits g t) (written g t) (to_write bits start a) (count g) 0 whole k (omega arith) (omega arith)
 
   room : (k : ℕ) → k < count g → (S k).next + (weigh k).bits ≤ length (S k).out
   room k h = leb-true ((S k).next + (weigh k).bits) (length (S k).out) (fit k h)
 
-  pub reached : writePlane g t bits start a ≡ record { refusal = 0; done = count g; state = E }
-  unfolding after writePlane
+  pub reached : write_plane g t bits start a ≡ record { refusal = 0; done = count g; state = E }
+  unfolding after write_plane
   reached =
       run_on (testing 22 (fits g t) (written g t)) S (count g) 0 (λ j q l. rw (fit j (omega arith)))
       ∙ ap (λ (i : ℕ). record { refusal = 0; done = i; state = S i }) (zero-add (count g))
@@ -66,35 +66,35 @@ module _ (g : Given) (t : Task) (bits : List ℕ) (even : length bits % 8 ≡ 0)
   appended k h = record { stated = stated k; output = refl; next = refl; bits = refl; error = refl }
 
   -- ---- the output, from macroblock k on
-  bitsFrom : ℕ → ℕ → List ℕ
-  bitsFrom zero k = []
-  bitsFrom (suc m) k = bits_at k ++ bitsFrom m (suc k)
+  bits_from : ℕ → ℕ → List ℕ
+  bits_from zero k = []
+  bits_from (suc m) k = bits_at k ++ bits_from m (suc k)
 
-  out-later : (m k : ℕ) → k + m ≤ count g → (S (k + m)).out ≡ putBits (S k).out (S k).next (bitsFrom m k)
-  unfolding bitsFrom
-  out-later zero k h = rw add-zero (sym (put-nil (S k).out (S k).next))
-  out-later (suc m) k h =
+  out_later : (m k : ℕ) → k + m ≤ count g → (S (k + m)).out ≡ put_bits (S k).out (S k).next (bits_from m k)
+  unfolding bits_from
+  out_later zero k h = rw add-zero (sym (put_nil (S k).out (S k).next))
+  out_later (suc m) k h =
       let p = appended k (omega arith) in
       let nx : (S (suc k)).next ≡ (S k).next + length (bits_at k) = p.next ∙ ap (λ (i : ℕ). (S k).next + i) p.stated in
       let l : (S k).next ≤ length (S k).out = omega (arith, room k (omega arith)) in
       ap (λ (i : ℕ). (S i).out) (add-suc k m ∙ sym (suc-add k m))
-      ∙ out-later m (suc k) (omega arith)
-      ∙ ap₂ (λ (o : List ℕ) (i : ℕ). putBits o i (bitsFrom m (suc k))) p.output nx
-      ∙ put-put (S k).out (bits_at k) (bitsFrom m (suc k)) (S k).next l
+      ∙ out_later m (suc k) (omega arith)
+      ∙ ap₂ (λ (o : List ℕ) (i : ℕ). put_bits o i (bits_from m (suc k))) p.output nx
+      ∙ put_put (S k).out (bits_at k) (bits_from m (suc k)) (S k).next l
 
-  out-from : (k : ℕ) → k < count g → E.out ≡ putBits (S k).out (S k).next (bits_at k ++ bitsFrom (count g - suc k) (suc k))
-  unfolding bitsFrom
-  out-from k h =
+  out_from : (k : ℕ) → k < count g → E.out ≡ put_bits (S k).out (S k).next (bits_at k ++ bits_from (count g - suc k) (suc k))
+  unfolding bits_from
+  out_from k h =
       let q : count g ≡ k + suc (count g - suc k) = omega arith in
-      ap (λ (i : ℕ). (S i).out) q ∙ out-later (suc (count g - suc k)) k (omega arith)
+      ap (λ (i : ℕ). (S i).out) q ∙ out_later (suc (count g - suc k)) k (omega arith)
 
   -- ---- each state only appends
-  pub only-appends : (k : ℕ) → k ≤ count g → AppendsOnly bits start (S k)
-  only-appends k h = appends-to g t bits even start a k (λ j l. fit j (omega arith))
+  pub only_appends : (k : ℕ) → k ≤ count g → AppendsOnly bits start (S k)
+  only_appends k h = appends_to g t bits even start a k (λ j l. fit j (omega arith))
 
   -- its bits lie in the output
   inside : (k : ℕ) → k < count g → (S k).next + (weigh k).bits ≤ length bits
-  inside k h = rw (only-appends k (omega arith)).long at (room k h)
+  inside k h = rw (only_appends k (omega arith)).long at (room k h)
 
   later : (m k : ℕ) → (S k).next ≤ (S (k + m)).next
   unfolding after written
@@ -114,14 +114,14 @@ module _ (g : Given) (t : Task) (bits : List ℕ) (even : length bits % 8 ≡ 0)
   ended (suc n) h l = inside n l
 
   pub same_length : (bytes : List ℕ) → bits_of bytes ≡ E.out → 8 * length bytes ≡ length bits
-  same_length bytes e = omega (arith, length-bitsOf bytes, ap length e, (only-appends (count g) (le_refl (count g))).long)
+  same_length bytes e = omega (arith, length_bits_of bytes, ap length e, (only_appends (count g) (le_refl (count g))).long)
 
   -- macroblock k's bits stand at its bit, and something after them
   stands : (k : ℕ) → k < count g → (r : List ℕ) × (drop (S k).next E.out ≡ bits_at k ++ r)
   stands k h =
       let l : (S k).next ≤ length (S k).out = omega (arith, room k h) in
-      let xs : List ℕ = bits_at k ++ bitsFrom (count g - suc k) (suc k) in
-      (bitsFrom (count g - suc k) (suc k) ++ afterBits (S k).out (S k).next xs, rw (out-from k h) (drop-put (S k).out xs (S k).next l ∙ append_assoc (bits_at k) _ _))
+      let xs : List ℕ = bits_at k ++ bits_from (count g - suc k) (suc k) in
+      (bits_from (count g - suc k) (suc k) ++ after_bits (S k).out (S k).next xs, rw (out_from k h) (drop_put (S k).out xs (S k).next l ∙ append_assoc (bits_at k) _ _))
 
   pub held : (k : ℕ) → k < count g → take (weigh k).bits (drop (S k).next E.out) ≡ bits_at k
   held k h =
@@ -135,10 +135,10 @@ module _ (g : Given) (t : Task) (bits : List ℕ) (even : length bits % 8 ≡ 0)
 
     reaches : 0 < count g → E.next ≤ length xs
     reaches h =
-        omega (arith, (only-appends (count g) (le_refl (count g))).long, ended (count g) h (le_refl (count g)), length-take E.next xs, length-take E.next E.out, ap length alike)
+        omega (arith, (only_appends (count g) (le_refl (count g))).long, ended (count g) h (le_refl (count g)), length-take E.next xs, length-take E.next E.out, ap length alike)
 
-    pub stands-in : (k : ℕ) → k < count g → (r : List ℕ) × (drop (S k).next xs ≡ bits_at k ++ r) × ((S k).next ≤ length xs)
-    stands-in k h = (
+    pub stands_in : (k : ℕ) → k < count g → (r : List ℕ) × (drop (S k).next xs ≡ bits_at k ++ r) × ((S k).next ≤ length xs)
+    stands_in k h = (
       drop (weigh k).bits (drop (S k).next xs),
       sym (take-append-drop (weigh k).bits (drop (S k).next xs)) ∙ rw (held_in k h),
       omega (arith, up_to k h, reaches (omega arith)),

@@ -1,10 +1,10 @@
 // A plane written and read back: what is claimed of a whole plane, tied to memory.
-ghost use Rattle.macroblock_choice.specs.ChosenNeeds.{taskBy};
-ghost use Rattle.macroblock.specs.MacroblockNeeds.{givenBy};
+ghost use Rattle.macroblock_choice.specs.ChosenNeeds.{task_by};
+ghost use Rattle.macroblock.specs.MacroblockNeeds.{given_by};
 ghost use Rattle.plane_dec.specs.ReaderNeeds as reader;
 ghost use Rattle.plane_enc.specs.WriterNeeds as writer;
-ghost use Rattle.claim.specs.RoundTrip.{tripBy, RoundTrip};
-ghost use Rattle.macroblock.specs.Slices.{slicesBy, lent_by};
+ghost use Rattle.claim.specs.RoundTrip.{trip_by, RoundTrip};
+ghost use Rattle.macroblock.specs.Slices.{slices_by, lent_by};
 
 use canvas::svq1_plane::Svq1PlaneCanvas;
 use macroblock::svq1_enc_inter::Settings;
@@ -37,7 +37,7 @@ pub fn round_trip_inter_plane(
     backx: &mut [u8],
     backy: &mut [u8],
 ) -> TripEnd
-    ensures { RoundTrip (givenBy canvas reference.now book.now codebook.now) (taskBy source.now settings) start (tripBy (lent_by out.old (slicesBy recon.old vx.old vy.old)) stated.old (slicesBy back.old backx.old backy.old)) (writer.writeEndOf result.written) (reader.readEndOf result.read) (tripBy (lent_by out.new (slicesBy recon.new vx.new vy.new)) stated.new (slicesBy back.new backx.new backy.new)) }
+    ensures { RoundTrip (given_by canvas reference.now book.now codebook.now) (task_by source.now settings) start (trip_by (lent_by out.old (slices_by recon.old vx.old vy.old)) stated.old (slices_by back.old backx.old backy.old)) (writer.write_end_of result.written) (reader.read_end_of result.read) (trip_by (lent_by out.new (slices_by recon.new vx.new vy.new)) stated.new (slices_by back.new backx.new backy.new)) }
 {
     let written = encode_inter_plane_stated(
         canvas, source, reference, book, codebook, settings, out, start, recon, vx, vy, stated,

@@ -2,23 +2,23 @@
 use Rattle.std.specs.Prelude.{ℕ, ◌/◌, Bool, false, ◌||◌, List, [], ◌∷◌, eqb, ltb, length}
 use Rattle.bits.specs.Basics.{or_else, unless}
 use Rattle.bits.specs.Bits.{bits_of}
-use Rattle.bits.specs.Calls.{Answer, done, refused, unlessRefused, Read, startRefusal, roomRefusal}
-use Rattle.code_tables.specs.Codes.{codeLen, codes_of, goodTable, prefixFree, read_code}
+use Rattle.bits.specs.Calls.{Answer, done, refused, unless_refused, Read, start_refusal, room_refusal}
+use Rattle.code_tables.specs.Codes.{code_len, codes_of, good_table, prefix_free, read_code}
 use Rattle.code_tables.specs.declared.svq1_vlc.CodeRead.{CodeRead}
 use Rattle.code_tables.specs.declared.svq1_vlc.CodeRead.TheVariants.{Code, NoCode, Ends}
 use Rattle.code_tables.specs.declared.svq1_vlc.CodeAnswer.{CodeAnswer}
-use Rattle.code_tables.specs.declared.svq1_vlc.CodeAnswer.TheVariants as code-answer
+use Rattle.code_tables.specs.declared.svq1_vlc.CodeAnswer.TheVariants as code_answer_lem
 
 -- the number and the values of each case of the answer's enum
-abbrev pub codeAnswer : CodeAnswer → Answer Read
-codeAnswer (code-answer.Code k next) = done (record { value = k; next = next })
-codeAnswer (code-answer.Refused n) = refused n
+abbrev pub code_answer : CodeAnswer → Answer Read
+code_answer (code_answer_lem.Code k next) = done (record { value = k; next = next })
+code_answer (code_answer_lem.Refused n) = refused n
 
 -- 10 where there is no code, 24 where the bits end inside one
-abbrev pub readAnswer : CodeRead → Answer Read
-readAnswer (Code k next) = done (record { value = k; next = next })
-readAnswer NoCode = refused 10
-readAnswer Ends = refused 24
+abbrev pub read_answer : CodeRead → Answer Read
+read_answer (Code k next) = done (record { value = k; next = next })
+read_answer NoCode = refused 10
+read_answer Ends = refused 24
 
 -- n is one of the numbers
 unfoldable pub one_of : List ℕ → ℕ → Bool
@@ -26,17 +26,17 @@ one_of [] n = false
 one_of (k ∷ ks) n = eqb n k || one_of ks n
 
 -- the bytes of each kind of code table, three an entry: 4 for mode, 8 for the stages of a level, 64 for vector, 256 for intramean, 512 for intermean
-abbrev pub tableBytes : List ℕ
-tableBytes = 12 ∷ 24 ∷ 192 ∷ 768 ∷ 1536 ∷ []
+abbrev pub table_bytes : List ℕ
+table_bytes = 12 ∷ 24 ∷ 192 ∷ 768 ∷ 1536 ∷ []
 
 -- of a table lent alone: 5 where it has another size, 6 where an entry is bad, 7 where a code begins another or equals it
-unfoldable pub tableRefusal : List ℕ → ℕ
-tableRefusal t = or_else (unless (one_of tableBytes (length t)) 5) (or_else (unless (goodTable t) 6) (unless (prefixFree (codes_of t)) 7))
+unfoldable pub table_refusal : List ℕ → ℕ
+table_refusal t = or_else (unless (one_of table_bytes (length t)) 5) (or_else (unless (good_table t) 6) (unless (prefix_free (codes_of t)) 7))
 
 -- of a code to be written: 5 also where the table has no entry at position k
-unfoldable pub codeRefusal : ℕ → ℕ → List ℕ → ℕ → ℕ
-codeRefusal bytes at t k = or_else (unless (ltb k (length t / 3)) 5) (or_else (tableRefusal t) (roomRefusal bytes at (codeLen t k) 22))
+unfoldable pub code_refusal : ℕ → ℕ → List ℕ → ℕ → ℕ
+code_refusal bytes at t k = or_else (unless (ltb k (length t / 3)) 5) (or_else (table_refusal t) (room_refusal bytes at (code_len t k) 22))
 
 -- the code that stands at bit `at`
 unfoldable pub code_at : List ℕ → ℕ → List ℕ → Answer Read
-code_at s at t = unlessRefused (or_else (tableRefusal t) (startRefusal (length s) at)) (readAnswer (read_code (codes_of t) (bits_of s) at))
+code_at s at t = unless_refused (or_else (table_refusal t) (start_refusal (length s) at)) (read_answer (read_code (codes_of t) (bits_of s) at))

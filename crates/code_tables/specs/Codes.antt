@@ -6,11 +6,11 @@ use Rattle.code_tables.specs.declared.svq1_vlc.CodeRead.{CodeRead}
 use Rattle.code_tables.specs.declared.svq1_vlc.CodeRead.TheVariants.{Code, NoCode, Ends}
 
 -- ---- a table's entries: three bytes each, the code's high byte, its low byte, its length
-abbrev pub codeVal : List ℕ → ℕ → ℕ
-codeVal t k = get_or t (3 * k) 0 * 256 + get_or t (3 * k + 1) 0
+abbrev pub code_val : List ℕ → ℕ → ℕ
+code_val t k = get_or t (3 * k) 0 * 256 + get_or t (3 * k + 1) 0
 
-abbrev pub codeLen : List ℕ → ℕ → ℕ
-codeLen t k = get_or t (3 * k + 2) 0
+abbrev pub code_len : List ℕ → ℕ → ℕ
+code_len t k = get_or t (3 * k + 2) 0
 
 -- the codes of a table as bit lists
 unfoldable pub codes_of : List ℕ → List (List ℕ)
@@ -24,15 +24,15 @@ abbrev pub code : List (List ℕ) → ℕ → List ℕ
 code cs k = get_or cs k []
 
 -- not refused by 6: the length is 1 to 32 and the value is below 2^length
-abbrev pub goodEntry : ℕ → ℕ → Bool
-goodEntry v n = (leb 1 n && leb n 32) && ltb v (2 ^ n)
+abbrev pub good_entry : ℕ → ℕ → Bool
+good_entry v n = (leb 1 n && leb n 32) && ltb v (2 ^ n)
 
 -- whole entries, none refused by 6
-unfoldable pub goodTable : List ℕ → Bool
-goodTable [] = true
-goodTable (h ∷ []) = false
-goodTable (h ∷ l ∷ []) = false
-goodTable (h ∷ l ∷ n ∷ t) = goodEntry (h * 256 + l) n && goodTable t
+unfoldable pub good_table : List ℕ → Bool
+good_table [] = true
+good_table (h ∷ []) = false
+good_table (h ∷ l ∷ []) = false
+good_table (h ∷ l ∷ n ∷ t) = good_entry (h * 256 + l) n && good_table t
 
 -- the bits c are the first bits of bs
 unfoldable pub begins : List ℕ → List ℕ → Bool
@@ -50,24 +50,24 @@ apart c [] = true
 apart c (d ∷ cs) = not (clash c d) && apart c cs
 
 -- not refused by 7: no code of the table begins another or equals it
-unfoldable pub prefixFree : List (List ℕ) → Bool
-prefixFree [] = true
-prefixFree (c ∷ cs) = apart c cs && prefixFree cs
+unfoldable pub prefix_free : List (List ℕ) → Bool
+prefix_free [] = true
+prefix_free (c ∷ cs) = apart c cs && prefix_free cs
 
 -- ---- reading a code
 -- the first of the codes, counted from k, that begins bs, with the bit behind it, where bs stands at bit `at`; else `other`
-unfoldable pub firstCode : List (List ℕ) → ℕ → List ℕ → ℕ → CodeRead → CodeRead
-firstCode [] k bs at other = other
-firstCode (c ∷ cs) k bs at other = pick (begins c bs) (Code k (at + length c)) (firstCode cs (suc k) bs at other)
+unfoldable pub first_code : List (List ℕ) → ℕ → List ℕ → ℕ → CodeRead → CodeRead
+first_code [] k bs at other = other
+first_code (c ∷ cs) k bs at other = pick (begins c bs) (Code k (at + length c)) (first_code cs (suc k) bs at other)
 
 -- bs is the start of one of the codes
-unfoldable pub anyStart : List (List ℕ) → List ℕ → Bool
-anyStart [] bs = false
-anyStart (c ∷ cs) bs = begins bs c || anyStart cs bs
+unfoldable pub any_start : List (List ℕ) → List ℕ → Bool
+any_start [] bs = false
+any_start (c ∷ cs) bs = begins bs c || any_start cs bs
 
 -- what stands at bit `at`: a code; the start of one, cut off where the bits end; or neither
 abbrev pub read_code : List (List ℕ) → List ℕ → ℕ → CodeRead
-read_code cs bits at = firstCode cs 0 (drop at bits) at (pick (anyStart cs (drop at bits)) Ends NoCode)
+read_code cs bits at = first_code cs 0 (drop at bits) at (pick (any_start cs (drop at bits)) Ends NoCode)
 
 -- ---- reading from the front of a bit list
 -- what reading gives: a value and the bits left, or a refusal's number
@@ -81,15 +81,15 @@ then (got a r) f = f a r
 then (bad k) f = bad k
 
 -- document 01's number for what reading a code met: 10 where the bits neither begin with a code nor are the start of one, 24 where they end inside one
-abbrev pub codeGot : List ℕ → CodeRead → Got ℕ
-codeGot bits (Code k next) = got k (drop next bits)
-codeGot bits NoCode = bad 10
-codeGot bits Ends = bad 24
+abbrev pub code_got : List ℕ → CodeRead → Got ℕ
+code_got bits (Code k next) = got k (drop next bits)
+code_got bits NoCode = bad 10
+code_got bits Ends = bad 24
 
 -- the position of the code that the bits begin with
-unfoldable pub takeCode : List (List ℕ) → List ℕ → Got ℕ
-takeCode cs bits = codeGot bits (read_code cs bits 0)
+unfoldable pub take_code : List (List ℕ) → List ℕ → Got ℕ
+take_code cs bits = code_got bits (read_code cs bits 0)
 
 -- the number that the first w bits stand for; 24 where there are fewer
-unfoldable pub takeBits : ℕ → List ℕ → Got ℕ
-takeBits w bits = pick (ltb (length bits) w) (bad 24) (got (val_of (take w bits)) (drop w bits))
+unfoldable pub take_bits : ℕ → List ℕ → Got ℕ
+take_bits w bits = pick (ltb (length bits) w) (bad 24) (got (val_of (take w bits)) (drop w bits))

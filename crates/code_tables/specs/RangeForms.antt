@@ -3,15 +3,15 @@ use Rattle.std.specs.Prelude.{ℕ, ◌+◌, ◌-◌, ◌*◌, ◌^◌, Bool, tru
 use Rattle.bits.specs.Basics.{pick}
 
 -- an end of the range of the n bits of v: the least number for e = 0, the greatest for e = 1
-abbrev pub rangeEnd : ℕ → ℕ → ℕ → ℕ
-rangeEnd e v n = v * 2 ^ (32 - n) + e * (2 ^ (32 - n) - 1)
+abbrev pub range_end : ℕ → ℕ → ℕ → ℕ
+range_end e v n = v * 2 ^ (32 - n) + e * (2 ^ (32 - n) - 1)
 
 -- of every code of a table
-unfoldable pub rangeEnds : ℕ → List ℕ → List ℕ
-rangeEnds e [] = []
-rangeEnds e (h ∷ []) = []
-rangeEnds e (h ∷ l ∷ []) = []
-rangeEnds e (h ∷ l ∷ n ∷ t) = rangeEnd e (h * 256 + l) n ∷ rangeEnds e t
+unfoldable pub range_ends : ℕ → List ℕ → List ℕ
+range_ends e [] = []
+range_ends e (h ∷ []) = []
+range_ends e (h ∷ l ∷ []) = []
+range_ends e (h ∷ l ∷ n ∷ t) = range_end e (h * 256 + l) n ∷ range_ends e t
 
 -- two ranges, given by their ends, have a number in common
 abbrev pub meet : ℕ → ℕ → ℕ → ℕ → Bool
@@ -24,7 +24,7 @@ meetings low high (l ∷ ls) [] = 0
 meetings low high (l ∷ ls) (h ∷ hs) = pick (meet low high l h) 1 0 + meetings low high ls hs
 
 -- no two of them meet
-unfoldable pub rangesApart : List ℕ → List ℕ → Bool
-rangesApart [] hs = true
-rangesApart (l ∷ ls) [] = true
-rangesApart (l ∷ ls) (h ∷ hs) = eqb (meetings l h ls hs) 0 && rangesApart ls hs
+unfoldable pub ranges_apart : List ℕ → List ℕ → Bool
+ranges_apart [] hs = true
+ranges_apart (l ∷ ls) [] = true
+ranges_apart (l ∷ ls) (h ∷ hs) = eqb (meetings l h ls hs) 0 && ranges_apart ls hs

@@ -8,12 +8,12 @@ use Rattle.std.proofs.lemmas.Nat.{shl-shr}
 use Rattle.std.proofs.Math.Pow.{high, ones_lt}
 use Rattle.std.proofs.lemmas.Bool.{lt-leb}
 use Rattle.bits.specs.Bits.{msb}
-use Rattle.bits.specs.BitsLaws.{length-msb}
-use Rattle.code_tables.specs.Codes.{clash, apart, prefixFree, codes_of, codeVal, codeLen, goodEntry, goodTable}
-use Rattle.code_tables.specs.CodesLaws.{begins-msb, clash-short, clash-swap}
+use Rattle.bits.specs.BitsLaws.{length_msb}
+use Rattle.code_tables.specs.Codes.{clash, apart, prefix_free, codes_of, code_val, code_len, good_entry, good_table}
+use Rattle.code_tables.specs.CodesLaws.{begins-msb, clash_short, clash_swap}
 use Rattle.bits.specs.Basics.{pick}
 use Rattle.bits.specs.BasicsLaws.{both_true}
-use Rattle.code_tables.specs.RangeForms.{rangeEnd, rangeEnds, meet, meetings, rangesApart}
+use Rattle.code_tables.specs.RangeForms.{range_end, range_ends, meet, meetings, ranges_apart}
 
 leb_as : (a b c d : ℕ) → (a ≤ b → c ≤ d) → (b < a → d < c) → leb a b ≡ leb c d
 leb_as a b c d f g =
@@ -61,39 +61,39 @@ module _ (x y m k : ℕ) where
             ]
       ]
 
-and-swap : (s t : Bool) → (s && t) ≡ (t && s)
-and-swap true true = refl
-and-swap true false = refl
-and-swap false true = refl
-and-swap false false = refl
+and_swap : (s t : Bool) → (s && t) ≡ (t && s)
+and_swap true true = refl
+and_swap true false = refl
+and_swap false true = refl
+and_swap false false = refl
 
 module _ (a b x y : ℕ) where
   longer : a ≤ b → b ≤ 32 → x < 2 ^ a → y < 2 ^ b
-      → meet (rangeEnd 0 x a) (rangeEnd 1 x a) (rangeEnd 0 y b) (rangeEnd 1 y b) ≡ clash (msb a x) (msb b y)
+      → meet (range_end 0 x a) (range_end 1 x a) (range_end 0 y b) (range_end 1 y b) ≡ clash (msb a x) (msb b y)
   longer l h hx hy =
       let m : ℕ = 32 - b in
       let k : ℕ = b - a in
       let e : 32 - a ≡ m + k = omega arith in
-      let same : clash (msb a x) (msb b y) ≡ eqb (y / 2 ^ k) x = clash-short (msb a x) (msb b y) (simp length-msb l) ∙ begins-msb a b x y l hx hy in
+      let same : clash (msb a x) (msb b y) ≡ eqb (y / 2 ^ k) x = clash_short (msb a x) (msb b y) (simp length_msb l) ∙ begins-msb a b x y l hx hy in
       rw (e, zero-mul (2 ^ (m + k) - 1), zero-mul (2 ^ m - 1), one-mul (2 ^ (m + k) - 1), one-mul (2 ^ m - 1), add-zero (x * 2 ^ (m + k)), add-zero (y * 2 ^ m), same, up_to x y m k, from x y m k)
       (equal x y m k)
 
 -- ranges meet exactly where the codes clash
 pub meet-clash : (a b x y : ℕ) → a ≤ 32 → b ≤ 32 → x < 2 ^ a → y < 2 ^ b
-    → meet (rangeEnd 0 x a) (rangeEnd 1 x a) (rangeEnd 0 y b) (rangeEnd 1 y b) ≡ clash (msb a x) (msb b y)
+    → meet (range_end 0 x a) (range_end 1 x a) (range_end 0 y b) (range_end 1 y b) ≡ clash (msb a x) (msb b y)
 meet-clash a b x y ha hb hx hy =
     elim (dec_lt b a) [
       | yes l ↦
-          and-swap (leb (rangeEnd 0 x a) (rangeEnd 1 y b)) (leb (rangeEnd 0 y b) (rangeEnd 1 x a))
-          ∙ longer b a y x (omega arith) ha hy hx ∙ clash-swap (msb b y) (msb a x)
+          and_swap (leb (range_end 0 x a) (range_end 1 y b)) (leb (range_end 0 y b) (range_end 1 x a))
+          ∙ longer b a y x (omega arith) ha hy hx ∙ clash_swap (msb b y) (msb a x)
       | no l ↦ longer a b x y (omega arith) hb hx hy
     ]
 
 -- ---- tables
-good-first : (h l n : ℕ) (t : List ℕ) → goodTable (h ∷ l ∷ n ∷ t) ≡ true → (n ≤ 32) × (h * 256 + l < 2 ^ n) × (goodTable t ≡ true)
-unfolding goodTable
-good-first h l n t g =
-    let b = both_true (goodEntry (h * 256 + l) n) (goodTable t) g in
+good_first : (h l n : ℕ) (t : List ℕ) → good_table (h ∷ l ∷ n ∷ t) ≡ true → (n ≤ 32) × (h * 256 + l < 2 ^ n) × (good_table t ≡ true)
+unfolding good_table
+good_first h l n t g =
+    let b = both_true (good_entry (h * 256 + l) n) (good_table t) g in
     let e = both_true (leb 1 n && leb n 32) _ b.0 in
     (leb-true n 32 (both_true (leb 1 n) (leb n 32) e.0).1, ltb-true (h * 256 + l) (2 ^ n) e.1, b.1)
 
@@ -102,54 +102,54 @@ count_none true n = ne_eqb (1 + n) 0 (λ e. omega arith)
 count_none false n = ap (λ (k : ℕ). eqb k 0) (let e : 0 + n ≡ n = omega arith in e)
 
 -- a code that meets none of a table's ranges is apart from its codes
-met-apart : (a x : ℕ) (t : List ℕ) → a ≤ 32 → x < 2 ^ a → goodTable t ≡ true
-    → eqb (meetings (rangeEnd 0 x a) (rangeEnd 1 x a) (rangeEnds 0 t) (rangeEnds 1 t)) 0 ≡ apart (msb a x) (codes_of t)
-unfolding meetings rangeEnds codes_of apart
-met-apart a x [] ha hx g = refl
-met-apart a x (h ∷ []) ha hx g = refl
-met-apart a x (h ∷ l ∷ []) ha hx g = refl
-met-apart a x (h ∷ l ∷ n ∷ t) ha hx g =
-    let f = good-first h l n t g in
-    count_none (meet (rangeEnd 0 x a) (rangeEnd 1 x a) (rangeEnd 0 (h * 256 + l) n) (rangeEnd 1 (h * 256 + l) n)) _
-    ∙ rw (meet-clash a n x (h * 256 + l) ha f.0 hx f.1, met-apart a x t ha hx f.2)
+met_apart : (a x : ℕ) (t : List ℕ) → a ≤ 32 → x < 2 ^ a → good_table t ≡ true
+    → eqb (meetings (range_end 0 x a) (range_end 1 x a) (range_ends 0 t) (range_ends 1 t)) 0 ≡ apart (msb a x) (codes_of t)
+unfolding meetings range_ends codes_of apart
+met_apart a x [] ha hx g = refl
+met_apart a x (h ∷ []) ha hx g = refl
+met_apart a x (h ∷ l ∷ []) ha hx g = refl
+met_apart a x (h ∷ l ∷ n ∷ t) ha hx g =
+    let f = good_first h l n t g in
+    count_none (meet (range_end 0 x a) (range_end 1 x a) (range_end 0 (h * 256 + l) n) (range_end 1 (h * 256 + l) n)) _
+    ∙ rw (meet-clash a n x (h * 256 + l) ha f.0 hx f.1, met_apart a x t ha hx f.2)
 
 -- and so for all
-pub ranges-free : (t : List ℕ) → goodTable t ≡ true → rangesApart (rangeEnds 0 t) (rangeEnds 1 t) ≡ prefixFree (codes_of t)
-unfolding rangesApart rangeEnds codes_of prefixFree
-ranges-free [] g = refl
-ranges-free (h ∷ []) g = refl
-ranges-free (h ∷ l ∷ []) g = refl
-ranges-free (h ∷ l ∷ n ∷ t) g =
-    let f = good-first h l n t g in
-    rw (met-apart n (h * 256 + l) t f.0 f.1 f.2, ranges-free t f.2)
+pub ranges_free : (t : List ℕ) → good_table t ≡ true → ranges_apart (range_ends 0 t) (range_ends 1 t) ≡ prefix_free (codes_of t)
+unfolding ranges_apart range_ends codes_of prefix_free
+ranges_free [] g = refl
+ranges_free (h ∷ []) g = refl
+ranges_free (h ∷ l ∷ []) g = refl
+ranges_free (h ∷ l ∷ n ∷ t) g =
+    let f = good_first h l n t g in
+    rw (met_apart n (h * 256 + l) t f.0 f.1 f.2, ranges_free t f.2)
 
 -- ---- an entry's range, and the loops' steps
-pub length-ends : (e : ℕ) (t : List ℕ) → length (rangeEnds e t) ≡ length t / 3
-unfolding rangeEnds
-length-ends e [] = refl
-length-ends e (h ∷ []) = refl
-length-ends e (h ∷ l ∷ []) = refl
-length-ends e (h ∷ l ∷ n ∷ t) = omega (arith, length-ends e t)
+pub length_ends : (e : ℕ) (t : List ℕ) → length (range_ends e t) ≡ length t / 3
+unfolding range_ends
+length_ends e [] = refl
+length_ends e (h ∷ []) = refl
+length_ends e (h ∷ l ∷ []) = refl
+length_ends e (h ∷ l ∷ n ∷ t) = omega (arith, length_ends e t)
 
-pub end-at : (e : ℕ) (t : List ℕ) (k : ℕ) → k < length t / 3 → get_or (rangeEnds e t) k 0 ≡ rangeEnd e (codeVal t k) (codeLen t k)
-unfolding rangeEnds
-end-at e [] k lt = absurd (omega arith)
-end-at e (h ∷ []) k lt = absurd (omega arith)
-end-at e (h ∷ l ∷ []) k lt = absurd (omega arith)
-end-at e (h ∷ l ∷ n ∷ t) zero lt = refl
-end-at e (h ∷ l ∷ n ∷ t) (suc k) lt =
+pub end_at : (e : ℕ) (t : List ℕ) (k : ℕ) → k < length t / 3 → get_or (range_ends e t) k 0 ≡ range_end e (code_val t k) (code_len t k)
+unfolding range_ends
+end_at e [] k lt = absurd (omega arith)
+end_at e (h ∷ []) k lt = absurd (omega arith)
+end_at e (h ∷ l ∷ []) k lt = absurd (omega arith)
+end_at e (h ∷ l ∷ n ∷ t) zero lt = refl
+end_at e (h ∷ l ∷ n ∷ t) (suc k) lt =
     let e0 : 3 * suc k ≡ suc (suc (suc (3 * k))) = omega arith in
     let e1 : 3 * suc k + 1 ≡ suc (suc (suc (3 * k + 1))) = omega arith in
     let e2 : 3 * suc k + 2 ≡ suc (suc (suc (3 * k + 2))) = omega arith in
-    rw (e2, e1, e0) (end-at e t k (omega arith))
+    rw (e2, e1, e0) (end_at e t k (omega arith))
 
 -- a range's end is a number of 32 bits
-pub end-small : (e v n : ℕ) → e ≤ 1 → n ≤ 32 → v < 2 ^ n → rangeEnd e v n < 2 ^ 32
-end-small e v n he hn hv =
+pub end_small : (e v n : ℕ) → e ≤ 1 → n ≤ 32 → v < 2 ^ n → range_end e v n < 2 ^ 32
+end_small e v n he hn hv =
     let m : ℕ = 32 - n in
     let w : n + m ≡ 32 = omega arith in
     let whole : 2 ^ n * 2 ^ m ≡ 2 ^ 32 = sym (pow-add 2 n m) ∙ ap (λ (k : ℕ). 2 ^ k) w in
-    subst (λ (k : ℕ). rangeEnd e v n < k) whole (digits_lt hv (rest e he m))
+    subst (λ (k : ℕ). range_end e v n < k) whole (digits_lt hv (rest e he m))
   where
     rest : (e : ℕ) → e ≤ 1 → (m : ℕ) → e * (2 ^ m - 1) < 2 ^ m
     rest zero h m = rw (zero-mul (2 ^ m - 1)) (pow_pos m)
@@ -161,16 +161,16 @@ pub meetings-step : (low high : ℕ) (ls hs : List ℕ) (k : ℕ) → k < length
 unfolding meetings
 meetings-step low high ls hs k l e = rw (add-one, drop-cons ls k 0 l, drop-cons hs k 0 (omega arith))
 
-pub meetings-end : (low high : ℕ) (ls hs : List ℕ) (k : ℕ) → length ls ≤ k → meetings low high (drop k ls) (drop k hs) ≡ 0
+pub meetings_end : (low high : ℕ) (ls hs : List ℕ) (k : ℕ) → length ls ≤ k → meetings low high (drop k ls) (drop k hs) ≡ 0
 unfolding meetings
-meetings-end low high ls hs k h = rw (drop_of_length-le ls h)
+meetings_end low high ls hs k h = rw (drop_of_length-le ls h)
 
-pub apart-ranges-step : (ls hs : List ℕ) (i : ℕ) → i < length ls → length ls ≡ length hs
-    → rangesApart (drop i ls) (drop i hs)
-    ≡ (eqb (meetings (get_or ls i 0) (get_or hs i 0) (drop (i + 1) ls) (drop (i + 1) hs)) 0 && rangesApart (drop (i + 1) ls) (drop (i + 1) hs))
-unfolding rangesApart
-apart-ranges-step ls hs i l e = rw (add-one, drop-cons ls i 0 l, drop-cons hs i 0 (omega arith))
+pub apart_ranges_step : (ls hs : List ℕ) (i : ℕ) → i < length ls → length ls ≡ length hs
+    → ranges_apart (drop i ls) (drop i hs)
+    ≡ (eqb (meetings (get_or ls i 0) (get_or hs i 0) (drop (i + 1) ls) (drop (i + 1) hs)) 0 && ranges_apart (drop (i + 1) ls) (drop (i + 1) hs))
+unfolding ranges_apart
+apart_ranges_step ls hs i l e = rw (add-one, drop-cons ls i 0 l, drop-cons hs i 0 (omega arith))
 
-pub apart-ranges-end : (ls hs : List ℕ) (i : ℕ) → length ls ≤ i → rangesApart (drop i ls) (drop i hs) ≡ true
-unfolding rangesApart
-apart-ranges-end ls hs i h = rw (drop_of_length-le ls h)
+pub apart_ranges_end : (ls hs : List ℕ) (i : ℕ) → length ls ≤ i → ranges_apart (drop i ls) (drop i hs) ≡ true
+unfolding ranges_apart
+apart_ranges_end ls hs i h = rw (drop_of_length-le ls h)

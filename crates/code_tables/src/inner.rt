@@ -5,8 +5,8 @@ ghost use Rattle.bits.specs.Basics.{pick};
 ghost use Rattle.bits.specs.Bits.{msb, bits_of};
 ghost use Rattle.bits.specs.BitNeeds.{Fits, Wrote};
 ghost use Rattle.code_tables.specs.CodeNeeds.{GoodEntry, FirstThatBegins};
-ghost use Rattle.code_tables.specs.RangeForms.{rangeEnd, rangeEnds, meet, meetings, rangesApart};
-ghost use Rattle.code_tables.specs.Codes.{begins, code, codes_of, codeLen, codeVal, anyStart, read_code, prefixFree, goodEntry, goodTable};
+ghost use Rattle.code_tables.specs.RangeForms.{range_end, range_ends, meet, meetings, ranges_apart};
+ghost use Rattle.code_tables.specs.Codes.{begins, code, codes_of, code_len, code_val, any_start, read_code, prefix_free, good_entry, good_table};
 
 use super::svq1_vlc::CodeRead;
 use bits::inner::{get_bits, put_bits};
@@ -22,7 +22,7 @@ fn begins_bits(x: u64, a: u32, y: u64, b: u32) -> bool
 // The length that entry i of a table names.
 pub fn entry_len(t: &[u8], i: usize) -> u32
     requires { i < length t.now / 3 }
-    ensures { result ≡ codeLen t.now i }
+    ensures { result ≡ code_len t.now i }
 {
     t[3 * i + 2] as u32
 }
@@ -30,14 +30,14 @@ pub fn entry_len(t: &[u8], i: usize) -> u32
 // The code value of entry i.
 pub fn entry_val(t: &[u8], i: usize) -> u64
     requires { i < length t.now / 3 }
-    ensures { result ≡ codeVal t.now i }
+    ensures { result ≡ code_val t.now i }
 {
     t[3 * i] as u64 * 256 + t[3 * i + 1] as u64
 }
 
 // The first entry whose code begins the m bits of w, or the number of entries.
 fn find_code(table: &[u8], w: u64, m: u32) -> usize
-    requires { (m ≤ 32) × (w < 2 ^ m) × (goodTable table.now ≡ true) }
+    requires { (m ≤ 32) × (w < 2 ^ m) × (good_table table.now ≡ true) }
     ensures { FirstThatBegins (codes_of table.now) (msb m w) result }
 {
     let n = table.len() / 3;
@@ -53,8 +53,8 @@ fn find_code(table: &[u8], w: u64, m: u32) -> usize
 
 // Whether the m bits of w are the start of some code.
 fn any_start(table: &[u8], w: u64, m: u32) -> bool
-    requires { (m ≤ 32) × (w < 2 ^ m) × (goodTable table.now ≡ true) }
-    ensures { result ≡ anyStart (codes_of table.now) (msb m w) }
+    requires { (m ≤ 32) × (w < 2 ^ m) × (good_table table.now ≡ true) }
+    ensures { result ≡ any_start (codes_of table.now) (msb m w) }
 {
     let n = table.len() / 3;
     let mut i = 0;
@@ -78,7 +78,7 @@ fn window(s: &[u8], at: usize) -> u32
 
 // The first code of the table that stands at bit `at`.
 pub fn read_code(s: &[u8], at: usize, table: &[u8]) -> CodeRead
-    requires { Fits (length s.now) at 0 × (goodTable table.now ≡ true) }
+    requires { Fits (length s.now) at 0 × (good_table table.now ≡ true) }
     ensures { result ≡ read_code (codes_of table.now) (bits_of s.now) at }
 {
     let m = window(s, at);
@@ -95,7 +95,7 @@ pub fn read_code(s: &[u8], at: usize, table: &[u8]) -> CodeRead
 
 // The code of entry k, from bit `at` on.
 pub fn put_code(out: &mut [u8], at: usize, table: &[u8], k: usize) -> usize
-    requires { GoodEntry table.now k × Fits (length out.old) at (codeLen table.now k) }
+    requires { GoodEntry table.now k × Fits (length out.old) at (code_len table.now k) }
     ensures { Wrote out.old at (code (codes_of table.now) k) result out.new }
 {
     let len = entry_len(table, k);
@@ -113,7 +113,7 @@ fn power_of_two(m: u32) -> u64
 // An end of the range of 32-bit numbers that begin with the n bits of v: the least for e = 0, the greatest for e = 1.
 fn range_end(e: u64, v: u64, n: u32) -> u32
     requires { (e ≤ 1) × (1 ≤ n) × (n ≤ 32) × (v < 2 ^ n) }
-    ensures { result ≡ rangeEnd e v n }
+    ensures { result ≡ range_end e v n }
 {
     let size = power_of_two(32 - n);
     (v * size + e * (size - 1)) as u32
@@ -121,8 +121,8 @@ fn range_end(e: u64, v: u64, n: u32) -> u32
 
 // These ends for every code of a table.
 fn range_ends(table: &[u8], e: u64, out: &mut [u32])
-    requires { (e ≤ 1) × (goodTable table.now ≡ true) × (length out.old ≡ length table.now / 3) }
-    ensures { out.new ≡ rangeEnds e table.now }
+    requires { (e ≤ 1) × (good_table table.now ≡ true) × (length out.old ≡ length table.now / 3) }
+    ensures { out.new ≡ range_ends e table.now }
 {
     let n = out.len();
     let mut i = 0;
@@ -163,7 +163,7 @@ fn count_meetings(low: u32, high: u32, lows: &[u32], highs: &[u32]) -> u32
 // Whether no two ranges meet.
 fn ranges_apart(lows: &[u32], highs: &[u32]) -> bool
     requires { (length lows.now ≡ length highs.now) × (length lows.now ≤ 65536) }
-    ensures { result ≡ rangesApart lows.now highs.now }
+    ensures { result ≡ ranges_apart lows.now highs.now }
 {
     let n = lows.len();
     let mut i = 0;
@@ -180,8 +180,8 @@ fn ranges_apart(lows: &[u32], highs: &[u32]) -> bool
 
 // Whether no code of the table begins another or equals it: their ranges, for which there is room in `lows` and `highs`, do not meet.
 pub fn prefix_free(table: &[u8], lows: &mut [u32], highs: &mut [u32]) -> bool
-    requires { (goodTable table.now ≡ true) × (length lows.old ≡ length table.now / 3) × (length highs.old ≡ length table.now / 3) × (length lows.old ≤ 65536) }
-    ensures { result ≡ prefixFree (codes_of table.now) }
+    requires { (good_table table.now ≡ true) × (length lows.old ≡ length table.now / 3) × (length highs.old ≡ length table.now / 3) × (length lows.old ≤ 65536) }
+    ensures { result ≡ prefix_free (codes_of table.now) }
 {
     range_ends(table, 0, lows);
     range_ends(table, 1, highs);
@@ -190,7 +190,7 @@ pub fn prefix_free(table: &[u8], lows: &mut [u32], highs: &mut [u32]) -> bool
 
 // Whether a code of this value and length can stand in a table.
 pub fn good_entry(v: u64, n: u32) -> bool
-    ensures { result ≡ goodEntry v n }
+    ensures { result ≡ good_entry v n }
 {
     if n < 1 {
         return false;
@@ -204,7 +204,7 @@ pub fn good_entry(v: u64, n: u32) -> bool
 // Whether every entry's length is 1 to 32 and its value below 2 to the length.
 pub fn good_table(table: &[u8]) -> bool
     requires { length table.now % 3 ≡ 0 }
-    ensures { result ≡ goodTable table.now }
+    ensures { result ≡ good_table table.now }
 {
     let n = table.len() / 3;
     let mut i = 0;

@@ -1,13 +1,13 @@
 // Refusals 5, 6 and 7 of a table that is lent alone.
 ghost use Rattle.std.specs.Prelude.{◌≡◌, true, ◌/◌, ◌≤◌, length};
-ghost use Rattle.code_tables.specs.Codes.{codes_of, goodTable, prefixFree};
-ghost use Rattle.code_tables.specs.Calls.{one_of, tableBytes, tableRefusal};
+ghost use Rattle.code_tables.specs.Codes.{codes_of, good_table, prefix_free};
+ghost use Rattle.code_tables.specs.Calls.{one_of, table_bytes, table_refusal};
 
 use super::inner;
 
 // Whether some kind of code table has so many bytes.
 fn table_size(bytes: usize) -> bool
-    ensures { result ≡ one_of tableBytes bytes }
+    ensures { result ≡ one_of table_bytes bytes }
 {
     match bytes {
         12 | 24 | 192 | 768 | 1536 => true,
@@ -17,8 +17,8 @@ fn table_size(bytes: usize) -> bool
 
 // Whether a table of at most 512 entries is prefix-free, with room for the ranges of its codes.
 fn prefix_free_in(table: &[u8], lows: &mut [u32], highs: &mut [u32]) -> bool
-    requires { (goodTable table.now ≡ true) × (length table.now / 3 ≤ 512) × (length lows.old ≡ 512) × (length highs.old ≡ 512) }
-    ensures { result ≡ prefixFree (codes_of table.now) }
+    requires { (good_table table.now ≡ true) × (length table.now / 3 ≤ 512) × (length lows.old ≡ 512) × (length highs.old ≡ 512) }
+    ensures { result ≡ prefix_free (codes_of table.now) }
 {
     let size = table.len() / 3;
     inner::prefix_free(table, &mut lows[..size], &mut highs[..size])
@@ -26,8 +26,8 @@ fn prefix_free_in(table: &[u8], lows: &mut [u32], highs: &mut [u32]) -> bool
 
 // The same, with room of its own.
 fn prefix_free(table: &[u8]) -> bool
-    requires { (goodTable table.now ≡ true) × (length table.now / 3 ≤ 512) }
-    ensures { result ≡ prefixFree (codes_of table.now) }
+    requires { (good_table table.now ≡ true) × (length table.now / 3 ≤ 512) }
+    ensures { result ≡ prefix_free (codes_of table.now) }
 {
     let mut lows = [0u32; 512];
     let mut highs = [0u32; 512];
@@ -36,7 +36,7 @@ fn prefix_free(table: &[u8]) -> bool
 
 // Refusals 5, 6 and 7 of a table.
 pub fn table_refusal(table: &[u8]) -> u8
-    ensures { result ≡ tableRefusal table.now }
+    ensures { result ≡ table_refusal table.now }
 {
     if table_size(table.len()) {
         if inner::good_table(table) {

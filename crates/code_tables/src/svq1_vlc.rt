@@ -1,6 +1,6 @@
 // Codes read from a lent slice.
 ghost use Rattle.std.specs.Prelude.{◌≡◌};
-ghost use Rattle.code_tables.specs.Calls.{codeAnswer, code_at, readAnswer};
+ghost use Rattle.code_tables.specs.Calls.{code_answer, code_at, read_answer};
 
 use super::inner;
 use super::refusal::table_refusal;
@@ -23,7 +23,7 @@ pub enum CodeAnswer {
 
 // What was found, with the numbers of refusals.
 fn answered(read: CodeRead) -> CodeAnswer
-    ensures { codeAnswer result ≡ readAnswer read }
+    ensures { code_answer result ≡ read_answer read }
 {
     match read {
         CodeRead::Code(position, next) => CodeAnswer::Code(position, next),
@@ -34,7 +34,7 @@ fn answered(read: CodeRead) -> CodeAnswer
 
 // The first code of the table that stands at bit `at`.
 pub fn read_code(s: &[u8], at: usize, table: &[u8]) -> CodeAnswer
-    ensures { codeAnswer result ≡ code_at s.now at table.now }
+    ensures { code_answer result ≡ code_at s.now at table.now }
 {
     let bad = table_refusal(table);
     if bad != 0 {

@@ -17,24 +17,24 @@ rounded (pos s) n = pos ((s + n / 2) / n)
 rounded (negsuc s) n = neg_ℤ (pos ((suc s + n / 2) / n))
 
 -- clamped to the half's range: 0..255 for intra, -256..255 for inter
-unfoldable pub clampMean : Svq1Half → ℤ → ℤ
-clampMean Intra (pos m) = pos (min 255 m)
-clampMean Intra (negsuc m) = pos 0
-clampMean Inter (pos m) = pos (min 255 m)
-clampMean Inter (negsuc m) = negsuc (min 255 m)
+unfoldable pub clamp_mean : Svq1Half → ℤ → ℤ
+clamp_mean Intra (pos m) = pos (min 255 m)
+clamp_mean Intra (negsuc m) = pos 0
+clamp_mean Inter (pos m) = pos (min 255 m)
+clamp_mean Inter (negsuc m) = negsuc (min 255 m)
 
 -- the mean of n residuals that sum to z
-unfoldable pub meanOf : Svq1Half → ℤ → ℕ → ℤ
-meanOf h z n = clampMean h (rounded z n)
+unfoldable pub mean_of : Svq1Half → ℤ → ℕ → ℤ
+mean_of h z n = clamp_mean h (rounded z n)
 
 -- a mean's position in its table, and the mean of a position: the mean for intra, the mean + 256 for inter
-abbrev pub meanPosition : Svq1Half → ℤ → ℕ
-meanPosition Intra m = natural m
-meanPosition Inter m = natural (m +ℤ pos 256)
+abbrev pub mean_position : Svq1Half → ℤ → ℕ
+mean_position Intra m = natural m
+mean_position Inter m = natural (m +ℤ pos 256)
 
-abbrev pub meanAt : Svq1Half → ℕ → ℤ
-meanAt Intra k = pos k
-meanAt Inter k = sub_ℕ k 256
+abbrev pub mean_at : Svq1Half → ℕ → ℤ
+mean_at Intra k = pos k
+mean_at Inter k = sub_ℕ k 256
 
 -- a sum as the sample that it shows: clamped to 0..255 (`saturate_u8`)
 unfoldable pub saturate : ℤ → ℕ

@@ -11,10 +11,10 @@ unfolding saturate
 saturate-below (pos n) e = absurd (omega (arith, ltb-true n 0 e))
 saturate-below (negsuc n) e = refl
 
-pub saturate-above : (z : ℤ) → lt_z (pos 255) z ≡ true → 255 ≡ saturate z
+pub saturate_above : (z : ℤ) → lt_z (pos 255) z ≡ true → 255 ≡ saturate z
 unfolding saturate
-saturate-above (pos n) e = omega (arith, ltb-true 255 n e)
-saturate-above (negsuc n) e = absurd (true≢false (sym e))
+saturate_above (pos n) e = omega (arith, ltb-true 255 n e)
+saturate_above (negsuc n) e = absurd (true≢false (sym e))
 
 pub record Within (z : ℤ) : Type 0 where
   pub natural : T (non_neg z)

@@ -2,9 +2,9 @@
 pub mod inner;
 
 ghost use Rattle.std.specs.Prelude.{◌≡◌, ◌<◌};
-ghost use Rattle.book.specs.Level.{levelNumber};
-ghost use Rattle.codebook.specs.CodebookCalls.{placeNumber, pagePlace, rasterPlace};
-ghost use Rattle.codebook.specs.Raster.{RasterOrder, rasterStart};
+ghost use Rattle.book.specs.Level.{level_number};
+ghost use Rattle.codebook.specs.CodebookCalls.{place_number, page_place, raster_place};
+ghost use Rattle.codebook.specs.Raster.{RasterOrder, raster_start};
 
 use super::svq1_codebook::inner::page_start;
 use book::svq1_blocktree::Svq1Level;
@@ -22,7 +22,7 @@ pub enum Place {
 
 // Where the half's page of the level begins in the payload.
 pub fn half_byte_offset_in_payload(level: Svq1Level, half: Svq1Half) -> Place
-    ensures { placeNumber result ≡ pagePlace (levelNumber level) half }
+    ensures { place_number result ≡ page_place (level_number level) half }
 {
     let d = level.number();
     if d < 4 {
@@ -56,7 +56,7 @@ pub fn raster_order() -> [u8; RASTER_NUMBERS]
 // Where the numbers of a level begin in the raster order.
 fn raster_start(d: usize) -> usize
     requires { d < 4 }
-    ensures { result ≡ rasterStart d }
+    ensures { result ≡ raster_start d }
 {
     match d {
         0 => 0,
@@ -68,7 +68,7 @@ fn raster_start(d: usize) -> usize
 
 // Where a byte of one of the level's vectors goes in the block, in raster order.
 pub fn vector_byte_to_raster(level: Svq1Level, byte: usize) -> Place
-    ensures { placeNumber result ≡ rasterPlace (levelNumber level) byte }
+    ensures { place_number result ≡ raster_place (level_number level) byte }
 {
     let d = level.number();
     if 3 < d {

@@ -5,15 +5,15 @@ use Rattle.std.proofs.Common.{sym, ap, ◌∙◌, arith, zero-add, lt-ltb, ltb-t
 use Rattle.std.proofs.Math.Decide.{dec_lt}
 use Rattle.std.proofs.Math.IntN.{sub_ℕ}
 use Rattle.std.specs.Int.Signed.{lt_z, mag}
-use Rattle.bits.specs.DifferenceLaws.{sub-pos, pos-is, pos-sub, neg-sub, sub-sub}
+use Rattle.bits.specs.DifferenceLaws.{sub_pos, pos_is, pos_sub, neg_sub, sub_sub}
 
 module _ (a b : ℕ) where
   difference : pos a -ℤ pos b ≡ sub_ℕ a b
-  difference = ap (λ (z : ℤ). z -ℤ pos b) (pos-is a) ∙ ap (λ (z : ℤ). sub_ℕ a 0 -ℤ z) (pos-is b) ∙ sub-sub a b 0
+  difference = ap (λ (z : ℤ). z -ℤ pos b) (pos_is a) ∙ ap (λ (z : ℤ). sub_ℕ a 0 -ℤ z) (pos_is b) ∙ sub_sub a b 0
 
   -- its sign
   pub straight : b ≤ a → pos a -ℤ pos b ≡ pos (a - b)
-  straight h = difference ∙ sub-pos a b h
+  straight h = difference ∙ sub_pos a b h
 
   below : a < b → pos a -ℤ pos b ≡ negsuc (b - suc a)
   below h = difference ∙ simp (lt-ltb a b h)
@@ -35,8 +35,8 @@ module _ (a b : ℕ) where
   -- turned round where it is negative
   pub turned : a < b → pos 0 -ℤ (pos a -ℤ pos b) ≡ pos (b - a)
   turned h =
-      ap (λ (z : ℤ). pos 0 -ℤ z) difference ∙ ap (λ (z : ℤ). pos 0 +ℤ z) (neg-sub a b) ∙ pos-sub 0 b a
-      ∙ ap (λ (n : ℕ). sub_ℕ n a) (zero-add b) ∙ sub-pos b a (omega arith)
+      ap (λ (z : ℤ). pos 0 -ℤ z) difference ∙ ap (λ (z : ℤ). pos 0 +ℤ z) (neg_sub a b) ∙ pos_sub 0 b a
+      ∙ ap (λ (n : ℕ). sub_ℕ n a) (zero-add b) ∙ sub_pos b a (omega arith)
 
   -- of bytes it is small
   pub small : a < 256 → b < 256 → mag (pos a -ℤ pos b) < 256

@@ -2,5 +2,5 @@
 use Rattle.std.specs.Prelude.{ℕ}
 use Rattle.tree.specs.Plan.{cost}
 
-abbrev pub costOf : ℕ → ℕ → ℕ → ℕ
-costOf lambda bits err = cost lambda (record { bits = bits; err = err })
+abbrev pub cost_of : ℕ → ℕ → ℕ → ℕ
+cost_of lambda bits err = cost lambda (record { bits = bits; err = err })

@@ -3,7 +3,7 @@ use Rattle.std.specs.Prelude.{ℕ, zero, suc, ◌≡◌, refl, Bool, true, false
 use Rattle.std.proofs.Common.{sym, true≢false}
 use Rattle.std.proofs.Math.Dec.{eqb-zero-suc, eqb-suc-zero}
 use Rattle.bits.specs.BasicsLaws.{both_true}
-use Rattle.code_tables.specs.Codes.{begins, clash, apart, prefixFree}
+use Rattle.code_tables.specs.Codes.{begins, clash, apart, prefix_free}
 
 -- what the codes entered so far make: nothing, the end of a code, or two branches
 pub data Trie : Type 0 where
@@ -32,9 +32,9 @@ enter (suc x ∷ c) leaf = leaf
 enter (suc x ∷ c) (node a b) = node a (enter c b)
 
 -- each of the codes can be entered, one after the other
-unfoldable pub allFree : Trie → List (List ℕ) → Bool
-allFree t [] = true
-allFree t (c ∷ cs) = free c t && allFree (enter c t) cs
+unfoldable pub all_free : Trie → List (List ℕ) → Bool
+all_free t [] = true
+all_free t (c ∷ cs) = free c t && all_free (enter c t) cs
 
 -- d ends in a leaf of the tree
 abbrev Has : List ℕ → Trie → Type 0
@@ -50,9 +50,9 @@ both_false : (a : Bool) → (a && false) ≡ false
 both_false true = refl
 both_false false = refl
 
-either-false : (a b : Bool) → (a || b) ≡ false → (a ≡ false) × (b ≡ false)
-either-false true b e = absurd (true≢false e)
-either-false false b e = (refl, e)
+either_false : (a b : Bool) → (a || b) ≡ false → (a ≡ false) × (b ≡ false)
+either_false true b e = absurd (true≢false e)
+either_false false b e = (refl, e)
 
 -- what is entered clashes with nothing that can be entered
 clash-free : (d c : List ℕ) (t : Trie) → free c t ≡ true → Has d t → clash d c ≡ false
@@ -69,11 +69,11 @@ clash-free (x ∷ d) [] (node a b) e h = absurd (true≢false (sym e))
 clash-free (x ∷ d) (y ∷ c) none e h = absurd h
 clash-free (x ∷ d) (y ∷ c) leaf e h = absurd h
 clash-free (zero ∷ d) (zero ∷ c) (node a b) e h =
-    let r = either-false (begins d c) (begins c d) (clash-free d c a e h) in rw (r.0, r.1)
+    let r = either_false (begins d c) (begins c d) (clash-free d c a e h) in rw (r.0, r.1)
 clash-free (zero ∷ d) (suc y ∷ c) (node a b) e h = rw (eqb-zero-suc y, eqb-suc-zero y)
 clash-free (suc x ∷ d) (zero ∷ c) (node a b) e h = rw (eqb-zero-suc x, eqb-suc-zero x)
 clash-free (suc x ∷ d) (suc y ∷ c) (node a b) e h =
-    let r = either-false (begins d c) (begins c d) (clash-free d c b e h) in
+    let r = either_false (begins d c) (begins c d) (clash-free d c b e h) in
     rw (r.0, r.1, both_false (eqb (suc x) (suc y)), both_false (eqb (suc y) (suc x)))
 
 -- and stays when another is entered
@@ -112,20 +112,20 @@ entered (suc x ∷ c) none e = entered c none (free-none c)
 entered (suc x ∷ c) leaf e = absurd (true≢false (sym e))
 entered (suc x ∷ c) (node a b) e = entered c b e
 
-apart-all : (d : List ℕ) (cs : List (List ℕ)) (t : Trie) → allFree t cs ≡ true → Has d t → apart d cs ≡ true
-unfolding allFree apart
-apart-all d [] t e h = refl
-apart-all d (c ∷ cs) t e h =
-    let two = both_true (free c t) (allFree (enter c t) cs) e in
-    rw (clash-free d c t two.0 h) (apart-all d cs (enter c t) two.1 (kept d c t two.0 h))
+apart_all : (d : List ℕ) (cs : List (List ℕ)) (t : Trie) → all_free t cs ≡ true → Has d t → apart d cs ≡ true
+unfolding all_free apart
+apart_all d [] t e h = refl
+apart_all d (c ∷ cs) t e h =
+    let two = both_true (free c t) (all_free (enter c t) cs) e in
+    rw (clash-free d c t two.0 h) (apart_all d cs (enter c t) two.1 (kept d c t two.0 h))
 
-all-free : (cs : List (List ℕ)) (t : Trie) → allFree t cs ≡ true → prefixFree cs ≡ true
-unfolding allFree prefixFree
-all-free [] t e = refl
-all-free (c ∷ cs) t e =
-    let two = both_true (free c t) (allFree (enter c t) cs) e in
-    rw (apart-all c cs (enter c t) two.1 (entered c t two.0)) (all-free cs (enter c t) two.1)
+all_free_lem : (cs : List (List ℕ)) (t : Trie) → all_free t cs ≡ true → prefix_free cs ≡ true
+unfolding all_free prefix_free
+all_free_lem [] t e = refl
+all_free_lem (c ∷ cs) t e =
+    let two = both_true (free c t) (all_free (enter c t) cs) e in
+    rw (apart_all c cs (enter c t) two.1 (entered c t two.0)) (all_free_lem cs (enter c t) two.1)
 
 -- the test shows what it is for
-pub free-is : (cs : List (List ℕ)) → allFree none cs ≡ true → prefixFree cs ≡ true
-free-is cs e = all-free cs none e
+pub free_is : (cs : List (List ℕ)) → all_free none cs ≡ true → prefix_free cs ≡ true
+free_is cs e = all_free_lem cs none e

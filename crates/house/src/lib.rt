@@ -1,9 +1,9 @@
 // The house book and the house codebook, which stand in for the data that the Rust does not come with.
 ghost use Rattle.std.specs.Prelude.{◌≡◌, ◌<◌};
-ghost use Rattle.book.specs.Book.{codebookBytes};
+ghost use Rattle.book.specs.Book.{codebook_bytes};
 ghost use Rattle.house.specs.Fill.{BookFilled, CodebookFilled};
-ghost use Rattle.house.specs.House.{HouseBook, houseSample};
-ghost use Rattle.bits.specs.Basics.{signedByte};
+ghost use Rattle.house.specs.House.{HouseBook, house_sample};
+ghost use Rattle.bits.specs.Basics.{signed_byte};
 
 use bits::inner::put_row;
 use book::inner::{BOOK_BYTES, CODEBOOK_BYTES};
@@ -153,8 +153,8 @@ pub fn fill_house_book(out: &mut [u8]) -> u8
 
 // Byte i of the house codebook.
 fn house_byte(i: usize) -> u8
-    requires { i < codebookBytes }
-    ensures { result ≡ signedByte (houseSample i) }
+    requires { i < codebook_bytes }
+    ensures { result ≡ signed_byte (house_sample i) }
 {
     let raised = (37 * i + i / 16) % 61;
     if raised < 30 {

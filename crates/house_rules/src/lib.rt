@@ -2,9 +2,9 @@
 // The house codebook has no constant: `fill_house_codebook` of `house` works it out.
 ghost use Rattle.std.specs.Prelude.{◌≡◌, ◌≤◌, ◌<◌};
 ghost use Rattle.std.proofs.Math.IntN.{sub_ℕ};
-ghost use Rattle.book.specs.Book.{bookEntries};
+ghost use Rattle.book.specs.Book.{book_entries};
 ghost use Rattle.house.specs.Fill.{BookFilled};
-ghost use Rattle.house.specs.House.{logUnder, signedRank, rank, houseEntry};
+ghost use Rattle.house.specs.House.{log_under, signed_rank, rank, house_entry};
 
 use bits::inner::put_row;
 use book::inner::{BOOK_BYTES, BOOK_ENTRIES};
@@ -12,7 +12,7 @@ use book::inner::{BOOK_BYTES, BOOK_ENTRIES};
 // Floor of the logarithm to base 2: how often a number can be halved until 1 is left.
 fn floor_log2(n: usize) -> usize
     requires { n < 65536 }
-    ensures { (result ≡ logUnder 16 n) × (result ≤ 16) }
+    ensures { (result ≡ log_under 16 n) × (result ≤ 16) }
 {
     let mut k = 0;
     let mut m = n;
@@ -26,7 +26,7 @@ fn floor_log2(n: usize) -> usize
 // k of the signed number d at a position of its table, where 0 stands at position `zero`: 2d - 1 if d is above 0, else -2d.
 fn signed_rank(position: usize, zero: usize) -> usize
     requires { (position ≤ 511) × (zero ≤ 256) }
-    ensures { (result ≡ signedRank (sub_ℕ position zero)) × (result ≤ 1022) }
+    ensures { (result ≡ signed_rank (sub_ℕ position zero)) × (result ≤ 1022) }
 {
     if zero < position {
         return 2 * (position - zero) - 1;
@@ -36,7 +36,7 @@ fn signed_rank(position: usize, zero: usize) -> usize
 
 // k of an entry of the book, by its table: mode, vector, intramean, intermean, stages.
 fn house_rank(entry: usize) -> usize
-    requires { entry < bookEntries }
+    requires { entry < book_entries }
     ensures { (result ≡ rank entry) × (result ≤ 1022) }
 {
     if entry < 4 {
@@ -56,8 +56,8 @@ fn house_rank(entry: usize) -> usize
 
 // An entry: the code's high byte, its low byte, its length.
 fn house_entry(entry: usize) -> [u8; 3]
-    requires { entry < bookEntries }
-    ensures { result ≡ houseEntry entry }
+    requires { entry < book_entries }
+    ensures { result ≡ house_entry entry }
 {
     let rank = house_rank(entry);
     let value = rank + 1;

@@ -1,9 +1,9 @@
 // A book and a codebook as text: the book's file, then the codebook's numbers, one a line; and the house's, both worked out from their rules.
 ghost use Rattle.std.specs.Prelude.{◌≡◌, length};
 ghost use Rattle.bits.specs.Basics.{signed_of};
-ghost use Rattle.text.specs.WritingForms.{PutInRoom, TextWritten, textRefusal};
-ghost use Rattle.book.specs.Book.{codebookBytes};
-ghost use Rattle.house_text.specs.HouseText.{numberLine, numberLines, tablesPrinted, printRefusal, housePrinted};
+ghost use Rattle.text.specs.WritingForms.{PutInRoom, TextWritten, text_refusal};
+ghost use Rattle.book.specs.Book.{codebook_bytes};
+ghost use Rattle.house_text.specs.HouseText.{number_line, number_lines, tables_printed, print_refusal, house_printed};
 
 use bits::inner::signed;
 use book::inner::{BOOK_BYTES, CODEBOOK_BYTES};
@@ -13,7 +13,7 @@ use house::fill_house_codebook;
 use house_rules::work_out_house_book;
 use text::Written;
 
-// Bytes of the house's text (`printed-bytes` in `theorems`): `write_house` does not refuse a slice of so many.
+// Bytes of the house's text (`printed_bytes` in `theorems`): `write_house` does not refuse a slice of so many.
 pub const HOUSE_TEXT_BYTES: usize = 91631;
 
 // The number of a codebook's byte.
@@ -25,7 +25,7 @@ fn number_of(b: u8) -> i64
 
 // Its line.
 fn put_number(out: &mut [u8], at: usize, b: u8) -> usize
-    ensures { PutInRoom out.old at (numberLine b) result out.new }
+    ensures { PutInRoom out.old at (number_line b) result out.new }
 {
     let end = text::put_signed(out, at, number_of(b));
     text::put_text(out, end, b"\n")
@@ -33,7 +33,7 @@ fn put_number(out: &mut [u8], at: usize, b: u8) -> usize
 
 // The lines of a codebook's bytes.
 fn put_numbers(out: &mut [u8], at: usize, codebook: &[u8]) -> usize
-    ensures { PutInRoom out.old at (numberLines codebook.now) result out.new }
+    ensures { PutInRoom out.old at (number_lines codebook.now) result out.new }
 {
     let mut next = at;
     let mut i = 0;
@@ -46,8 +46,8 @@ fn put_numbers(out: &mut [u8], at: usize, codebook: &[u8]) -> usize
 
 // Bytes of these lines.
 fn numbers_length(codebook: &[u8]) -> usize
-    requires { length codebook.now ≡ codebookBytes }
-    ensures { result ≡ length (numberLines codebook.now) }
+    requires { length codebook.now ≡ codebook_bytes }
+    ensures { result ≡ length (number_lines codebook.now) }
 {
     let mut n = 0;
     let mut i = 0;
@@ -61,7 +61,7 @@ fn numbers_length(codebook: &[u8]) -> usize
 // A book's file and behind it the codebook's numbers, written to the front of a lent slice. The answer is how far; what lies behind it stays. A refused call writes
 // nothing: 5, 6 and 7 of the tables, then 20 where the slice is shorter than the text. The file's writer is lent all but the room that the numbers take.
 pub fn write_tables(book: &[u8], codebook: &[u8], out: &mut [u8]) -> Written
-    ensures { TextWritten (printRefusal book.now codebook.now (length out.old)) (tablesPrinted book.now codebook.now) out.old result out.new }
+    ensures { TextWritten (print_refusal book.now codebook.now (length out.old)) (tables_printed book.now codebook.now) out.old result out.new }
 {
     let refused = data_refusal(book, codebook);
     if refused != 0 {
@@ -88,7 +88,7 @@ pub fn write_tables(book: &[u8], codebook: &[u8], out: &mut [u8]) -> Written
 
 // The house book's file and the house codebook's numbers, both tables worked out from their rules; 20 where the slice is shorter than the text.
 pub fn write_house(out: &mut [u8]) -> Written
-    ensures { TextWritten (textRefusal housePrinted (length out.old)) housePrinted out.old result out.new }
+    ensures { TextWritten (text_refusal house_printed (length out.old)) house_printed out.old result out.new }
 {
     let mut book = [0u8; BOOK_BYTES];
     work_out_house_book(&mut book);

@@ -15,24 +15,24 @@ unfoldable pub vector : List ℕ → ℕ → ℕ → ℕ → List ℤ
 vector book base n j = less 128 (take n (drop (base + n * j) book))
 
 -- the vectors of a page that begins at `base`, sixteen to a stage
-unfoldable pub vectorsIn : List ℕ → ℕ → ℕ → Vectors
-vectorsIn book base n s j = vector book (base + n * 16 * s) n j
+unfoldable pub vectors_in : List ℕ → ℕ → ℕ → Vectors
+vectors_in book base n s j = vector book (base + n * 16 * s) n j
 
 -- the error that vector j leaves on the sums z
-unfoldable pub vectorError : List ℕ → List ℤ → List ℕ → ℕ → ℕ → ℕ
-vectorError t z book base j = sse t (samples (plus z (vector book base (length t) j)))
+unfoldable pub vector_error : List ℕ → List ℤ → List ℕ → ℕ → ℕ → ℕ
+vector_error t z book base j = sse t (samples (plus z (vector book base (length t) j)))
 
 -- ---- what the functions ask and keep
 -- the sum of a list
-unfoldable pub sampleSum : List ℕ → ℕ
-sampleSum [] = 0
-sampleSum (x ∷ xs) = x + sampleSum xs
+unfoldable pub sample_sum : List ℕ → ℕ
+sample_sum [] = 0
+sample_sum (x ∷ xs) = x + sample_sum xs
 
 -- two lists of sums, element by element
-unfoldable pub plusN : List ℕ → List ℕ → List ℕ
-plusN [] ys = []
-plusN (x ∷ xs) [] = []
-plusN (x ∷ xs) (y ∷ ys) = (x + y) ∷ plusN xs ys
+unfoldable pub plus_n : List ℕ → List ℕ → List ℕ
+plus_n [] ys = []
+plus_n (x ∷ xs) [] = []
+plus_n (x ∷ xs) (y ∷ ys) = (x + y) ∷ plus_n xs ys
 
 -- the square of the distance of two samples
 unfoldable pub sqd : ℕ → ℕ → ℕ
@@ -51,6 +51,6 @@ pub record Stage (t a book : List ℕ) (base bias : ℕ) : Type 0 where
   pub room : base + length t * 16 ≤ length book
 
 -- the leaf that a code and six stage indices mean
-abbrev pub leafOf : LeafCode → List ℕ → Leaf
-leafOf Skip js = skip
-leafOf (Coded m n) js = coded m (take n js)
+abbrev pub leaf_of : LeafCode → List ℕ → Leaf
+leaf_of Skip js = skip
+leaf_of (Coded m n) js = coded m (take n js)

@@ -2,56 +2,56 @@
 use Rattle.std.specs.Prelude.{ℕ, zero, suc, ◌+◌, ◌-◌, ◌*◌, ◌≤◌, ◌<◌, ◌≡◌, true, List, [], ◌∷◌, ◌++◌, eqb, length, take, drop, replicate, ℤ}
 use Rattle.bits.specs.Basics.{pick}
 use Rattle.bits.specs.Bits.{val_of}
-use Rattle.code_tables.specs.Codes.{codes_of, goodTable, Got, got, bad, then, takeCode}
+use Rattle.code_tables.specs.Codes.{codes_of, good_table, Got, got, bad, then, take_code}
 use Rattle.bits.specs.BitNeeds.{Fits}
 use Rattle.book.specs.Book.{Tables, tables_of}
 use Rattle.book.specs.BookLaws.{means}
 use Rattle.book.specs.declared.svq1_vlc.Svq1Half.{Svq1Half}
-use Rattle.codebook.specs.Mean.{meanPosition, meanAt}
+use Rattle.codebook.specs.Mean.{mean_position, mean_at}
 use Rattle.leaf.specs.Leaf.{Leaf, skip, coded}
-use Rattle.leaf.specs.LeafBits.{leafBits, readStages, readRest}
-use Rattle.leaf.specs.LeafForms.{leafOf}
+use Rattle.leaf.specs.LeafBits.{leaf_bits, read_stages, read_rest}
+use Rattle.leaf.specs.LeafForms.{leaf_of}
 use Rattle.leaf.specs.declared.svq1_plane.inner.ReadLeaf.{ReadLeaf}
 use Rattle.leaf.specs.declared.svq1_enc_leaf.LeafCode.{LeafCode}
 use Rattle.leaf.specs.declared.svq1_enc_leaf.LeafCode.TheVariants.{Skip, Coded}
 
 -- the codes of the two tables; the stage table is that of the level in hand, whichever it is
-abbrev pub lentTables : Svq1Half → List ℕ → List ℕ → Tables
-lentTables h stage mean = record { half = h; stage = λ d. codes_of stage; mean = codes_of mean }
+abbrev pub lent_tables : Svq1Half → List ℕ → List ℕ → Tables
+lent_tables h stage mean = record { half = h; stage = λ d. codes_of stage; mean = codes_of mean }
 
--- a leaf's bits by them (for a book's tables: `book-bits`)
-abbrev pub lentBits : Svq1Half → List ℕ → List ℕ → Leaf → List ℕ
-lentBits h stage mean l = leafBits (lentTables h stage mean) 0 l
+-- a leaf's bits by them (for a book's tables: `book_bits_lem`)
+abbrev pub lent_bits : Svq1Half → List ℕ → List ℕ → Leaf → List ℕ
+lent_bits h stage mean l = leaf_bits (lent_tables h stage mean) 0 l
 
 -- as many means as the half has, and eight stage entries, none of them refused by 6
 pub record MeanTable (h : Svq1Half) (mean : List ℕ) : Type 0 where
   pub size : length mean ≡ 3 * means h
-  pub good : goodTable mean ≡ true
+  pub good : good_table mean ≡ true
 
 pub record LentTables (h : Svq1Half) (stage mean : List ℕ) : Type 0 where
-  pub stage-size : length stage ≡ 24
-  pub stage-good : goodTable stage ≡ true
+  pub stage_size : length stage ≡ 24
+  pub stage_good : good_table stage ≡ true
   pub means : MeanTable h mean
 
 -- the code's mean has an entry
 abbrev pub CodeFits : Svq1Half → LeafCode → Type 0
 CodeFits h Skip = Unit
-CodeFits h (Coded m n) = meanPosition h m < means h
+CodeFits h (Coded m n) = mean_position h m < means h
 
 -- what writing a leaf asks: good tables, a mean that has an entry, room for the bits in a string of so many bytes
 pub record Writable (h : Svq1Half) (stage mean : List ℕ) (c : LeafCode) (js : List ℕ) (bytes at : ℕ) : Type 0 where
   pub tables : LentTables h stage mean
   pub known : CodeFits h c
-  pub room : Fits bytes at (length (lentBits h stage mean (leafOf c js)))
+  pub room : Fits bytes at (length (lent_bits h stage mean (leaf_of c js)))
 
 -- how many bits a leaf of this code has, whatever its six stage indices
 abbrev pub LeafSize : Svq1Half → List ℕ → List ℕ → LeafCode → ℕ → Type 0
-LeafSize h stage mean c r = (js : List ℕ) → length js ≡ 6 → r ≡ length (lentBits h stage mean (leafOf c js))
+LeafSize h stage mean c r = (js : List ℕ) → length js ≡ 6 → r ≡ length (lent_bits h stage mean (leaf_of c js))
 
 -- ---- reading
 -- what the struct says of the bits that were read: the leaf and the bits left, or the refusal
-abbrev pub leafGot : List ℕ → ReadLeaf → Got Leaf
-leafGot bits r = pick (eqb r.refused 0) (got (leafOf r.code r.stages) (drop r.next bits)) (bad r.refused)
+abbrev pub leaf_got : List ℕ → ReadLeaf → Got Leaf
+leaf_got bits r = pick (eqb r.refused 0) (got (leaf_of r.code r.stages) (drop r.next bits)) (bad r.refused)
 
 -- a leaf's one form in memory: its code counts its stages, and the indices behind them are 0
 abbrev pub padded : List ℕ → List ℕ
@@ -61,24 +61,24 @@ abbrev pub code_of : Leaf → LeafCode
 code_of skip = Skip
 code_of (coded m js) = Coded m (length js)
 
-abbrev pub sixOf : Leaf → List ℕ
-sixOf skip = replicate 6 0
-sixOf (coded m js) = padded js
+abbrev pub six_of : Leaf → List ℕ
+six_of skip = replicate 6 0
+six_of (coded m js) = padded js
 
 pub record Clean (c : LeafCode) (js : List ℕ) : Type 0 where
-  pub code : c ≡ code_of (leafOf c js)
-  pub stages : js ≡ sixOf (leafOf c js)
+  pub code : c ≡ code_of (leaf_of c js)
+  pub stages : js ≡ six_of (leaf_of c js)
 
 -- what a refused reading answers
-abbrev pub refusedLeaf : ℕ → ReadLeaf
-refusedLeaf n = record { refused = n; next = 0; code = Skip; stages = replicate 6 0 }
+abbrev pub refused_leaf : ℕ → ReadLeaf
+refused_leaf n = record { refused = n; next = 0; code = Skip; stages = replicate 6 0 }
 
--- the answer r is what reading gives; its next bit lies in the string, its leaf has the one form, and a refused one is `refusedLeaf`
+-- the answer r is what reading gives; its next bit lies in the string, its leaf has the one form, and a refused one is `refused_leaf`
 pub record LeafRead (bits : List ℕ) (g : Got Leaf) (r : ReadLeaf) : Type 0 where
-  pub leaf : leafGot bits r ≡ g
+  pub leaf : leaf_got bits r ≡ g
   pub within : r.next ≤ length bits
   pub clean : Clean r.code r.stages
-  pub bare : (r.refused ≡ 0 → ⊥) → r ≡ refusedLeaf r.refused
+  pub bare : (r.refused ≡ 0 → ⊥) → r ≡ refused_leaf r.refused
 
 -- the indices of n stages from bit `at` on
 unfoldable pub nibbles : List ℕ → ℕ → ℕ → List ℕ
@@ -86,17 +86,17 @@ nibbles bits at zero = []
 nibbles bits at (suc n) = val_of (take 4 (drop at bits)) ∷ nibbles bits (at + 4) n
 
 -- what stands behind the mean m: n stages
-abbrev pub readIndices : ℤ → ℕ → List ℕ → Got Leaf
-readIndices m n bits = then (readStages n bits) (λ js q. got (coded m js) q)
+abbrev pub read_indices : ℤ → ℕ → List ℕ → Got Leaf
+read_indices m n bits = then (read_stages n bits) (λ js q. got (coded m js) q)
 
 -- what stands behind a stage code that counts n stages
-abbrev pub readMean : Svq1Half → List ℕ → ℕ → List ℕ → Got Leaf
-readMean h mean n bits = then (takeCode (codes_of mean) bits) (λ k r. readIndices (meanAt h k) n r)
+abbrev pub read_mean : Svq1Half → List ℕ → ℕ → List ℕ → Got Leaf
+read_mean h mean n bits = then (take_code (codes_of mean) bits) (λ k r. read_indices (mean_at h k) n r)
 
 -- what stands behind the stage code at position k, by the mean table alone
-abbrev pub lentRest : Svq1Half → List ℕ → ℕ → ℕ → List ℕ → Got Leaf
-lentRest h mean d k bits = readRest (lentTables h [] mean) d k bits
+abbrev pub lent_rest : Svq1Half → List ℕ → ℕ → ℕ → List ℕ → Got Leaf
+lent_rest h mean d k bits = read_rest (lent_tables h [] mean) d k bits
 
 -- how many bits a leaf of this code has by a book, whatever its six stage indices
 abbrev pub BookLeafSize : List ℕ → Svq1Half → ℕ → LeafCode → ℕ → Type 0
-BookLeafSize book h d c r = (js : List ℕ) → length js ≡ 6 → r ≡ length (leafBits (tables_of book h) d (leafOf c js))
+BookLeafSize book h d c r = (js : List ℕ) → length js ≡ 6 → r ≡ length (leaf_bits (tables_of book h) d (leaf_of c js))

@@ -20,8 +20,8 @@ sub_small m b h k = go (dec_le b m)
         let l : m < b = omega arith in
         simp (lt-ltb _ _ l) (omega arith)
 
-pub sub-sfits : (m b : ℕ) → m < 32768 → b < 32768 → SFits w16 (sub_ℕ m b)
-sub-sfits m b h k = record { sfits = sub_small m b h k }
+pub sub_sfits : (m b : ℕ) → m < 32768 → b < 32768 → SFits w16 (sub_ℕ m b)
+sub_sfits m b h k = record { sfits = sub_small m b h k }
 
 -- ---- a number that is not below 0
 pub natural-below : (z : ℤ) → lt_z z (pos 0) ≡ true → 0 ≡ natural z
@@ -33,16 +33,16 @@ pub record NotBelow (z : ℤ) : Type 0 where
   pub itself : nat_abs z ≡ natural z
   pub fits : mag z < 2147483648 → nat_abs z < 18446744073709551616
 
-pub not-below : (z : ℤ) → lt_z z (pos 0) ≡ false → NotBelow z
-not-below (pos n) e = record { sign = tt; itself = refl; fits = λ h. omega arith }
-not-below (negsuc n) e = absurd (true≢false e)
+pub not_below : (z : ℤ) → lt_z z (pos 0) ≡ false → NotBelow z
+not_below (pos n) e = record { sign = tt; itself = refl; fits = λ h. omega arith }
+not_below (negsuc n) e = absurd (true≢false e)
 
 -- ---- 16 bits in 32
 pub wider : (z : ℤ) → SFits w16 z → SFits w32 z
 wider z s = record { sfits = omega (arith, s.sfits) }
 
-sub-mag : (m b k : ℕ) → m < k → b ≤ k → mag (sub_ℕ m b) < k
-sub-mag m b k h l = go (dec_le b m)
+sub_mag : (m b k : ℕ) → m < k → b ≤ k → mag (sub_ℕ m b) < k
+sub_mag m b k h l = go (dec_le b m)
   where
     go : Dec (b ≤ m) → mag (sub_ℕ m b) < k
     go (yes e) = simp (le-ltb _ _ e) (omega arith)
@@ -50,6 +50,6 @@ sub-mag m b k h l = go (dec_le b m)
         let f : m < b = omega arith in
         simp (lt-ltb _ _ f) (omega arith)
 
-pub wider-sum : (z : ℤ) → SFits w16 z → SFits w32 (z +ℤ pos 256)
-wider-sum (pos n) s = record { sfits = omega (arith, s.sfits) }
-wider-sum (negsuc n) s = record { sfits = sub-mag 256 (suc n) 2147483648 (omega arith) (omega (arith, s.sfits)) }
+pub wider_sum : (z : ℤ) → SFits w16 z → SFits w32 (z +ℤ pos 256)
+wider_sum (pos n) s = record { sfits = omega (arith, s.sfits) }
+wider_sum (negsuc n) s = record { sfits = sub_mag 256 (suc n) 2147483648 (omega arith) (omega (arith, s.sfits)) }

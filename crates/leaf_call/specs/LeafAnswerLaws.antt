@@ -5,86 +5,86 @@ use Rattle.std.proofs.Math.Path.{sym, ap}
 use Rattle.std.proofs.Common.{◌∙◌, arith}
 use borrow.Author.Tests.{lt-ltb, le-ltb, eq-eqb, ne_eqb, le-leb, lt-leb, ltb-true, leb-true, eqb-true}
 use Rattle.bits.specs.Basics.{unless, Bytes}
-use Rattle.bits.specs.BasicsLaws.{both_true, or-none, or-first, or-next, unless-none}
-use Rattle.book.specs.Book.{dataRefusal, bookRefusal, codebookBytes, tables_of}
-use Rattle.book.specs.BookLaws.{data-passes}
+use Rattle.bits.specs.BasicsLaws.{both_true, or_none, or_first, or_next, unless-none}
+use Rattle.book.specs.Book.{data_refusal, book_refusal, codebook_bytes, tables_of}
+use Rattle.book.specs.BookLaws.{data_passes}
 use Rattle.book.specs.Level.{area}
 use Rattle.book.specs.declared.svq1_vlc.Svq1Half.TheVariants.{Inter}
-use Rattle.leaf.specs.LeafBits.{leafBits}
-use Rattle.leaf.specs.LeafForms.{leafOf}
-use Rattle.codebook.specs.CodebookForms.{raisedCodebook}
+use Rattle.leaf.specs.LeafBits.{leaf_bits}
+use Rattle.leaf.specs.LeafForms.{leaf_of}
+use Rattle.codebook.specs.CodebookForms.{raised_codebook}
 use Rattle.leaf.specs.LeafNeeds.{LeafFound}
-use Rattle.leaf.specs.LentNeedsLaws.{skip-clean}
-use Rattle.leaf.specs.AgreeLaws.{leaf-found}
+use Rattle.leaf.specs.LentNeedsLaws.{skip_clean}
+use Rattle.leaf.specs.AgreeLaws.{leaf_found}
 use Rattle.leaf_call.specs.declared.svq1_enc_leaf.LeafAnswer.{LeafAnswer}
 use Rattle.leaf.specs.declared.svq1_enc_leaf.LeafTerms.{LeafTerms}
 use Rattle.leaf_search.specs.declared.svq1_enc_leaf.LeafChoice.{LeafChoice}
-use Rattle.leaf.specs.LeafCall.{BlockIn, halfAt, termsOf, blockOk, blockRefusal, leafChosen, leafAnswer}
-use Rattle.leaf_call.specs.LeafAnswer.{blockFits, refusedLeafAnswer, LeafAnswered}
+use Rattle.leaf.specs.LeafCall.{BlockIn, half_at, terms_of, block_ok, block_refusal, leaf_chosen, leaf_answer}
+use Rattle.leaf_call.specs.LeafAnswer.{block_fits, refused_leaf_answer, LeafAnswered}
 use Rattle.leaf_search.specs.LevelLeafNeeds.{LevelChosen}
 
 -- ---- 8, test by test
 module _ (level half target predictor cap : ℕ) (skip : Bool) where
-  pub no-level : 5 < level → false ≡ blockFits level half target predictor cap skip
-  unfolding blockFits
-  no-level h = rw (le-ltb level 6 h)
+  pub no_level : 5 < level → false ≡ block_fits level half target predictor cap skip
+  unfolding block_fits
+  no_level h = rw (le-ltb level 6 h)
 
   module _ (l : level ≤ 5) where
-    pub no-half : 1 < half → false ≡ blockFits level half target predictor cap skip
-    unfolding blockFits
-    no-half h = rw (lt-ltb level 6 (omega arith), le-ltb half 2 h)
+    pub no_half : 1 < half → false ≡ block_fits level half target predictor cap skip
+    unfolding block_fits
+    no_half h = rw (lt-ltb level 6 (omega arith), le-ltb half 2 h)
 
     module _ (f : half ≤ 1) (n : ℕ) (size : n ≡ area level) where
-      pub no_target : (target ≡ n → ⊥) → false ≡ blockFits level half target predictor cap skip
-      unfolding blockFits
+      pub no_target : (target ≡ n → ⊥) → false ≡ block_fits level half target predictor cap skip
+      unfolding block_fits
       no_target h = rw (lt-ltb level 6 (omega arith), lt-ltb half 2 (omega arith), ← size, ne_eqb target n h)
 
       module _ (t : target ≡ n) where
-        pub no-predictor : (predictor ≡ n → ⊥) → false ≡ blockFits level half target predictor cap skip
-        unfolding blockFits
-        no-predictor h = rw (lt-ltb level 6 (omega arith), lt-ltb half 2 (omega arith), ← size, eq-eqb target n t, ne_eqb predictor n h)
+        pub no_predictor : (predictor ≡ n → ⊥) → false ≡ block_fits level half target predictor cap skip
+        unfolding block_fits
+        no_predictor h = rw (lt-ltb level 6 (omega arith), lt-ltb half 2 (omega arith), ← size, eq-eqb target n t, ne_eqb predictor n h)
 
         module _ (p : predictor ≡ n) where
-          pub no-cap : 6 < cap → false ≡ blockFits level half target predictor cap skip
-          unfolding blockFits
-          no-cap h = rw (lt-ltb level 6 (omega arith), lt-ltb half 2 (omega arith), ← size, eq-eqb target n t, eq-eqb predictor n p, lt-leb cap 6 h)
+          pub no_cap : 6 < cap → false ≡ block_fits level half target predictor cap skip
+          unfolding block_fits
+          no_cap h = rw (lt-ltb level 6 (omega arith), lt-ltb half 2 (omega arith), ← size, eq-eqb target n t, eq-eqb predictor n p, lt-leb cap 6 h)
 
-          pub last-test : cap ≤ 6 → not (skip && eqb half 0) ≡ blockFits level half target predictor cap skip
-          unfolding blockFits
-          last-test h = rw (lt-ltb level 6 (omega arith), lt-ltb half 2 (omega arith), ← size, eq-eqb target n t, eq-eqb predictor n p, le-leb cap 6 h)
+          pub last_test : cap ≤ 6 → not (skip && eqb half 0) ≡ block_fits level half target predictor cap skip
+          unfolding block_fits
+          last_test h = rw (lt-ltb level 6 (omega arith), lt-ltb half 2 (omega arith), ← size, eq-eqb target n t, eq-eqb predictor n p, le-leb cap 6 h)
 
 -- ---- a call that passes
-pub fits-is : (b : BlockIn) → blockOk b ≡ blockFits b.level b.half (length b.target) (length b.predictor) b.cap b.allowSkip
-unfolding blockOk blockFits
-fits-is b = refl
+pub fits_is : (b : BlockIn) → block_ok b ≡ block_fits b.level b.half (length b.target) (length b.predictor) b.cap b.allow_skip
+unfolding block_ok block_fits
+fits_is b = refl
 
 pub record BlockPasses (b : BlockIn) : Type 0 where
-  pub codebook : length b.codebook ≡ codebookBytes
-  pub book : bookRefusal b.book ≡ 0
+  pub codebook : length b.codebook ≡ codebook_bytes
+  pub book : book_refusal b.book ≡ 0
   pub level : b.level ≤ 5
   pub half : b.half ≤ 1
   pub target : length b.target ≡ area b.level
   pub predictor : length b.predictor ≡ area b.level
   pub cap : b.cap ≤ 6
-  pub skip : b.allowSkip ≡ true → halfAt b.half ≡ Inter
+  pub skip : b.allow_skip ≡ true → half_at b.half ≡ Inter
 
-skips : (a : Bool) (h : ℕ) → not (a && eqb h 0) ≡ true → a ≡ true → halfAt h ≡ Inter
+skips : (a : Bool) (h : ℕ) → not (a && eqb h 0) ≡ true → a ≡ true → half_at h ≡ Inter
 skips true zero e q = let z : false ≡ true = e in absurd (let n : ◌≡◌ {A = ℕ} 0 1 = cc in omega arith)
 skips true (suc h) e q = refl
 skips false h e q = absurd (let n : ◌≡◌ {A = ℕ} 0 1 = cc in omega arith)
 
-pub block-passes : (b : BlockIn) → blockRefusal b ≡ 0 → BlockPasses b
-unfolding blockRefusal blockOk
-block-passes b e =
-    let two = or-none (dataRefusal b.book b.codebook) (unless (blockOk b) 8) e in
-    let both = data-passes b.book b.codebook two.0 in
-    let ok = unless-none (blockOk b) 8 (omega arith) two.1 in
+pub block_passes : (b : BlockIn) → block_refusal b ≡ 0 → BlockPasses b
+unfolding block_refusal block_ok
+block_passes b e =
+    let two = or_none (data_refusal b.book b.codebook) (unless (block_ok b) 8) e in
+    let both = data_passes b.book b.codebook two.0 in
+    let ok = unless-none (block_ok b) 8 (omega arith) two.1 in
     let l = ltb b.level 6 in
     let h = ltb b.half 2 in
     let t = eqb (length b.target) (area b.level) in
     let p = eqb (length b.predictor) (area b.level) in
     let c = leb b.cap 6 in
-    let s = not (b.allowSkip && eqb b.half 0) in
+    let s = not (b.allow_skip && eqb b.half 0) in
     let all = both_true ((l && h) && (t && p)) (c && s) ok in
     let front = both_true (l && h) (t && p) all.0 in
     let lh = both_true l h front.0 in
@@ -100,65 +100,65 @@ block-passes b e =
       target = eqb-true (length b.target) (area b.level) tp.0;
       predictor = eqb-true (length b.predictor) (area b.level) tp.1;
       cap = leb-true b.cap 6 cs.0;
-      skip = skips b.allowSkip b.half cs.1;
+      skip = skips b.allow_skip b.half cs.1;
     }
 
 -- the refusals, lowest first
-module _ (b : BlockIn) (x : ℕ) (e : x ≡ dataRefusal b.book b.codebook) where
-  pub data-first : (x ≡ 0 → ⊥) → x ≡ blockRefusal b
-  unfolding blockRefusal
-  data-first h = e ∙ sym (or-first (dataRefusal b.book b.codebook) (unless (blockOk b) 8) (λ z. h (e ∙ z)))
+module _ (b : BlockIn) (x : ℕ) (e : x ≡ data_refusal b.book b.codebook) where
+  pub data_first : (x ≡ 0 → ⊥) → x ≡ block_refusal b
+  unfolding block_refusal
+  data_first h = e ∙ sym (or_first (data_refusal b.book b.codebook) (unless (block_ok b) 8) (λ z. h (e ∙ z)))
 
-  pub block-next : (f : Bool) (r : ℕ) → x ≡ 0 → f ≡ blockFits b.level b.half (length b.target) (length b.predictor) b.cap b.allowSkip
-      → r ≡ unless f 8 → r ≡ blockRefusal b
-  unfolding blockRefusal
-  block-next f r z q p =
-      p ∙ ap (λ (t : Bool). unless t 8) (q ∙ sym (fits-is b)) ∙ sym (or-next (dataRefusal b.book b.codebook) (unless (blockOk b) 8) (sym e ∙ z))
+  pub block_next : (f : Bool) (r : ℕ) → x ≡ 0 → f ≡ block_fits b.level b.half (length b.target) (length b.predictor) b.cap b.allow_skip
+      → r ≡ unless f 8 → r ≡ block_refusal b
+  unfolding block_refusal
+  block_next f r z q p =
+      p ∙ ap (λ (t : Bool). unless t 8) (q ∙ sym (fits_is b)) ∙ sym (or_next (data_refusal b.book b.codebook) (unless (block_ok b) 8) (sym e ∙ z))
 
 -- ---- the answers
-pub drop-replicate : (k n : ℕ) → drop {A = ℕ} k (replicate n 0) ≡ replicate (n - k) 0
-drop-replicate zero n =
+pub drop_replicate : (k n : ℕ) → drop {A = ℕ} k (replicate n 0) ≡ replicate (n - k) 0
+drop_replicate zero n =
     let z : n - 0 ≡ n = omega arith in
     rw z
-drop-replicate (suc k) zero =
+drop_replicate (suc k) zero =
     let z : 0 - suc k ≡ 0 = omega arith in
     rw z
-drop-replicate (suc k) (suc n) =
+drop_replicate (suc k) (suc n) =
     let z : suc n - suc k ≡ n - k = omega arith in
-    rw z (drop-replicate k n)
+    rw z (drop_replicate k n)
 
-pub answer-refused : (b : BlockIn) (n : ℕ) → n ≡ blockRefusal b → (n ≡ 0 → ⊥) → LeafAnswered b (refusedLeafAnswer n)
-unfolding leafAnswer
-answer-refused b n e h =
+pub answer_refused : (b : BlockIn) (n : ℕ) → n ≡ block_refusal b → (n ≡ 0 → ⊥) → LeafAnswered b (refused_leaf_answer n)
+unfolding leaf_answer
+answer_refused b n e h =
     record {
       answer = rw (← e, ne_eqb n 0 h);
-      behind = drop-replicate (length b.target) 256;
+      behind = drop_replicate (length b.target) 256;
       bare = λ z. refl;
-      clean = skip-clean _ refl;
+      clean = skip_clean _ refl;
     }
 
 -- what was found, counted, and put at the front of 256 zeros
-pub answer-found : (b : BlockIn) (r : LeafAnswer) → blockRefusal b ≡ 0 → r.refused ≡ 0
-    → LeafFound b.codebook (termsOf b) b.level b.target b.predictor r.code r.stages r.error (take (length b.target) r.samples)
-    → r.bits ≡ length (leafBits (tables_of b.book (termsOf b).half) b.level (leafOf r.code r.stages))
+pub answer_found : (b : BlockIn) (r : LeafAnswer) → block_refusal b ≡ 0 → r.refused ≡ 0
+    → LeafFound b.codebook (terms_of b) b.level b.target b.predictor r.code r.stages r.error (take (length b.target) r.samples)
+    → r.bits ≡ length (leaf_bits (tables_of b.book (terms_of b).half) b.level (leaf_of r.code r.stages))
     → drop (length b.target) r.samples ≡ drop {A = ℕ} (length b.target) (replicate 256 0)
     → LeafAnswered b r
-unfolding leafAnswer leafChosen
-answer-found b r e z f c d =
+unfolding leaf_answer leaf_chosen
+answer_found b r e z f c d =
     record {
-      answer = rw (z, eq-eqb (blockRefusal b) 0 e, c, f.erring, f.shown, f.leaf);
-      behind = d ∙ drop-replicate (length b.target) 256;
+      answer = rw (z, eq-eqb (block_refusal b) 0 e, c, f.erring, f.shown, f.leaf);
+      behind = d ∙ drop_replicate (length b.target) 256;
       bare = λ n. absurd (n z);
       clean = f.clean;
     }
 
 -- what was found in the copy, by the codebook
-pub found-level : (codebook raised : List ℕ) (terms : LeafTerms) (d : ℕ) (t p : List ℕ) (r : LeafChoice) (out left : List ℕ)
-    → Bytes codebook → raised ≡ raisedCodebook codebook → terms.cap ≤ 6 → length t ≡ area d → LevelChosen terms d t p raised r out left
+pub found_level : (codebook raised : List ℕ) (terms : LeafTerms) (d : ℕ) (t p : List ℕ) (r : LeafChoice) (out left : List ℕ)
+    → Bytes codebook → raised ≡ raised_codebook codebook → terms.cap ≤ 6 → length t ≡ area d → LevelChosen terms d t p raised r out left
     → LeafFound codebook terms d t p r.code r.stages r.error (take (length t) left)
-found-level codebook raised terms d t p r out left bytes copy most size c =
-    leaf-found codebook bytes terms d t p r.code r.stages r.error (take (length t) left) most size (rw (← copy) c.chosen)
+found_level codebook raised terms d t p r out left bytes copy most size c =
+    leaf_found codebook bytes terms d t p r.code r.stages r.error (take (length t) left) most size (rw (← copy) c.chosen)
 
-pub half-inter : (h : ℕ) → (h ≡ 0 → ⊥) → Inter ≡ halfAt h
-half-inter zero e = absurd (e refl)
-half-inter (suc h) e = refl
+pub half_inter : (h : ℕ) → (h ≡ 0 → ⊥) → Inter ≡ half_at h
+half_inter zero e = absurd (e refl)
+half_inter (suc h) e = refl

@@ -2,9 +2,9 @@
 pub mod inner;
 
 ghost use Rattle.std.specs.Prelude.{◌≡◌, ℕ, length};
-ghost use Rattle.book.specs.Level.{levelNumber};
-ghost use Rattle.leaf.specs.LeafCall.{blockBy, blockRefusal};
-ghost use Rattle.leaf_call.specs.LeafAnswer.{blockFits, refusedLeafAnswer, foundAnswer, LeafAnswered, Searchable, SearchFound};
+ghost use Rattle.book.specs.Level.{level_number};
+ghost use Rattle.leaf.specs.LeafCall.{block_by, block_refusal};
+ghost use Rattle.leaf_call.specs.LeafAnswer.{block_fits, refused_leaf_answer, found_answer, LeafAnswered, Searchable, SearchFound};
 
 use super::svq1_enc_leaf::inner::terms_of;
 use book::inner::{CODEBOOK_BYTES, level_at};
@@ -27,7 +27,7 @@ pub struct LeafAnswer {
 
 // Whether 8 passes: a known level and half, blocks of its length, a cap of at most 6, no skip with intra.
 fn block_fits(level: u8, half: u8, target: usize, predictor: usize, cap: u8, skip: bool) -> bool
-    ensures { result ≡ blockFits level half target predictor cap skip }
+    ensures { result ≡ block_fits level half target predictor cap skip }
 {
     if 5 < level {
         return false;
@@ -62,7 +62,7 @@ pub fn block_refusal(
     cap: u8,
     skip: bool,
 ) -> u8
-    ensures { (margin : ℕ) → result ≡ blockRefusal (blockBy book.now codebook.now level half target.now predictor.now cap skip margin) }
+    ensures { (margin : ℕ) → result ≡ block_refusal (block_by book.now codebook.now level half target.now predictor.now cap skip margin) }
 {
     let refusal = book_check::data_refusal(book, codebook);
     if refusal != 0 {
@@ -75,7 +75,7 @@ pub fn block_refusal(
 }
 
 fn refused_answer(refused: u8) -> LeafAnswer
-    ensures { result ≡ refusedLeafAnswer refused }
+    ensures { result ≡ refused_leaf_answer refused }
 {
     LeafAnswer {
         refused,
@@ -95,7 +95,7 @@ fn found_answer(
     error: u32,
     samples: [u8; 256],
 ) -> LeafAnswer
-    ensures { (result ≡ foundAnswer code stages bits error samples) × (length stages ≡ 6) }
+    ensures { (result ≡ found_answer code stages bits error samples) × (length stages ≡ 6) }
 {
     LeafAnswer {
         refused: 0,
@@ -117,8 +117,8 @@ fn searched(
     target: &[u8],
     predictor: &[u8],
 ) -> LeafAnswer
-    requires { Searchable book.now codebook.now raised.old (levelNumber level) terms target.now predictor.now }
-    ensures { SearchFound book.now codebook.now (levelNumber level) terms target.now predictor.now result }
+    requires { Searchable book.now codebook.now raised.old (level_number level) terms target.now predictor.now }
+    ensures { SearchFound book.now codebook.now (level_number level) terms target.now predictor.now result }
 {
     raise_codebook(codebook, raised);
     let mut sums = [0u16; 256];
@@ -151,7 +151,7 @@ pub fn search_leaf(
     skip: bool,
     margin: u32,
 ) -> LeafAnswer
-    ensures { LeafAnswered (blockBy book.now codebook.now level half target.now predictor.now cap skip margin) result }
+    ensures { LeafAnswered (block_by book.now codebook.now level half target.now predictor.now cap skip margin) result }
 {
     let refusal = block_refusal(book, codebook, level, half, target, predictor, cap, skip);
     if refusal != 0 {

@@ -2,15 +2,15 @@
 use Rattle.std.specs.Prelude.{◌≡◌, List, ℕ, ◌+◌, ◌*◌, ◌≤◌, ◌<◌, min, ℤ, length, get_or}
 use Rattle.book.specs.BookLaws.{means}
 use Rattle.book.specs.declared.svq1_vlc.Svq1Half.{Svq1Half}
-use Rattle.codebook.specs.Mean.{meanPosition, meanAt}
+use Rattle.codebook.specs.Mean.{mean_position, mean_at}
 use Rattle.leaf.specs.LeafForms.{Below}
 use Rattle.leaf.specs.declared.svq1_enc_leaf.LeafCode.{LeafCode}
 use Rattle.leaf.specs.declared.svq1_enc_leaf.LeafCode.TheVariants.{Skip, Coded}
 
 -- the mean is one of its half's table
 pub record MeanKnown (h : Svq1Half) (m : ℤ) : Type 0 where
-  pub place : meanPosition h m < means h
-  pub back : meanAt h (meanPosition h m) ≡ m
+  pub place : mean_position h m < means h
+  pub back : mean_at h (mean_position h m) ≡ m
 
 -- a predictor of at most 256 samples, and room for as many sums and samples
 pub record SizedSums (p a out : List ℕ) : Type 0 where

@@ -26,8 +26,8 @@ module _ {t s : List ℕ} {low high i : ℕ} (g : Totals t s low high i) where
         whole = omega (arith, g.whole, next, f);
       }
 
-  pub all-summed : length t ≤ i → low + high * 256 ≡ sse t s
+  pub all_summed : length t ≤ i → low + high * 256 ≡ sse t s
   unfolding sse
-  all-summed h =
+  all_summed h =
       let e : i ≡ length t = omega (arith, g.within) in
       omega (arith, rw (e, drop-length) at g.whole)

@@ -7,14 +7,14 @@ use mathlib.Core.List.{List, [], ◌∷◌, ◌++◌, append_assoc, append-nil}
 use native.Mathlib.Omega.{arith}
 use Rattle.std.proofs.Math.ListN.{length-set}
 use Rattle.std.proofs.Math.Seq.{take-suc-set}
-use Rattle.leaf.specs.Leaf.{sse, plus, samples, argmin, stageError, bestVector, stays, stages, staged}
-use Rattle.leaf.specs.LeafForms.{less, vector, vectorsIn, vectorError, plusN}
-use Rattle.leaf_samples.specs.RaisedLaws.{stage-sums, next-part}
-use Rattle.leaf_search.specs.StagesNeeds.{StageSearch, vectorsFor, stagesFor, Searched}
+use Rattle.leaf.specs.Leaf.{sse, plus, samples, argmin, stage_error, best_vector, stays, stages, staged}
+use Rattle.leaf.specs.LeafForms.{less, vector, vectors_in, vector_error, plus_n}
+use Rattle.leaf_samples.specs.RaisedLaws.{stage_sums, next_part}
+use Rattle.leaf_search.specs.StagesNeeds.{StageSearch, vectors_for, stages_for, Searched}
 
 -- the stages from the k-th on, chosen on the sums z
 abbrev left : StageSearch → ℕ → List ℤ → List ℕ
-left q k z = stages q.terms.margin (vectorsFor q) q.target (q.terms.cap - k) k z
+left q k z = stages q.terms.margin (vectors_for q) q.target (q.terms.cap - k) k z
 
 -- after `count` stages: their indices, the sums with their vectors added, each kept plus p, and the error that they leave
 pub record StagesGoing (q : StageSearch) (a index : List ℕ) (count at p current : ℕ) : Type 0 where
@@ -24,8 +24,8 @@ pub record StagesGoing (q : StageSearch) (a index : List ℕ) (count at p curren
   pub place : at ≡ q.base + length q.target * 16 * count
   pub biased : p ≡ q.bias + 128 * count
   pub low : (i : ℕ) → get_or a i 0 ≤ 1000 + 255 * count
-  pub indices : take count index ++ left q count (less p a) ≡ stagesFor q
-  pub sums : staged (vectorsFor q) count (less p a) (left q count (less p a)) ≡ staged (vectorsFor q) 0 (less q.bias q.sums) (stagesFor q)
+  pub indices : take count index ++ left q count (less p a) ≡ stages_for q
+  pub sums : staged (vectors_for q) count (less p a) (left q count (less p a)) ≡ staged (vectors_for q) 0 (less q.bias q.sums) (stages_for q)
   pub found : current ≡ sse q.target (samples (less p a))
   pub behind : drop count index ≡ replicate (6 - count) 0
 
@@ -43,47 +43,47 @@ module _ {q : StageSearch} {a index : List ℕ} {count at p current : ℕ} (g : 
         behind = g.behind;
       }
 
-  pub all-taken : q.terms.cap ≤ count → Searched q a (record { count = count; error = current; index = index })
+  pub all_taken : q.terms.cap ≤ count → Searched q a (record { count = count; error = current; index = index })
   unfolding stages
-  all-taken h =
+  all_taken h =
       let m : q.terms.cap - count ≡ 0 = omega arith in
       ended (rw m)
 
   -- the next stage's best vector
-  module _ (j e : ℕ) (more : count < q.terms.cap) (best : j ≡ argmin (vectorError q.target (less p a) q.codebook at) 15)
-      (error : e ≡ vectorError q.target (less p a) q.codebook at j) where
-    stage-left : q.terms.cap - count ≡ suc (q.terms.cap - (count + 1))
-    stage-left = omega arith
+  module _ (j e : ℕ) (more : count < q.terms.cap) (best : j ≡ argmin (vector_error q.target (less p a) q.codebook at) 15)
+      (error : e ≡ vector_error q.target (less p a) q.codebook at j) where
+    stage_left : q.terms.cap - count ≡ suc (q.terms.cap - (count + 1))
+    stage_left = omega arith
 
-    chosen : bestVector (vectorsFor q) q.target count (less p a) ≡ j
-    unfolding bestVector stageError vectorsIn vectorError
+    chosen : best_vector (vectors_for q) q.target count (less p a) ≡ j
+    unfolding best_vector stage_error vectors_in vector_error
     chosen = sym (rw g.place at best)
 
-    leaves : stageError (vectorsFor q) q.target count (less p a) j ≡ e
-    unfolding stageError vectorsIn vectorError
+    leaves : stage_error (vectors_for q) q.target count (less p a) j ≡ e
+    unfolding stage_error vectors_in vector_error
     leaves = sym (rw g.place at error)
 
     -- it does not stay
     pub stopped : stays q.terms.margin current e ≡ false → Searched q a (record { count = count; error = current; index = index })
     unfolding stages
-    stopped h = ended (rw (stage-left, stages, chosen, leaves, ← g.found, h))
+    stopped h = ended (rw (stage_left, stages, chosen, leaves, ← g.found, h))
 
     -- it is taken
     module _ (a' : List ℕ) (few : q.terms.cap ≤ 6) (kept : stays q.terms.margin current e ≡ true)
-        (added : a' ≡ plusN a (take (length a) (drop (at + length a * j) q.codebook))) (long : length a' ≡ length a)
+        (added : a' ≡ plus_n a (take (length a) (drop (at + length a * j) q.codebook))) (long : length a' ≡ length a)
         (grown : (i : ℕ) → get_or a' i 0 ≤ get_or a i 0 + 255) where
-      next-sums : less (p + 128) a' ≡ plus (less p a) (vector q.codebook at (length q.target) j)
-      next-sums = rw (added, g.same) (stage-sums q.codebook a at (length q.target) p j)
+      next_sums : less (p + 128) a' ≡ plus (less p a) (vector q.codebook at (length q.target) j)
+      next_sums = rw (added, g.same) (stage_sums q.codebook a at (length q.target) p j)
 
       next : left q count (less p a) ≡ j ∷ left q (count + 1) (less (p + 128) a')
-      unfolding stages vectorsIn
-      next = rw (next-sums, stage-left, stages, chosen, leaves, ← g.found, kept, ← g.place, add-one)
+      unfolding stages vectors_in
+      next = rw (next_sums, stage_left, stages, chosen, leaves, ← g.found, kept, ← g.place, add-one)
 
-      one-stage : (js : List ℕ) → staged (vectorsFor q) count (less p a) (j ∷ js) ≡ staged (vectorsFor q) (count + 1) (less (p + 128) a') js
-      unfolding staged vectorsIn
-      one-stage js =
-          ap₂ (λ (k : ℕ) (z : List ℤ). staged (vectorsFor q) k z js) (sym (add-one count))
-          (ap (λ (b : ℕ). plus (less p a) (vector q.codebook b (length q.target) j)) (sym g.place) ∙ sym next-sums)
+      one_stage : (js : List ℕ) → staged (vectors_for q) count (less p a) (j ∷ js) ≡ staged (vectors_for q) (count + 1) (less (p + 128) a') js
+      unfolding staged vectors_in
+      one_stage js =
+          ap₂ (λ (k : ℕ) (z : List ℤ). staged (vectors_for q) k z js) (sym (add-one count))
+          (ap (λ (b : ℕ). plus (less p a) (vector q.codebook b (length q.target) j)) (sym g.place) ∙ sym next_sums)
 
       -- the zeros behind it are one fewer
       fewer : drop (count + 1) (set index count j) ≡ replicate (6 - (count + 1)) 0
@@ -95,17 +95,17 @@ module _ {q : StageSearch} {a index : List ℕ} {count at p current : ℕ} (g : 
           drop-set-lt (count + 1) index count j (omega arith) ∙ ap (λ (k : ℕ). drop k index) (add-one count) ∙ rest
 
       pub taken : StagesGoing q a' (set index count j) (count + 1) (at + length q.target * 16) (p + 128) e
-      unfolding vectorError
+      unfolding vector_error
       taken =
           record {
             within = omega arith;
             same = long ∙ g.same;
             six = length-set index count j ∙ g.six;
-            place = omega (arith, g.place, next-part (length q.target * 16) count);
+            place = omega (arith, g.place, next_part (length q.target * 16) count);
             biased = omega (arith, g.biased);
             low = λ i. omega (arith, g.low i, grown i);
             indices = rw (add-one, take-suc-set index count j (omega (arith, g.six)), append_assoc, ← add-one) (rw next at g.indices);
-            sums = sym (one-stage (left q (count + 1) (less (p + 128) a'))) ∙ (rw next at g.sums);
-            found = error ∙ ap (λ (z : List ℤ). sse q.target (samples z)) (sym next-sums);
+            sums = sym (one_stage (left q (count + 1) (less (p + 128) a'))) ∙ (rw next at g.sums);
+            found = error ∙ ap (λ (z : List ℤ). sse q.target (samples z)) (sym next_sums);
             behind = fewer;
           }

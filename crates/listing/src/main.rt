@@ -1,9 +1,9 @@
 // Prints the listing of the plane that the five files of the current folder give.
 ghost use Rattle.std.specs.Prelude.{◌≡◌, ◌+◌, ◌*◌, length};
 ghost use Rattle.io.specs.Counts.{IsPrefixLen};
-ghost use Rattle.book.specs.Book.{codebookBytes};
-ghost use Rattle.listing_job.specs.Job.{mostWidth, mostHeight};
-ghost use Rattle.listing_text.specs.Cut.{longestJob, longestBook};
+ghost use Rattle.book.specs.Book.{codebook_bytes};
+ghost use Rattle.listing_job.specs.Job.{most_width, most_height};
+ghost use Rattle.listing_text.specs.Cut.{longest_job, longest_book};
 
 use libc::STDOUT_FILENO;
 use listing_text::listing::listing;
@@ -30,7 +30,7 @@ fn list_files(
     reference: &mut [u8],
     job: &mut [u8],
 )
-    requires { (length book.old ≡ longestBook + 1) × (length codebook.old ≡ codebookBytes + 1) × (length source.old ≡ mostWidth * mostHeight + 1) × (length reference.old ≡ mostWidth * mostHeight + 1) × (length job.old ≡ longestJob + 1) }
+    requires { (length book.old ≡ longest_book + 1) × (length codebook.old ≡ codebook_bytes + 1) × (length source.old ≡ most_width * most_height + 1) × (length reference.old ≡ most_width * most_height + 1) × (length job.old ≡ longest_job + 1) }
 {
     let mut text = [0u8; 16384];
     let b = read_file(b"book.txt", book);

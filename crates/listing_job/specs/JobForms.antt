@@ -3,10 +3,10 @@ use Rattle.std.specs.Prelude.{ℕ, ◌+◌, ◌≤◌, ◌≡◌, List, [], ◌�
 use Rattle.std.proofs.Math.Option.{Option, none, some}
 use Rattle.bits.specs.Basics.{pick}
 use Rattle.bits.specs.Calls.{Answer}
-use Rattle.text.specs.Text.{comma, numberUpTo, fields_of}
-use Rattle.text.specs.ReadingForms.{countBefore}
-use Rattle.bits.specs.BasicsLaws.{partFrom}
-use Rattle.listing_job.specs.Job.{Job, ontoNumbers, jobRead, jobAnswer}
+use Rattle.text.specs.Text.{comma, number_up_to, fields_of}
+use Rattle.text.specs.ReadingForms.{count_before}
+use Rattle.bits.specs.BasicsLaws.{part_from}
+use Rattle.listing_job.specs.Job.{Job, onto_numbers, job_read, job_answer}
 use Rattle.listing_job.specs.declared.ListingJob.{ListingJob}
 use Rattle.listing_job.specs.declared.JobRead.{JobRead}
 use Rattle.listing_job.specs.declared.JobRead.TheVariants as Told
@@ -14,17 +14,17 @@ use Rattle.listing_job.specs.declared.FieldRead.{FieldRead}
 use Rattle.listing_job.specs.declared.FieldRead.TheVariants.{Field, NoField}
 
 -- the job that a line asks for
-abbrev pub jobBy : ListingJob → Job
-jobBy j = record { width = j.width; height = j.height; lambda = j.lambda; radius = j.radius; allowFour = j.four; margin = j.margin }
+abbrev pub job_by : ListingJob → Job
+job_by j = record { width = j.width; height = j.height; lambda = j.lambda; radius = j.radius; allow_four = j.four; margin = j.margin }
 
 -- what the answer of reading a job line stands for, if for a job
-abbrev pub jobGiven : JobRead → Option Job
-jobGiven (Told.Job j) = some (jobBy j)
-jobGiven Told.NoJob = none
+abbrev pub job_given : JobRead → Option Job
+job_given (Told.Job j) = some (job_by j)
+job_given Told.NoJob = none
 
 -- and by document 01's number
-abbrev pub jobTold : JobRead → Answer Job
-jobTold r = jobAnswer (jobGiven r)
+abbrev pub job_told : JobRead → Answer Job
+job_told r = job_answer (job_given r)
 
 -- ---- one field
 -- its number, and the text behind its comma
@@ -37,39 +37,39 @@ taken_of none rest = none
 taken_of (some n) rest = some (record { number = n; rest = rest })
 
 -- the first of several fields; none where no comma stands behind it or it is no number up to `most`
-unfoldable pub fieldIn : ℕ → List ℕ → Option Taken
-fieldIn most t =
-    let n = countBefore comma t in
-    pick (ltb n (length t)) (taken_of (numberUpTo most (take n t)) (drop (n + 1) t)) none
+unfoldable pub field_in : ℕ → List ℕ → Option Taken
+field_in most t =
+    let n = count_before comma t in
+    pick (ltb n (length t)) (taken_of (number_up_to most (take n t)) (drop (n + 1) t)) none
 
 -- what the answer of reading a field of a text says
-abbrev pub fieldTold : FieldRead → List ℕ → Option Taken
-fieldTold (Field n at) t = some (record { number = n; rest = partFrom at t })
-fieldTold NoField t = none
+abbrev pub field_told : FieldRead → List ℕ → Option Taken
+field_told (Field n at) t = some (record { number = n; rest = part_from at t })
+field_told NoField t = none
 
-abbrev pub behindField : FieldRead → ℕ
-behindField (Field n at) = at
-behindField NoField = 0
+abbrev pub behind_field : FieldRead → ℕ
+behind_field (Field n at) = at
+behind_field NoField = 0
 
 pub record FieldFound (most : ℕ) (t : List ℕ) (r : FieldRead) : Type 0 where
-  pub is : fieldTold r t ≡ fieldIn most t
-  pub within : behindField r ≤ length t
+  pub is : field_told r t ≡ field_in most t
+  pub within : behind_field r ≤ length t
 
 -- ---- all of them
 -- bounds, fields and their numbers
 pub data Numbers : List ℕ → List (List ℕ) → List ℕ → Type 0 where
   no_number : Numbers [] [] []
-  number : {m n : ℕ} {f : List ℕ} {ms ns : List ℕ} {fs : List (List ℕ)} → numberUpTo m f ≡ some n → Numbers ms fs ns → Numbers (m ∷ ms) (f ∷ fs) (n ∷ ns)
+  number : {m n : ℕ} {f : List ℕ} {ms ns : List ℕ} {fs : List (List ℕ)} → number_up_to m f ≡ some n → Numbers ms fs ns → Numbers (m ∷ ms) (f ∷ fs) (n ∷ ns)
 
-abbrev pub ontoRest : Option Taken → (List ℕ → Option (List ℕ)) → Option (List ℕ)
-ontoRest none f = none
-ontoRest (some t) f = ontoNumbers (some t.number) (f t.rest)
+abbrev pub onto_rest : Option Taken → (List ℕ → Option (List ℕ)) → Option (List ℕ)
+onto_rest none f = none
+onto_rest (some t) f = onto_numbers (some t.number) (f t.rest)
 
 -- the same from a text, its fields one after the other
-unfoldable pub fieldsIn : List ℕ → List ℕ → Option (List ℕ)
-fieldsIn [] t = none
-fieldsIn (m ∷ []) t = ontoNumbers (numberUpTo m t) (some [])
-fieldsIn (m ∷ (k ∷ ms)) t = ontoRest (fieldIn m t) (fieldsIn (k ∷ ms))
+unfoldable pub fields_in : List ℕ → List ℕ → Option (List ℕ)
+fields_in [] t = none
+fields_in (m ∷ []) t = onto_numbers (number_up_to m t) (some [])
+fields_in (m ∷ (k ∷ ms)) t = onto_rest (field_in m t) (fields_in (k ∷ ms))
 
 -- a line, some of whose fields are read; `ms` are the bounds of the others
 pub record FieldsRead (ms : List ℕ) : Type 0 where
@@ -82,4 +82,4 @@ pub record FieldsRead (ms : List ℕ) : Type 0 where
   -- the job by the numbers of the others
   pub made : Option (List ℕ) → Option Job
   pub made_none : made none ≡ none
-  pub is : jobRead (fields_of line) ≡ made (fieldsIn ms rest)
+  pub is : job_read (fields_of line) ≡ made (fields_in ms rest)

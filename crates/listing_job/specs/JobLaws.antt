@@ -8,127 +8,127 @@ use Rattle.std.proofs.Math.Dec.{eqb}
 use Rattle.std.proofs.Math.ListN.{length, length-drop}
 use borrow.Author.Tests.{eqb-true, eqb-false, lt-ltb, le-ltb, ltb-true, ltb-false}
 use Rattle.bits.specs.Basics.{pick, every}
-use Rattle.bits.specs.BasicsLaws.{both_true, partFrom, part-from}
-use Rattle.text.specs.Text.{comma, lineFeed, isDigit, is_number, valueFrom, numberUpTo, lines_of, fields_of}
-use Rattle.text.specs.ReadingForms.{countBefore, lineBefore}
-use Rattle.text.specs.TextLaws.{none-some, number-le, count-le, count-all, some-piece, pieces-last, pieces-next, lines_none, lines-open, lines_next}
-use Rattle.text.specs.WritingFormsLaws.{digits-without}
-use Rattle.listing_job.specs.Job.{Job, mostWidth, mostHeight, bounds, ontoNumbers, eachUpTo, job_of, jobMade, jobRead, oneLine, jobIn, jobAnswer}
+use Rattle.bits.specs.BasicsLaws.{both_true, part_from, part_from_lem}
+use Rattle.text.specs.Text.{comma, line_feed, is_digit, is_number, value_from, number_up_to, lines_of, fields_of}
+use Rattle.text.specs.ReadingForms.{count_before, line_before}
+use Rattle.text.specs.TextLaws.{none_some, number_le, count_le, count_all, some_piece, pieces_last, pieces_next, lines_none, lines_open, lines_next}
+use Rattle.text.specs.WritingFormsLaws.{digits_without}
+use Rattle.listing_job.specs.Job.{Job, most_width, most_height, bounds, onto_numbers, each_up_to, job_of, job_made, job_read, one_line, job_in, job_answer}
 use Rattle.listing_job.specs.declared.JobRead.{JobRead}
 use Rattle.listing_job.specs.declared.FieldRead.TheVariants.{Field, NoField}
-use Rattle.listing_job.specs.JobForms.{jobGiven, jobTold, taken_of, fieldIn, FieldFound, Numbers, no_number, number, ontoRest, fieldsIn, FieldsRead}
+use Rattle.listing_job.specs.JobForms.{job_given, job_told, taken_of, field_in, FieldFound, Numbers, no_number, number, onto_rest, fields_in, FieldsRead}
 
 -- ---- all fields
 -- a number holds no comma
-digits_number : (t : List ℕ) → is_number t ≡ true → every isDigit t ≡ true
+digits_number : (t : List ℕ) → is_number t ≡ true → every is_digit t ≡ true
 unfolding is_number every
 digits_number [] q = absurd (true≢false (sym q))
 digits_number (c ∷ []) q = rw q
 digits_number (c ∷ d ∷ t) q =
-    let two = both_true (isDigit c && not (eqb c 48)) (pick (isDigit d) (every isDigit t) false) q in
-    rw (both_true (isDigit c) (not (eqb c 48)) two.0).0 two.1
+    let two = both_true (is_digit c && not (eqb c 48)) (pick (is_digit d) (every is_digit t) false) q in
+    rw (both_true (is_digit c) (not (eqb c 48)) two.0).0 two.1
 
-number-comma : (most : ℕ) (t : List ℕ) → countBefore comma t < length t → numberUpTo most t ≡ none
-unfolding numberUpTo
-number-comma most t h = go (is_number t) refl
+number_comma : (most : ℕ) (t : List ℕ) → count_before comma t < length t → number_up_to most t ≡ none
+unfolding number_up_to
+number_comma most t h = go (is_number t) refl
   where
-    go : (b : Bool) → is_number t ≡ b → pick (b && leb (valueFrom 0 t) most) (some (valueFrom 0 t)) none ≡ none
-    go true q = absurd (omega (arith, count-all comma t (digits-without comma t refl (digits_number t q))))
+    go : (b : Bool) → is_number t ≡ b → pick (b && leb (value_from 0 t) most) (some (value_from 0 t)) none ≡ none
+    go true q = absurd (omega (arith, count_all comma t (digits_without comma t refl (digits_number t q))))
     go false q = refl
 
-onto-none : (o : Option (List ℕ)) → ontoNumbers none o ≡ none
+onto-none : (o : Option (List ℕ)) → onto_numbers none o ≡ none
 onto-none none = refl
 onto-none (some ns) = refl
 
-onto-taken : (o : Option ℕ) (rest : List ℕ) (f : List ℕ → Option (List ℕ)) → ontoNumbers o (f rest) ≡ ontoRest (taken_of o rest) f
+onto-taken : (o : Option ℕ) (rest : List ℕ) (f : List ℕ → Option (List ℕ)) → onto_numbers o (f rest) ≡ onto_rest (taken_of o rest) f
 onto-taken none rest f = onto-none (f rest)
 onto-taken (some n) rest f = refl
 
 -- ---- one field
 -- no comma: one field
-one_field : (t : List ℕ) → length t ≤ countBefore comma t → fields_of t ≡ t ∷ []
+one_field : (t : List ℕ) → length t ≤ count_before comma t → fields_of t ≡ t ∷ []
 unfolding fields_of
-one_field t h = pieces-last comma t (omega (arith, count-le comma t))
+one_field t h = pieces_last comma t (omega (arith, count_le comma t))
 
-no_field : (most : ℕ) (t : List ℕ) → length t ≤ countBefore comma t → fieldIn most t ≡ none
-unfolding fieldIn
-no_field most t h = rw (le-ltb (countBefore comma t) (length t) h)
+no_field : (most : ℕ) (t : List ℕ) → length t ≤ count_before comma t → field_in most t ≡ none
+unfolding field_in
+no_field most t h = rw (le-ltb (count_before comma t) (length t) h)
 
 -- the first field, and those of what stands behind its comma
-first_field : (t : List ℕ) → countBefore comma t < length t → fields_of t ≡ take (countBefore comma t) t ∷ fields_of (drop (countBefore comma t + 1) t)
+first_field : (t : List ℕ) → count_before comma t < length t → fields_of t ≡ take (count_before comma t) t ∷ fields_of (drop (count_before comma t + 1) t)
 unfolding fields_of
-first_field t h = pieces-next comma t h
+first_field t h = pieces_next comma t h
 
-field-taken : (most : ℕ) (t : List ℕ) → countBefore comma t < length t → fieldIn most t ≡ taken_of (numberUpTo most (take (countBefore comma t) t)) (drop (countBefore comma t + 1) t)
-unfolding fieldIn
-field-taken most t h = rw (lt-ltb (countBefore comma t) (length t) h)
+field_taken : (most : ℕ) (t : List ℕ) → count_before comma t < length t → field_in most t ≡ taken_of (number_up_to most (take (count_before comma t) t)) (drop (count_before comma t + 1) t)
+unfolding field_in
+field_taken most t h = rw (lt-ltb (count_before comma t) (length t) h)
 
 -- ---- the fields of a text, one after the other
 -- the last field, and one more than there are bounds
-last-behind : (m : ℕ) (t : List ℕ) (fs : List (List ℕ)) → 0 < length fs → eachUpTo (m ∷ []) (t ∷ fs) ≡ none
-unfolding eachUpTo
-last-behind m t [] h = absurd (omega arith)
-last-behind m t (f ∷ fs) h = refl
+last_behind : (m : ℕ) (t : List ℕ) (fs : List (List ℕ)) → 0 < length fs → each_up_to (m ∷ []) (t ∷ fs) ≡ none
+unfolding each_up_to
+last_behind m t [] h = absurd (omega arith)
+last_behind m t (f ∷ fs) h = refl
 
-some-field : (t : List ℕ) → 0 < length (fields_of t)
+some_field : (t : List ℕ) → 0 < length (fields_of t)
 unfolding fields_of
-some-field t = some-piece comma t
+some_field t = some_piece comma t
 
-last-in : (m : ℕ) (t : List ℕ) → eachUpTo (m ∷ []) (fields_of t) ≡ fieldsIn (m ∷ []) t
-unfolding eachUpTo fieldsIn
-last-in m t = go (ltb n (length t)) refl
+last_in : (m : ℕ) (t : List ℕ) → each_up_to (m ∷ []) (fields_of t) ≡ fields_in (m ∷ []) t
+unfolding each_up_to fields_in
+last_in m t = go (ltb n (length t)) refl
   where
     n : ℕ
-    n = countBefore comma t
+    n = count_before comma t
 
-    go : (b : Bool) → ltb n (length t) ≡ b → eachUpTo (m ∷ []) (fields_of t) ≡ ontoNumbers (numberUpTo m t) (some [])
+    go : (b : Bool) → ltb n (length t) ≡ b → each_up_to (m ∷ []) (fields_of t) ≡ onto_numbers (number_up_to m t) (some [])
     go true q =
         let h = ltb-true n (length t) q in
-        rw (first_field t h, number-comma m t h) (last-behind m (take n t) (fields_of (drop (n + 1) t)) (some-field (drop (n + 1) t)))
+        rw (first_field t h, number_comma m t h) (last_behind m (take n t) (fields_of (drop (n + 1) t)) (some_field (drop (n + 1) t)))
     go false q = rw (one_field t (ltb-false n (length t) q))
 
-fields_in : (ms : List ℕ) (m : ℕ) (t : List ℕ) → eachUpTo (m ∷ ms) (fields_of t) ≡ fieldsIn (m ∷ ms) t
-unfolding eachUpTo fieldsIn
-fields_in [] m t = last-in m t
-fields_in (k ∷ ms) m t = go (ltb n (length t)) refl (fields_in ms k (drop (n + 1) t))
+fields_in_lem : (ms : List ℕ) (m : ℕ) (t : List ℕ) → each_up_to (m ∷ ms) (fields_of t) ≡ fields_in (m ∷ ms) t
+unfolding each_up_to fields_in
+fields_in_lem [] m t = last_in m t
+fields_in_lem (k ∷ ms) m t = go (ltb n (length t)) refl (fields_in_lem ms k (drop (n + 1) t))
   where
     n : ℕ
-    n = countBefore comma t
+    n = count_before comma t
 
-    go : (b : Bool) → ltb n (length t) ≡ b → eachUpTo (k ∷ ms) (fields_of (drop (n + 1) t)) ≡ fieldsIn (k ∷ ms) (drop (n + 1) t)
-        → eachUpTo (m ∷ (k ∷ ms)) (fields_of t) ≡ ontoRest (fieldIn m t) (fieldsIn (k ∷ ms))
+    go : (b : Bool) → ltb n (length t) ≡ b → each_up_to (k ∷ ms) (fields_of (drop (n + 1) t)) ≡ fields_in (k ∷ ms) (drop (n + 1) t)
+        → each_up_to (m ∷ (k ∷ ms)) (fields_of t) ≡ onto_rest (field_in m t) (fields_in (k ∷ ms))
     go true q next =
         let h = ltb-true n (length t) q in
-        rw (first_field t h, field-taken m t h, next) (onto-taken (numberUpTo m (take n t)) (drop (n + 1) t) (fieldsIn (k ∷ ms)))
+        rw (first_field t h, field_taken m t h, next) (onto-taken (number_up_to m (take n t)) (drop (n + 1) t) (fields_in (k ∷ ms)))
     go false q next = let h = ltb-false n (length t) q in rw (one_field t h, no_field m t h)
 
 -- ---- what reading a field answers
-module _ (most : ℕ) (t : List ℕ) (n : ℕ) (e : n ≡ countBefore comma t) where
+module _ (most : ℕ) (t : List ℕ) (n : ℕ) (e : n ≡ count_before comma t) where
   -- no comma stands behind it
-  pub field-last : length t ≤ n → FieldFound most t NoField
-  field-last h = record { is = sym (no_field most t (rw e at h)); within = omega arith }
+  pub field_last : length t ≤ n → FieldFound most t NoField
+  field_last h = record { is = sym (no_field most t (rw e at h)); within = omega arith }
 
   module _ (h : n < length t) where
-    first : fieldIn most t ≡ taken_of (numberUpTo most (take n t)) (partFrom (n + 1) t)
-    first = rw (part-from, e) (field-taken most t (rw e at h))
+    first : field_in most t ≡ taken_of (number_up_to most (take n t)) (part_from (n + 1) t)
+    first = rw (part_from_lem, e) (field_taken most t (rw e at h))
 
-    pub field-bad : numberUpTo most (take n t) ≡ none → FieldFound most t NoField
-    field-bad q = record { is = sym (first ∙ rw q); within = omega arith }
+    pub field_bad : number_up_to most (take n t) ≡ none → FieldFound most t NoField
+    field_bad q = record { is = sym (first ∙ rw q); within = omega arith }
 
-    pub field-read : (v : ℕ) → numberUpTo most (take n t) ≡ some v → FieldFound most t (Field v (n + 1))
-    field-read v q = record { is = sym (first ∙ rw q); within = omega arith }
+    pub field_read : (v : ℕ) → number_up_to most (take n t) ≡ some v → FieldFound most t (Field v (n + 1))
+    field_read v q = record { is = sym (first ∙ rw q); within = omega arith }
 
 -- ---- a job, field after field
-pub job-fields : (t : List ℕ) → jobRead (fields_of t) ≡ jobMade (fieldsIn bounds t)
-unfolding jobRead
-job-fields t = ap jobMade (fields_in _ _ t)
+pub job_fields : (t : List ℕ) → job_read (fields_of t) ≡ job_made (fields_in bounds t)
+unfolding job_read
+job_fields t = ap job_made (fields_in_lem _ _ t)
 
 abbrev pub none_read : List ℕ → FieldsRead bounds
-none_read t = record { line = t; before = t; place = 0; within = omega arith; rest = t; made = jobMade; made_none = refl; is = job-fields t }
+none_read t = record { line = t; before = t; place = 0; within = omega arith; rest = t; made = job_made; made_none = refl; is = job_fields t }
 
 module _ {m k : ℕ} {ms : List ℕ} (r : FieldsRead (m ∷ (k ∷ ms))) where
-  pub field_is : {v at : ℕ} → FieldFound m r.rest (Field v at) → jobRead (fields_of r.line) ≡ r.made (ontoNumbers (some v) (fieldsIn (k ∷ ms) (partFrom at r.rest)))
-  unfolding fieldsIn
+  pub field_is : {v at : ℕ} → FieldFound m r.rest (Field v at) → job_read (fields_of r.line) ≡ r.made (onto_numbers (some v) (fields_in (k ∷ ms) (part_from at r.rest)))
+  unfolding fields_in
   field_is f = r.is ∙ rw (← f.is)
 
   -- one field more
@@ -138,116 +138,116 @@ module _ {m k : ℕ} {ms : List ℕ} (r : FieldsRead (m ∷ (k ∷ ms))) where
     before = r.rest;
     place = at;
     within = f.within;
-    rest = partFrom at r.rest;
-    made = λ o. r.made (ontoNumbers (some v) o);
+    rest = part_from at r.rest;
+    made = λ o. r.made (onto_numbers (some v) o);
     made_none = r.made_none;
     is = field_is f;
   }
 
   -- the first that is none decides
-  pub then-none : FieldFound m r.rest NoField → none ≡ jobRead (fields_of r.line)
-  unfolding fieldsIn
+  pub then-none : FieldFound m r.rest NoField → none ≡ job_read (fields_of r.line)
+  unfolding fields_in
   then-none f = rw (r.is, ← f.is, r.made_none)
 
 -- the last field
-pub then-last : {m : ℕ} (r : FieldsRead (m ∷ [])) {o : Option ℕ} → o ≡ numberUpTo m r.rest → r.made (ontoNumbers o (some [])) ≡ jobRead (fields_of r.line)
-unfolding fieldsIn
-then-last r e = rw (r.is, e)
+pub then_last : {m : ℕ} (r : FieldsRead (m ∷ [])) {o : Option ℕ} → o ≡ number_up_to m r.rest → r.made (onto_numbers o (some [])) ≡ job_read (fields_of r.line)
+unfolding fields_in
+then_last r e = rw (r.is, e)
 
 -- ---- the line
-behind-line : (l u : List ℕ) → 0 < length u → oneLine (lineBefore l (lines_of u)) ≡ none
-behind-line l u h = go (ltb n (length u)) refl
+behind_line : (l u : List ℕ) → 0 < length u → one_line (line_before l (lines_of u)) ≡ none
+behind_line l u h = go (ltb n (length u)) refl
   where
     n : ℕ
-    n = countBefore lineFeed u
+    n = count_before line_feed u
 
-    two : (o : Option (List (List ℕ))) → oneLine (lineBefore l (lineBefore (take n u) o)) ≡ none
+    two : (o : Option (List (List ℕ))) → one_line (line_before l (line_before (take n u) o)) ≡ none
     two none = refl
     two (some ls) = refl
 
-    go : (b : Bool) → ltb n (length u) ≡ b → oneLine (lineBefore l (lines_of u)) ≡ none
+    go : (b : Bool) → ltb n (length u) ≡ b → one_line (line_before l (lines_of u)) ≡ none
     go true q = rw (lines_next u (ltb-true n (length u) q)) (two (lines_of (drop (n + 1) u)))
-    go false q = rw (lines-open u h (omega (arith, ltb-false n (length u) q, count-le lineFeed u)))
+    go false q = rw (lines_open u h (omega (arith, ltb-false n (length u) q, count_le line_feed u)))
 
-module _ (t : List ℕ) (n : ℕ) (e : n ≡ countBefore lineFeed t) where
+module _ (t : List ℕ) (n : ℕ) (e : n ≡ count_before line_feed t) where
   -- no line feed
-  pub job-open : length t ≤ n → jobIn t ≡ none
-  unfolding jobIn
-  job-open h = go (eqb (length t) 0) refl
+  pub job_open : length t ≤ n → job_in t ≡ none
+  unfolding job_in
+  job_open h = go (eqb (length t) 0) refl
     where
-      go : (b : Bool) → eqb (length t) 0 ≡ b → oneLine (lines_of t) ≡ none
+      go : (b : Bool) → eqb (length t) 0 ≡ b → one_line (lines_of t) ≡ none
       go true q = rw (lines_none t (eqb-true (length t) 0 q))
-      go false q = rw (lines-open t (omega (arith, eqb-false (length t) 0 q)) (omega (arith, count-le lineFeed t)))
+      go false q = rw (lines_open t (omega (arith, eqb-false (length t) 0 q)) (omega (arith, count_le line_feed t)))
 
   -- something behind the line feed
-  pub job-more : n + 1 < length t → jobIn t ≡ none
-  unfolding jobIn
-  job-more h =
-      let long : 0 < length (drop (countBefore lineFeed t + 1) t) = omega (arith, length-drop (countBefore lineFeed t + 1) t) in
-      rw (lines_next t (omega arith)) (behind-line (take (countBefore lineFeed t) t) (drop (countBefore lineFeed t + 1) t) long)
+  pub job_more : n + 1 < length t → job_in t ≡ none
+  unfolding job_in
+  job_more h =
+      let long : 0 < length (drop (count_before line_feed t + 1) t) = omega (arith, length-drop (count_before line_feed t + 1) t) in
+      rw (lines_next t (omega arith)) (behind_line (take (count_before line_feed t) t) (drop (count_before line_feed t + 1) t) long)
 
   -- one line
-  pub job_one : n < length t → length t ≤ n + 1 → jobIn t ≡ jobRead (fields_of (take n t))
-  unfolding jobIn
+  pub job_one : n < length t → length t ≤ n + 1 → job_in t ≡ job_read (fields_of (take n t))
+  unfolding job_in
   job_one h k =
-      let none_left : length (drop (countBefore lineFeed t + 1) t) ≡ 0 = omega (arith, length-drop (countBefore lineFeed t + 1) t) in
-      rw (lines_next t (omega arith), lines_none (drop (countBefore lineFeed t + 1) t) none_left, e)
+      let none_left : length (drop (count_before line_feed t + 1) t) ≡ 0 = omega (arith, length-drop (count_before line_feed t + 1) t) in
+      rw (lines_next t (omega arith), lines_none (drop (count_before line_feed t + 1) t) none_left, e)
 
 -- ---- what a job can ask for
-each_number : (ms : List ℕ) (fs : List (List ℕ)) (ns : List ℕ) → eachUpTo ms fs ≡ some ns → Numbers ms fs ns
-unfolding eachUpTo
+each_number : (ms : List ℕ) (fs : List (List ℕ)) (ns : List ℕ) → each_up_to ms fs ≡ some ns → Numbers ms fs ns
+unfolding each_up_to
 each_number [] [] ns q = let is : ns ≡ [] = cc in rw is no_number
-each_number [] (f ∷ fs) ns q = none-some q
-each_number (m ∷ ms) [] ns q = none-some q
-each_number (m ∷ ms) (f ∷ fs) ns q = go (numberUpTo m f) refl (eachUpTo ms fs) (each_number ms fs) q
+each_number [] (f ∷ fs) ns q = none_some q
+each_number (m ∷ ms) [] ns q = none_some q
+each_number (m ∷ ms) (f ∷ fs) ns q = go (number_up_to m f) refl (each_up_to ms fs) (each_number ms fs) q
   where
-    go : (o : Option ℕ) → numberUpTo m f ≡ o → (p : Option (List ℕ)) → ((rest : List ℕ) → p ≡ some rest → Numbers ms fs rest)
-        → ontoNumbers o p ≡ some ns → Numbers (m ∷ ms) (f ∷ fs) ns
-    go o e none next q = none-some q
-    go none e (some rest) next q = none-some q
+    go : (o : Option ℕ) → number_up_to m f ≡ o → (p : Option (List ℕ)) → ((rest : List ℕ) → p ≡ some rest → Numbers ms fs rest)
+        → onto_numbers o p ≡ some ns → Numbers (m ∷ ms) (f ∷ fs) ns
+    go o e none next q = none_some q
+    go none e (some rest) next q = none_some q
     go (some n) e (some rest) next q = let is : ns ≡ n ∷ rest = cc in rw is (number e (next rest refl))
 
-pub job-numbers : (fs : List (List ℕ)) (j : Job) → jobRead fs ≡ some j → (ns : List ℕ) × Numbers bounds fs ns × (j ≡ job_of ns)
-unfolding jobRead
-job-numbers fs j = go (eachUpTo bounds fs) (each_number bounds fs)
+pub job_numbers : (fs : List (List ℕ)) (j : Job) → job_read fs ≡ some j → (ns : List ℕ) × Numbers bounds fs ns × (j ≡ job_of ns)
+unfolding job_read
+job_numbers fs j = go (each_up_to bounds fs) (each_number bounds fs)
   where
-    go : (o : Option (List ℕ)) → ((ns : List ℕ) → o ≡ some ns → Numbers bounds fs ns) → jobMade o ≡ some j → (ns : List ℕ) × Numbers bounds fs ns × (j ≡ job_of ns)
-    go none f q = none-some q
+    go : (o : Option (List ℕ)) → ((ns : List ℕ) → o ≡ some ns → Numbers bounds fs ns) → job_made o ≡ some j → (ns : List ℕ) × Numbers bounds fs ns × (j ≡ job_of ns)
+    go none f q = none_some q
     go (some ns) f q = (ns, f ns refl, cc)
 
 -- each number is within its bound
-number-within : {ms ns : List ℕ} {fs : List (List ℕ)} → Numbers ms fs ns → (k : ℕ) → get_or ns k 0 ≤ get_or ms k 0
-number-within no_number k = omega arith
-number-within (number {m} {n} {f} e rest) zero = number-le m n f e
-number-within (number e rest) (suc k) = number-within rest k
+number_within : {ms ns : List ℕ} {fs : List (List ℕ)} → Numbers ms fs ns → (k : ℕ) → get_or ns k 0 ≤ get_or ms k 0
+number_within no_number k = omega arith
+number_within (number {m} {n} {f} e rest) zero = number_le m n f e
+number_within (number e rest) (suc k) = number_within rest k
 
 -- so it fits what holds it
 abbrev pub JobFits : Job → Type 0
-JobFits j = (j.width ≤ mostWidth) × (j.height ≤ mostHeight) × (j.radius ≤ 255) × (j.margin ≤ 2 ^ 32 - 1)
+JobFits j = (j.width ≤ most_width) × (j.height ≤ most_height) × (j.radius ≤ 255) × (j.margin ≤ 2 ^ 32 - 1)
 
-pub fields-small : (fs : List (List ℕ)) (j : Job) → jobRead fs ≡ some j → JobFits j
-fields-small fs j q =
-    let numbers = job-numbers fs j q in
-    let le = number-within numbers.1 in
+pub fields_small : (fs : List (List ℕ)) (j : Job) → job_read fs ≡ some j → JobFits j
+fields_small fs j q =
+    let numbers = job_numbers fs j q in
+    let le = number_within numbers.1 in
     rw numbers.2 (le 0, le 1, le 3, le 5)
 
 -- the program's sizes
-pub job-small : (t : List ℕ) (j : Job) → jobIn t ≡ some j → (j.width ≤ mostWidth) × (j.height ≤ mostHeight)
-unfolding jobIn
-job-small t j = go (lines_of t)
+pub job_small : (t : List ℕ) (j : Job) → job_in t ≡ some j → (j.width ≤ most_width) × (j.height ≤ most_height)
+unfolding job_in
+job_small t j = go (lines_of t)
   where
-    go : (o : Option (List (List ℕ))) → oneLine o ≡ some j → (j.width ≤ mostWidth) × (j.height ≤ mostHeight)
-    go none q = none-some q
-    go (some []) q = none-some q
-    go (some (l ∷ [])) q = let s = fields-small (fields_of l) j q in (s.0, s.1)
-    go (some (l ∷ (m ∷ ms))) q = none-some q
+    go : (o : Option (List (List ℕ))) → one_line o ≡ some j → (j.width ≤ most_width) × (j.height ≤ most_height)
+    go none q = none_some q
+    go (some []) q = none_some q
+    go (some (l ∷ [])) q = let s = fields_small (fields_of l) j q in (s.0, s.1)
+    go (some (l ∷ (m ∷ ms))) q = none_some q
 
 -- the answer tells which job, if any
-same-job : (p o : Option Job) → jobAnswer p ≡ jobAnswer o → p ≡ o
+same-job : (p o : Option Job) → job_answer p ≡ job_answer o → p ≡ o
 same-job none none e = refl
 same-job none (some j) e = let z : ◌≡◌ {A = ℕ} 0 1 = cc in absurd (omega arith)
 same-job (some i) none e = let z : ◌≡◌ {A = ℕ} 0 1 = cc in absurd (omega arith)
 same-job (some i) (some j) e = cc
 
-pub job-told : (r : JobRead) (o : Option Job) → jobTold r ≡ jobAnswer o → o ≡ jobGiven r
-job-told r o e = sym (same-job (jobGiven r) o e)
+pub job-told : (r : JobRead) (o : Option Job) → job_told r ≡ job_answer o → o ≡ job_given r
+job-told r o e = sym (same-job (job_given r) o e)

@@ -1,8 +1,8 @@
 // The job line of the listing program: `width,height,lambda,radius,four,margin`.
 ghost use Rattle.std.specs.Prelude.{◌≡◌};
 ghost use Rattle.text.specs.Text.{fields_of};
-ghost use Rattle.listing_job.specs.Job.{jobIn, jobRead, jobAnswer};
-ghost use Rattle.listing_job.specs.JobForms.{FieldFound, jobGiven, jobTold};
+ghost use Rattle.listing_job.specs.Job.{job_in, job_read, job_answer};
+ghost use Rattle.listing_job.specs.JobForms.{FieldFound, job_given, job_told};
 
 use text::NumberRead;
 
@@ -47,7 +47,7 @@ fn read_field(t: &[u8], most: u64) -> FieldRead
 
 // The six fields of a line, without its line feed.
 fn read_fields(t: &[u8]) -> JobRead
-    ensures { jobGiven result ≡ jobRead (fields_of t.now) }
+    ensures { job_given result ≡ job_read (fields_of t.now) }
 {
     let FieldRead::Field(width, a) = read_field(t, 176) else {
         return JobRead::NoJob;
@@ -83,7 +83,7 @@ fn read_fields(t: &[u8]) -> JobRead
 
 // A job file: one line, ended by a line feed.
 pub fn read_job(line: &[u8]) -> JobRead
-    ensures { jobTold result ≡ jobAnswer (jobIn line.now) }
+    ensures { job_told result ≡ job_answer (job_in line.now) }
 {
     let n = text::find(line, b'\n');
     if n == line.len() {

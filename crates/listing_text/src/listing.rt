@@ -1,16 +1,16 @@
 // The text that the listing program prints, from the bytes of its five files.
 ghost use Rattle.std.specs.Prelude.{[], ◌≡◌, ◌≤◌, length};
 ghost use Rattle.std.proofs.Math.Option.{some};
-ghost use Rattle.book.specs.Book.{bookBytes};
-ghost use Rattle.macroblock_choice.specs.ChosenNeeds.{taskBy};
-ghost use Rattle.macroblock.specs.MacroblockNeeds.{givenBy};
-ghost use Rattle.listing_job.specs.Job.{mostWidth, mostHeight};
-ghost use Rattle.listing_job.specs.JobForms.{jobBy};
+ghost use Rattle.book.specs.Book.{book_bytes};
+ghost use Rattle.macroblock_choice.specs.ChosenNeeds.{task_by};
+ghost use Rattle.macroblock.specs.MacroblockNeeds.{given_by};
+ghost use Rattle.listing_job.specs.Job.{most_width, most_height};
+ghost use Rattle.listing_job.specs.JobForms.{job_by};
 ghost use Rattle.listing_text.specs.LineForms.{ListedPut};
-ghost use Rattle.listing_text.specs.Listing.{filesRefusalBy, planeText, jobText};
-ghost use Rattle.listing_text.specs.Listed.{listingRoom, Listed, filesBy, canvasOf, FilesChecked, Listable, Fresh, EmptyFor, ListedReady, endText};
-ghost use Rattle.macroblock.specs.Slices.{slicesBy, lent_by};
-ghost use Rattle.visible_error.specs.VisibleNeeds.{shownBy};
+ghost use Rattle.listing_text.specs.Listing.{files_refusal_by, plane_text, job_text};
+ghost use Rattle.listing_text.specs.Listed.{listing_room, Listed, files_by, canvas_of, FilesChecked, Listable, Fresh, EmptyFor, ListedReady, end_text};
+ghost use Rattle.macroblock.specs.Slices.{slices_by, lent_by};
+ghost use Rattle.visible_error.specs.VisibleNeeds.{shown_by};
 
 use super::inner::lines::{put_lines, put_refused, put_total_line};
 use book::inner::{BOOK_BYTES, CODEBOOK_BYTES};
@@ -22,8 +22,8 @@ use visible_error::inner::visible_total;
 
 // The canvas of a plane of the program's sizes.
 fn canvas_of(width: usize, height: usize) -> Svq1PlaneCanvas
-    requires { (width ≤ mostWidth) × (height ≤ mostHeight) }
-    ensures { result ≡ canvasOf width height }
+    requires { (width ≤ most_width) × (height ≤ most_height) }
+    ensures { result ≡ canvas_of width height }
 {
     Svq1PlaneCanvas {
         width,
@@ -42,8 +42,8 @@ fn files_refusal(
     file: &[u8],
     book: &mut [u8],
 ) -> u8
-    requires { length book.old ≡ bookBytes }
-    ensures { FilesChecked (filesRefusalBy canvas.width canvas.height (record { samples = reference.now; stride = canvas.stride; rows = canvas.rows }) source codebook file.now) file.now result book.new }
+    requires { length book.old ≡ book_bytes }
+    ensures { FilesChecked (files_refusal_by canvas.width canvas.height (record { samples = reference.now; stride = canvas.stride; rows = canvas.rows }) source codebook file.now) file.now result book.new }
 {
     let plane = source_refusal(canvas, source, reference);
     if plane != 0 {
@@ -64,8 +64,8 @@ fn put_plane(
     stated: &[u32],
     end: WriteEnd,
 ) -> usize
-    requires { ListedReady (shownBy canvas source.now recon.now) stated.now end × (listingRoom ≤ length text.old) }
-    ensures { ListedPut listingRoom text.old 0 (endText (shownBy canvas source.now recon.now) stated.now end) result text.new }
+    requires { ListedReady (shown_by canvas source.now recon.now) stated.now end × (listing_room ≤ length text.old) }
+    ensures { ListedPut listing_room text.old 0 (end_text (shown_by canvas source.now recon.now) stated.now end) result text.new }
 {
     if end.refused != 0 {
         return put_refused(text, end.refused);
@@ -90,8 +90,8 @@ fn list_written(
     stated: &mut [u32],
     text: &mut [u8],
 ) -> usize
-    requires { Listable (givenBy canvas reference.now book.now codebook.now) (taskBy source.now settings) × EmptyFor (givenBy canvas reference.now book.now codebook.now) (lent_by out.old (slicesBy recon.old vx.old vy.old)) stated.old × (listingRoom ≤ length text.old) }
-    ensures { ListedPut listingRoom text.old 0 (planeText (givenBy canvas reference.now book.now codebook.now) (taskBy source.now settings)) result text.new }
+    requires { Listable (given_by canvas reference.now book.now codebook.now) (task_by source.now settings) × EmptyFor (given_by canvas reference.now book.now codebook.now) (lent_by out.old (slices_by recon.old vx.old vy.old)) stated.old × (listing_room ≤ length text.old) }
+    ensures { ListedPut listing_room text.old 0 (plane_text (given_by canvas reference.now book.now codebook.now) (task_by source.now settings)) result text.new }
 {
     let end = encode_inter_plane_stated(
         canvas, source, reference, book, codebook, settings, out, 0, recon, vx, vy, stated,
@@ -114,8 +114,8 @@ fn list_into(
     stated: &mut [u32],
     text: &mut [u8],
 ) -> usize
-    requires { Listable (givenBy canvas reference.now book.now codebook.now) (taskBy source.now settings) × Fresh out.old recon.old vx.old vy.old stated.old × (listingRoom ≤ length text.old) }
-    ensures { ListedPut listingRoom text.old 0 (planeText (givenBy canvas reference.now book.now codebook.now) (taskBy source.now settings)) result text.new }
+    requires { Listable (given_by canvas reference.now book.now codebook.now) (task_by source.now settings) × Fresh out.old recon.old vx.old vy.old stated.old × (listing_room ≤ length text.old) }
+    ensures { ListedPut listing_room text.old 0 (plane_text (given_by canvas reference.now book.now codebook.now) (task_by source.now settings)) result text.new }
 {
     let samples = canvas.stride * canvas.rows;
     let vectors = 4 * (canvas.rows / 16 * (canvas.stride / 16));
@@ -145,8 +145,8 @@ fn list_plane(
     settings: Settings,
     text: &mut [u8],
 ) -> usize
-    requires { Listable (givenBy canvas reference.now book.now codebook.now) (taskBy source.now settings) × (listingRoom ≤ length text.old) }
-    ensures { ListedPut listingRoom text.old 0 (planeText (givenBy canvas reference.now book.now codebook.now) (taskBy source.now settings)) result text.new }
+    requires { Listable (given_by canvas reference.now book.now codebook.now) (task_by source.now settings) × (listing_room ≤ length text.old) }
+    ensures { ListedPut listing_room text.old 0 (plane_text (given_by canvas reference.now book.now codebook.now) (task_by source.now settings)) result text.new }
 {
     let mut out = [0u8; 65536];
     let mut recon = [0u8; 25344];
@@ -178,8 +178,8 @@ fn list_job(
     reference: &[u8],
     text: &mut [u8],
 ) -> usize
-    requires { (job.width ≤ mostWidth) × (job.height ≤ mostHeight) × (listingRoom ≤ length text.old) }
-    ensures { ListedPut listingRoom text.old 0 (jobText (filesBy book.now codebook.now source.now reference.now []) (some (jobBy job))) result text.new }
+    requires { (job.width ≤ most_width) × (job.height ≤ most_height) × (listing_room ≤ length text.old) }
+    ensures { ListedPut listing_room text.old 0 (job_text (files_by book.now codebook.now source.now reference.now []) (some (job_by job))) result text.new }
 {
     let mut held = [0u8; BOOK_BYTES];
     let canvas = canvas_of(job.width, job.height);
@@ -213,7 +213,7 @@ pub fn listing(
     job: &[u8],
     text: &mut [u8],
 ) -> usize
-    ensures { Listed (filesBy book.now codebook.now source.now reference.now job.now) text.old result text.new }
+    ensures { Listed (files_by book.now codebook.now source.now reference.now job.now) text.old result text.new }
 {
     if text.len() < 16384 {
         return 0;

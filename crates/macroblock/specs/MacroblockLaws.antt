@@ -9,52 +9,52 @@ use native.Mathlib.Omega.{arith}
 use Rattle.std.proofs.Math.Nat.{mul-le-mul}
 use Rattle.std.proofs.Math.ListN.{length, length-append, length-replicate}
 use Rattle.bits.specs.Basics.{pick, All, Bytes}
-use Rattle.bits.specs.BasicsLaws.{length-values}
+use Rattle.bits.specs.BasicsLaws.{length_values}
 use Rattle.bits.specs.ListLaws.{all_append, all_map, all_both}
 use Rattle.code_tables.specs.Codes.{got}
-use Rattle.code_tables.specs.CodeReadLaws.{take-code}
-use Rattle.book.specs.Book.{tables_of, modeTable, vector_table, bookRefusal}
-use Rattle.code_tables.specs.CodesLaws.{code-most}
-use Rattle.book.specs.BookLaws.{GoodBook, good_book, good-tables}
+use Rattle.code_tables.specs.CodeReadLaws.{take_code_lem}
+use Rattle.book.specs.Book.{tables_of, mode_table, vector_table, book_refusal}
+use Rattle.code_tables.specs.CodesLaws.{code_most}
+use Rattle.book.specs.BookLaws.{GoodBook, good_book, good_tables}
 use Rattle.book.specs.declared.svq1_vlc.Svq1Half.{Svq1Half}
 use Rattle.book.specs.declared.svq1_vlc.Svq1Half.TheVariants.{Intra, Inter}
-use Rattle.codebook.specs.Codebook.{vectorAt}
+use Rattle.codebook.specs.Codebook.{vector_at}
 use Rattle.leaf.specs.Leaf.{sse}
-use Rattle.leaf.specs.LeafLaws.{vectors-sized}
+use Rattle.leaf.specs.LeafLaws.{vectors_sized}
 use Rattle.vectors.specs.declared.svq1_motion_predictor.Svq1Mv.{Svq1Mv}
-use Rattle.vectors.specs.Vectors.{differenceMv, place_of}
-use Rattle.vectors.specs.VectorsLaws.{Codable, Inside, place-lt, places-back, final-back, codable-inside, difference_inside, zero-inside}
-use Rattle.mv_cache.specs.Neighbours.{Near, forOne, forFirst, forSecond, forThird, forFourth}
+use Rattle.vectors.specs.Vectors.{difference_mv, place_of}
+use Rattle.vectors.specs.VectorsLaws.{Codable, Inside, place_lt, places_back, final_back, codable_inside, difference_inside, zero_inside}
+use Rattle.mv_cache.specs.Neighbours.{Near, for_one, for_first, for_second, for_third, for_fourth}
 use Rattle.mv_cache.specs.Grid.{part}
-use Rattle.compensation.specs.CompensationLaws.{bytes-list, moved-byte, bytes-moved, length_moved}
+use Rattle.compensation.specs.CompensationLaws.{bytes_list, moved_byte, bytes_moved, length_moved}
 use Rattle.motion.specs.Search.{searched}
 use Rattle.motion.specs.SearchLaws.{found}
-use Rattle.leaf.specs.DistanceLaws.{sse-most}
-use Rattle.tree.specs.Plan.{total, prunedCost}
-use Rattle.plan.specs.PlanClaim.{largestLambda, planCost}
-use Rattle.plan.specs.PlanClaimLaws.{Planned, plan-short, plan-long, plan-bytes, plan-cheapest, plan-reads}
-use Rattle.tree.specs.TreeBits.{Node, planTree, treeBits, treeShown}
+use Rattle.leaf.specs.DistanceLaws.{sse_most}
+use Rattle.tree.specs.Plan.{total, pruned_cost}
+use Rattle.plan.specs.PlanClaim.{largest_lambda, plan_cost}
+use Rattle.plan.specs.PlanClaimLaws.{Planned, plan_short, plan_long, plan_bytes, plan_cheapest, plan_reads}
+use Rattle.tree.specs.TreeBits.{Node, plan_tree, tree_bits, tree_shown}
 use Rattle.macroblock.specs.declared.svq1_enc_inter.Svq1MbMode.{Svq1MbMode}
 use Rattle.macroblock.specs.declared.svq1_enc_inter.Svq1MbMode.TheVariants as Mode
-use Rattle.macroblock.specs.Mode.{modePosition}
-use Rattle.macroblock.specs.Macroblock.{Given, cols, Motion, still, single, four, Choice, skipped, coded, motionMode, half_of, vectors_of, left_of, top_of, referenceBlock, vectorFor, baseline, shown, modeCodes, vectorCodes, componentBits, differenceBits, vectorBits, motionBits, modeBits, choiceBits}
-use Rattle.macroblock.specs.Choice.{Task, paddedSource, target_of, target, searchFor, blockSearchFor, ifFound, singleTried, fourTried, motionsTried, skipsLeaves, planningFor, tried, fitting, weightOf, chosen}
-use Rattle.macroblock.specs.ChoiceLaws.{chosen-one, all-fitting, FitsLimit, skip_first, choiceCost, chosen-cost}
-use Rattle.macroblock.specs.Reading.{readDifference, readVector, readCoded, readBehind, readMacroblock}
+use Rattle.macroblock.specs.Mode.{mode_position}
+use Rattle.macroblock.specs.Macroblock.{Given, cols, Motion, still, single, four, Choice, skipped, coded, motion_mode, half_of, vectors_of, left_of, top_of, reference_block, vector_for, baseline, shown, mode_codes, vector_codes, component_bits, difference_bits, vector_bits, motion_bits, mode_bits, choice_bits}
+use Rattle.macroblock.specs.Choice.{Task, padded_source, target_of, target, search_for, block_search_for, if_found, single_tried, four_tried, motions_tried, skips_leaves, planning_for, tried, fitting, weight_of, chosen}
+use Rattle.macroblock.specs.ChoiceLaws.{chosen_one, all_fitting, FitsLimit, skip_first, choice_cost, chosen-cost}
+use Rattle.macroblock.specs.Reading.{read_difference, read_vector, read_coded, read_behind, read_macroblock}
 
 -- ---- a block of 256 bytes
 pub record Block (x : List ℕ) : Type 0 where
   pub size : length x ≡ 256
   pub bytes : Bytes x
 
-pub near-24 : (x y : List ℕ) → Block x → Block y → sse x y < 2 ^ 24
-near-24 x y hx hy = omega (arith, sse-most x y hx.bytes hy.bytes, hy.size)
+pub near_24 : (x y : List ℕ) → Block x → Block y → sse x y < 2 ^ 24
+near_24 x y hx hy = omega (arith, sse_most x y hx.bytes hy.bytes, hy.size)
 
 -- what is known of the input of a plane that is not refused
 pub record Fine (g : Given) (t : Task) : Type 0 where
-  pub book : bookRefusal g.book ≡ 0
-  pub source-bytes : Bytes t.source
-  pub reference-bytes : Bytes g.reference.samples
+  pub book : book_refusal g.book ≡ 0
+  pub source_bytes : Bytes t.source
+  pub reference_bytes : Bytes g.reference.samples
 
 zeros : (n : ℕ) → Bytes (replicate n 0)
 zeros zero k = omega arith
@@ -64,237 +64,237 @@ zeros (suc n) (suc k) = zeros n k
 -- each vector is codable against its predictor
 abbrev pub Codables : Near → Motion → Type 0
 Codables n still = Unit
-Codables n (single v) = Codable (forOne n) v
-Codables n (four a b c d) = Codable (forFirst n) a × Codable (forSecond n a) b × Codable (forThird n a b) c × Codable (forFourth a b c) d
+Codables n (single v) = Codable (for_one n) v
+Codables n (four a b c d) = Codable (for_first n) a × Codable (for_second n a) b × Codable (for_third n a b) c × Codable (for_fourth a b c) d
 
 module _ (g : Given) (t : Task) (ok : Fine g t) where
   good : GoodBook g.book
   good = good_book g.book ok.book
 
   -- ---- blocks
-  part-block : (k : ℕ) (xs : List ℕ) → Bytes xs → Block (part 16 (cols g) k xs)
+  part_block : (k : ℕ) (xs : List ℕ) → Bytes xs → Block (part 16 (cols g) k xs)
   unfolding part
-  part-block k xs b = record { size = length-values _ 256 0; bytes = bytes-list _ (λ j. b _) 256 0 }
+  part_block k xs b = record { size = length_values _ 256 0; bytes = bytes_list _ (λ j. b _) 256 0 }
 
-  pub target-block : (k : ℕ) → Block (target g t k)
-  unfolding target_of paddedSource
-  target-block k = part-block k (paddedSource g.width g.height t.source) (bytes-list _ (λ j. ok.source-bytes _) _ 0)
+  pub target_block : (k : ℕ) → Block (target g t k)
+  unfolding target_of padded_source
+  target_block k = part_block k (padded_source g.width g.height t.source) (bytes_list _ (λ j. ok.source_bytes _) _ 0)
 
-  pub reference-block : (k : ℕ) → Block (referenceBlock g k)
-  unfolding referenceBlock
-  reference-block k = part-block k g.reference.samples ok.reference-bytes
+  pub reference_block_lem : (k : ℕ) → Block (reference_block g k)
+  unfolding reference_block
+  reference_block_lem k = part_block k g.reference.samples ok.reference_bytes
 
-  pub baseline-block : (k : ℕ) (m : Motion) → Block (baseline g k m)
+  pub baseline_block : (k : ℕ) (m : Motion) → Block (baseline g k m)
   unfolding baseline
-  baseline-block k still = record { size = length-replicate {A = ℕ} 256 0; bytes = zeros 256 }
-  baseline-block k (single v) = record {
+  baseline_block k still = record { size = length-replicate {A = ℕ} 256 0; bytes = zeros 256 }
+  baseline_block k (single v) = record {
     size = length_moved g.reference 16 (left_of g k) (top_of g k) v;
-    bytes = bytes-moved g.reference ok.reference-bytes 16 (left_of g k) (top_of g k) v;
+    bytes = bytes_moved g.reference ok.reference_bytes 16 (left_of g k) (top_of g k) v;
   }
-  baseline-block k (four a b c d) = record {
-    size = length-values _ 256 0;
-    bytes = bytes-list _ (λ j. moved-byte g.reference ok.reference-bytes 16 (left_of g k) (top_of g k) (vectorFor a b c d j) j) 256 0;
+  baseline_block k (four a b c d) = record {
+    size = length_values _ 256 0;
+    bytes = bytes_list _ (λ j. moved_byte g.reference ok.reference_bytes 16 (left_of g k) (top_of g k) (vector_for a b c d j) j) 256 0;
   }
 
-  inter-skips : (h : Svq1Half) → skipsLeaves h ≡ true → h ≡ Inter
-  inter-skips Intra e = let z : ◌≡◌ {A = ℕ} 0 1 = cc in absurd (omega arith)
-  inter-skips Inter e = refl
+  inter_skips : (h : Svq1Half) → skips_leaves h ≡ true → h ≡ Inter
+  inter_skips Intra e = let z : ◌≡◌ {A = ℕ} 0 1 = cc in absurd (omega arith)
+  inter_skips Inter e = refl
 
   -- ---- the plan for a motion
-  pub planned-for : (k : ℕ) (m : Motion) → Planned (planningFor g t k m)
-  unfolding planningFor
-  planned-for k m = record {
-    tables = good-tables g.book ok.book (half_of m);
-    sized = vectors-sized g.codebook (half_of m);
+  pub planned_for : (k : ℕ) (m : Motion) → Planned (planning_for g t k m)
+  unfolding planning_for
+  planned_for k m = record {
+    tables = good_tables g.book ok.book (half_of m);
+    sized = vectors_sized g.codebook (half_of m);
     same_half = refl;
     few = omega arith;
-    inter = inter-skips (half_of m);
+    inter = inter_skips (half_of m);
     five = omega arith;
-    target-long = (target-block k).size;
-    predictor-long = (baseline-block k m).size;
-    target-bytes = (target-block k).bytes;
-    predictor-bytes = (baseline-block k m).bytes;
+    target_long = (target_block k).size;
+    predictor_long = (baseline_block k m).size;
+    target_bytes = (target_block k).bytes;
+    predictor_bytes = (baseline_block k m).bytes;
   }
 
   abbrev pub tree_for : ℕ → Motion → List Node
-  tree_for k m = planTree (planningFor g t k m)
+  tree_for k m = plan_tree (planning_for g t k m)
 
   -- ---- reading back, in front of anything
-  difference-read : (d : Svq1Mv) (r : List ℕ) → Inside d → readDifference g (differenceBits g d ++ r) ≡ got d r
-  unfolding readDifference
-  difference-read d r h =
-      let hx : place_of d.x < length (vectorCodes g) = rw good.vector.count (place-lt d.x h.x-in) in
-      let hy : place_of d.y < length (vectorCodes g) = rw good.vector.count (place-lt d.y h.y-in) in
-      rw (append_assoc, take-code (vectorCodes g) (place_of d.x) (componentBits g d.y ++ r) good.vector.free hx, take-code (vectorCodes g) (place_of d.y) r good.vector.free hy)
-      (ap (λ (w : Svq1Mv). got w r) (places-back d h))
+  difference_read : (d : Svq1Mv) (r : List ℕ) → Inside d → read_difference g (difference_bits g d ++ r) ≡ got d r
+  unfolding read_difference
+  difference_read d r h =
+      let hx : place_of d.x < length (vector_codes g) = rw good.vector.count (place_lt d.x h.x_in) in
+      let hy : place_of d.y < length (vector_codes g) = rw good.vector.count (place_lt d.y h.y_in) in
+      rw (append_assoc, take_code_lem (vector_codes g) (place_of d.x) (component_bits g d.y ++ r) good.vector.free hx, take_code_lem (vector_codes g) (place_of d.y) r good.vector.free hy)
+      (ap (λ (w : Svq1Mv). got w r) (places_back d h))
 
-  vector-read : (p v : Svq1Mv) (r : List ℕ) → Codable p v → readVector g p (vectorBits g p v ++ r) ≡ got v r
-  unfolding readVector vectorBits
-  vector-read p v r c = rw (difference-read (differenceMv p v) r (difference_inside p v c)) (ap (λ (w : Svq1Mv). got w r) (final-back p v (codable-inside p v c)))
+  vector_read : (p v : Svq1Mv) (r : List ℕ) → Codable p v → read_vector g p (vector_bits g p v ++ r) ≡ got v r
+  unfolding read_vector vector_bits
+  vector_read p v r c = rw (difference_read (difference_mv p v) r (difference_inside p v c)) (ap (λ (w : Svq1Mv). got w r) (final_back p v (codable_inside p v c)))
 
   -- the differences behind a mode
-  motion-read : (n : Near) (m : Motion) (r : List ℕ) → Codables n m → readBehind g n (modePosition (motionMode m)) (motionBits g n m ++ r) ≡ readCoded g m r
-  unfolding readBehind motionBits
-  motion-read n still r c = refl
-  motion-read n (single v) r c = rw (vector-read (forOne n) v r c)
-  motion-read n (four v1 v2 v3 v4) r c =
-      let w2 = vectorBits g (forSecond n v1) v2 in
-      let w3 = vectorBits g (forThird n v1 v2) v3 in
-      let w4 = vectorBits g (forFourth v1 v2 v3) v4 in
+  motion_read : (n : Near) (m : Motion) (r : List ℕ) → Codables n m → read_behind g n (mode_position (motion_mode m)) (motion_bits g n m ++ r) ≡ read_coded g m r
+  unfolding read_behind motion_bits
+  motion_read n still r c = refl
+  motion_read n (single v) r c = rw (vector_read (for_one n) v r c)
+  motion_read n (four v1 v2 v3 v4) r c =
+      let w2 = vector_bits g (for_second n v1) v2 in
+      let w3 = vector_bits g (for_third n v1 v2) v3 in
+      let w4 = vector_bits g (for_fourth v1 v2 v3) v4 in
       simp append_assoc (rw (
-        vector-read (forFirst n) v1 (w2 ++ (w3 ++ (w4 ++ r))) c.0,
-        vector-read (forSecond n v1) v2 (w3 ++ (w4 ++ r)) c.1,
-        vector-read (forThird n v1 v2) v3 (w4 ++ r) c.2,
-        vector-read (forFourth v1 v2 v3) v4 r c.3,
+        vector_read (for_first n) v1 (w2 ++ (w3 ++ (w4 ++ r))) c.0,
+        vector_read (for_second n v1) v2 (w3 ++ (w4 ++ r)) c.1,
+        vector_read (for_third n v1 v2) v3 (w4 ++ r) c.2,
+        vector_read (for_fourth v1 v2 v3) v4 r c.3,
       ))
 
-  position-lt : (m : Svq1MbMode) → modePosition m < 4
-  position-lt Mode.Inter = omega arith
-  position-lt Mode.Inter4Mv = omega arith
-  position-lt Mode.Intra = omega arith
-  position-lt Mode.Skip = omega arith
+  position_lt : (m : Svq1MbMode) → mode_position m < 4
+  position_lt Mode.Inter = omega arith
+  position_lt Mode.Inter4Mv = omega arith
+  position_lt Mode.Intra = omega arith
+  position_lt Mode.Skip = omega arith
 
-  mode-read : (n : Near) (m : Svq1MbMode) (r : List ℕ) → readMacroblock g n (modeBits g m ++ r) ≡ readBehind g n (modePosition m) r
-  unfolding readMacroblock
-  mode-read n m r = rw (take-code (modeCodes g) (modePosition m) r good.mode.free (rw good.mode.count (position-lt m)))
+  mode_read_lem : (n : Near) (m : Svq1MbMode) (r : List ℕ) → read_macroblock g n (mode_bits g m ++ r) ≡ read_behind g n (mode_position m) r
+  unfolding read_macroblock
+  mode_read_lem n m r = rw (take_code_lem (mode_codes g) (mode_position m) r good.mode.free (rw good.mode.count (position_lt m)))
 
-  tree-read : (k : ℕ) (m : Motion) (r : List ℕ) → readCoded g m (treeBits (tables_of g.book (half_of m)) (tree_for k m) ++ r) ≡ got (coded m (tree_for k m)) r
-  unfolding readCoded planningFor
-  tree-read k m r = rw (plan-reads (planningFor g t k m) (planned-for k m) r)
+  tree_read : (k : ℕ) (m : Motion) (r : List ℕ) → read_coded g m (tree_bits (tables_of g.book (half_of m)) (tree_for k m) ++ r) ≡ got (coded m (tree_for k m)) r
+  unfolding read_coded planning_for
+  tree_read k m r = rw (plan_reads (planning_for g t k m) (planned_for k m) r)
 
   -- ---- lengths and costs
-  vector-short : (p v : Svq1Mv) → length (vectorBits g p v) ≤ 64
-  unfolding vectorBits
-  vector-short p v =
-      let d = differenceMv p v in
-      simp length-append (omega (arith, code-most (vector_table g.book) good.vector.good (place_of d.x), code-most (vector_table g.book) good.vector.good (place_of d.y)))
+  vector_short : (p v : Svq1Mv) → length (vector_bits g p v) ≤ 64
+  unfolding vector_bits
+  vector_short p v =
+      let d = difference_mv p v in
+      simp length-append (omega (arith, code_most (vector_table g.book) good.vector.good (place_of d.x), code_most (vector_table g.book) good.vector.good (place_of d.y)))
 
-  motion-short : (n : Near) (m : Motion) → length (motionBits g n m) ≤ 256
-  unfolding motionBits
-  motion-short n still = omega arith
-  motion-short n (single v) = omega (arith, vector-short (forOne n) v)
-  motion-short n (four v1 v2 v3 v4) =
+  motion_short : (n : Near) (m : Motion) → length (motion_bits g n m) ≤ 256
+  unfolding motion_bits
+  motion_short n still = omega arith
+  motion_short n (single v) = omega (arith, vector_short (for_one n) v)
+  motion_short n (four v1 v2 v3 v4) =
       simp length-append
-      (omega (arith, vector-short (forFirst n) v1, vector-short (forSecond n v1) v2, vector-short (forThird n v1 v2) v3, vector-short (forFourth v1 v2 v3) v4))
+      (omega (arith, vector_short (for_first n) v1, vector_short (for_second n v1) v2, vector_short (for_third n v1 v2) v3, vector_short (for_fourth v1 v2 v3) v4))
 
-  mode-short : (m : Svq1MbMode) → length (modeBits g m) ≤ 32
-  mode-short m = code-most (modeTable g.book) good.mode.good (modePosition m)
+  mode_short : (m : Svq1MbMode) → length (mode_bits g m) ≤ 32
+  mode_short m = code_most (mode_table g.book) good.mode.good (mode_position m)
 
-  tree-short : (k : ℕ) (m : Motion) → length (treeBits (tables_of g.book (half_of m)) (tree_for k m)) ≤ 2847
-  unfolding planningFor
-  tree-short k m = plan-short (planningFor g t k m) (planned-for k m)
+  tree_short : (k : ℕ) (m : Motion) → length (tree_bits (tables_of g.book (half_of m)) (tree_for k m)) ≤ 2847
+  unfolding planning_for
+  tree_short k m = plan_short (planning_for g t k m) (planned_for k m)
 
   -- the most bits of a macroblock, under any good book
-  abbrev pub mostChoiceBits : ℕ
-  mostChoiceBits = 3135
+  abbrev pub most_choice_bits : ℕ
+  most_choice_bits = 3135
 
   -- ---- what holds of every choice tried
   pub record Good (k : ℕ) (n : Near) (c : Choice) : Type 0 where
-    pub reads : (r : List ℕ) → readMacroblock g n (choiceBits g n c ++ r) ≡ got c r
-    pub short : length (choiceBits g n c) ≤ mostChoiceBits
+    pub reads : (r : List ℕ) → read_macroblock g n (choice_bits g n c ++ r) ≡ got c r
+    pub short : length (choice_bits g n c) ≤ most_choice_bits
     pub block : Block (shown g k c)
     pub inside : All Inside (vectors_of c)
 
-  skip_read : (n : Near) (r : List ℕ) → readBehind g n 3 r ≡ got skipped r
-  unfolding readBehind
+  skip_read : (n : Near) (r : List ℕ) → read_behind g n 3 r ≡ got skipped r
+  unfolding read_behind
   skip_read n r = refl
 
-  good-skip : (k : ℕ) (n : Near) → Good k n skipped
-  unfolding choiceBits shown
-  good-skip k n = record {
-    reads = λ r. mode-read n Mode.Skip r ∙ skip_read n r;
-    short = omega (arith, mode-short Mode.Skip);
-    block = reference-block k;
-    inside = (zero-inside, (zero-inside, (zero-inside, (zero-inside, tt))));
+  good_skip : (k : ℕ) (n : Near) → Good k n skipped
+  unfolding choice_bits shown
+  good_skip k n = record {
+    reads = λ r. mode_read_lem n Mode.Skip r ∙ skip_read n r;
+    short = omega (arith, mode_short Mode.Skip);
+    block = reference_block_lem k;
+    inside = (zero_inside, (zero_inside, (zero_inside, (zero_inside, tt))));
   }
 
-  motion-inside : (n : Near) (m : Motion) (u : List Node) → Codables n m → All Inside (vectors_of (coded m u))
-  motion-inside n still u c = (zero-inside, (zero-inside, (zero-inside, (zero-inside, tt))))
-  motion-inside n (single v) u c = let i = codable-inside (forOne n) v c in (i, (i, (i, (i, tt))))
-  motion-inside n (four v1 v2 v3 v4) u c =
-      (codable-inside _ v1 c.0, (codable-inside _ v2 c.1, (codable-inside _ v3 c.2, (codable-inside _ v4 c.3, tt))))
+  motion_inside : (n : Near) (m : Motion) (u : List Node) → Codables n m → All Inside (vectors_of (coded m u))
+  motion_inside n still u c = (zero_inside, (zero_inside, (zero_inside, (zero_inside, tt))))
+  motion_inside n (single v) u c = let i = codable_inside (for_one n) v c in (i, (i, (i, (i, tt))))
+  motion_inside n (four v1 v2 v3 v4) u c =
+      (codable_inside _ v1 c.0, (codable_inside _ v2 c.1, (codable_inside _ v3 c.2, (codable_inside _ v4 c.3, tt))))
 
-  tree-block : (k : ℕ) (m : Motion) → Block (treeShown (vectorAt g.codebook (half_of m)) 5 (baseline g k m) (tree_for k m))
-  unfolding planningFor
-  tree-block k m = record { size = plan-long (planningFor g t k m) (planned-for k m); bytes = plan-bytes (planningFor g t k m) (planned-for k m) }
+  tree_block : (k : ℕ) (m : Motion) → Block (tree_shown (vector_at g.codebook (half_of m)) 5 (baseline g k m) (tree_for k m))
+  unfolding planning_for
+  tree_block k m = record { size = plan_long (planning_for g t k m) (planned_for k m); bytes = plan_bytes (planning_for g t k m) (planned_for k m) }
 
-  good-coded : (k : ℕ) (n : Near) (m : Motion) → Codables n m → Good k n (coded m (tree_for k m))
-  unfolding choiceBits shown
-  good-coded k n m c =
-      let bits = treeBits (tables_of g.book (half_of m)) (tree_for k m) in
+  good_coded : (k : ℕ) (n : Near) (m : Motion) → Codables n m → Good k n (coded m (tree_for k m))
+  unfolding choice_bits shown
+  good_coded k n m c =
+      let bits = tree_bits (tables_of g.book (half_of m)) (tree_for k m) in
       record {
         reads = λ r.
             simp append_assoc
-            (mode-read n (motionMode m) (motionBits g n m ++ (bits ++ r)) ∙ motion-read n m (bits ++ r) c ∙ tree-read k m r);
-        short = simp length-append (omega (arith, mode-short (motionMode m), motion-short n m, tree-short k m));
-        block = tree-block k m;
-        inside = motion-inside n m (tree_for k m) c;
+            (mode_read_lem n (motion_mode m) (motion_bits g n m ++ (bits ++ r)) ∙ motion_read n m (bits ++ r) c ∙ tree_read k m r);
+        short = simp length-append (omega (arith, mode_short (motion_mode m), motion_short n m, tree_short k m));
+        block = tree_block k m;
+        inside = motion_inside n m (tree_for k m) c;
       }
 
   -- ---- every motion tried is codable
-  found_all : (n : Near) (f : Option Svq1Mv) (h : Svq1Mv → List Motion) → ((v : Svq1Mv) → f ≡ some v → All (Codables n) (h v)) → All (Codables n) (ifFound f h)
+  found_all : (n : Near) (f : Option Svq1Mv) (h : Svq1Mv → List Motion) → ((v : Svq1Mv) → f ≡ some v → All (Codables n) (h v)) → All (Codables n) (if_found f h)
   found_all n none h k = tt
   found_all n (some v) h k = k v refl
 
-  single-codable : (k : ℕ) (n : Near) → All (Codables n) (singleTried g t k n)
-  unfolding singleTried
-  single-codable k n = found_all n (searched (searchFor g t k (forOne n))) _ (λ v e. ((found (searchFor g t k (forOne n)) v e).codes, tt))
+  single_codable : (k : ℕ) (n : Near) → All (Codables n) (single_tried g t k n)
+  unfolding single_tried
+  single_codable k n = found_all n (searched (search_for g t k (for_one n))) _ (λ v e. ((found (search_for g t k (for_one n)) v e).codes, tt))
 
-  four-codable : (k : ℕ) (n : Near) → All (Codables n) (fourTried g t k n)
-  unfolding fourTried
-  four-codable k n =
-      found_all n (searched (blockSearchFor g t k 0 (forFirst n))) _ (λ a ea.
-      found_all n (searched (blockSearchFor g t k 1 (forSecond n a))) _ (λ b eb.
-      found_all n (searched (blockSearchFor g t k 2 (forThird n a b))) _ (λ c ec.
-      found_all n (searched (blockSearchFor g t k 3 (forFourth a b c))) _ (λ d ed.
+  four_codable : (k : ℕ) (n : Near) → All (Codables n) (four_tried g t k n)
+  unfolding four_tried
+  four_codable k n =
+      found_all n (searched (block_search_for g t k 0 (for_first n))) _ (λ a ea.
+      found_all n (searched (block_search_for g t k 1 (for_second n a))) _ (λ b eb.
+      found_all n (searched (block_search_for g t k 2 (for_third n a b))) _ (λ c ec.
+      found_all n (searched (block_search_for g t k 3 (for_fourth a b c))) _ (λ d ed.
       (((found _ a ea).codes, (found _ b eb).codes, (found _ c ec).codes, (found _ d ed).codes), tt)))))
 
-  flag-codable : (k : ℕ) (n : Near) (f : Bool) → All (Codables n) (pick f (fourTried g t k n) [])
-  flag-codable k n true = four-codable k n
-  flag-codable k n false = tt
+  flag_codable : (k : ℕ) (n : Near) (f : Bool) → All (Codables n) (pick f (four_tried g t k n) [])
+  flag_codable k n true = four_codable k n
+  flag_codable k n false = tt
 
-  pub motions-codable : (k : ℕ) (n : Near) → All (Codables n) (motionsTried g t k n)
-  unfolding motionsTried
-  motions-codable k n = all_append (Codables n) (singleTried g t k n) _ (single-codable k n) (tt, flag-codable k n t.settings.four)
+  pub motions_codable : (k : ℕ) (n : Near) → All (Codables n) (motions_tried g t k n)
+  unfolding motions_tried
+  motions_codable k n = all_append (Codables n) (single_tried g t k n) _ (single_codable k n) (tt, flag_codable k n t.settings.four)
 
-  pub tried-good : (k : ℕ) (n : Near) → All (Good k n) (tried g t k n)
+  pub tried_good : (k : ℕ) (n : Near) → All (Good k n) (tried g t k n)
   unfolding tried
-  tried-good k n =
-      (good-skip k n, all_map (Codables n) (Good k n) (λ m. coded m (tree_for k m)) (motionsTried g t k n) (good-coded k n) (motions-codable k n))
+  tried_good k n =
+      (good_skip k n, all_map (Codables n) (Good k n) (λ m. coded m (tree_for k m)) (motions_tried g t k n) (good_coded k n) (motions_codable k n))
 
   -- what is written has all of it
-  pub chosen-good : (k : ℕ) (n : Near) (spent : ℕ) → Good k n (chosen g t k n spent)
-  chosen-good k n spent = chosen-one g t (Good k n) k n spent (tried-good k n)
+  pub chosen_good : (k : ℕ) (n : Near) (spent : ℕ) → Good k n (chosen g t k n spent)
+  chosen_good k n spent = chosen_one g t (Good k n) k n spent (tried_good k n)
 
   -- ---- at this lambda nothing saturates
-  module _ (low : t.settings.lambda ≤ largestLambda) where
-    plain : (k : ℕ) (n : Near) (c : Choice) → Good k n c → choiceCost g t k n c ≡ total t.settings.lambda (weightOf g t k n c)
-    unfolding weightOf
+  module _ (low : t.settings.lambda ≤ largest_lambda) where
+    plain : (k : ℕ) (n : Near) (c : Choice) → Good k n c → choice_cost g t k n c ≡ total t.settings.lambda (weight_of g t k n c)
+    unfolding weight_of
     plain k n c h =
-        let e = near-24 (target g t k) (shown g k c) (target-block k) h.block in
-        let l : t.settings.lambda * length (choiceBits g n c) ≤ 2 ^ 48 * 3135 = mul-le-mul low h.short in
+        let e = near_24 (target g t k) (shown g k c) (target_block k) h.block in
+        let l : t.settings.lambda * length (choice_bits g n c) ≤ 2 ^ 48 * 3135 = mul-le-mul low h.short in
         omega arith
 
     abbrev NotBelow : ℕ → Near → ℕ → Choice → Type 0
-    NotBelow k n spent c = total t.settings.lambda (weightOf g t k n (chosen g t k n spent)) ≤ total t.settings.lambda (weightOf g t k n c)
+    NotBelow k n spent c = total t.settings.lambda (weight_of g t k n (chosen g t k n spent)) ≤ total t.settings.lambda (weight_of g t k n c)
 
     -- no mode that fits costs less than the one written
-    pub chosen-least : (k : ℕ) (n : Near) (spent : ℕ) → All (NotBelow k n spent) (fitting g t k n spent)
+    pub chosen_least : (k : ℕ) (n : Near) (spent : ℕ) → All (NotBelow k n spent) (fitting g t k n spent)
     unfolding fitting
-    chosen-least k n spent =
-        let e = plain k n (chosen g t k n spent) (chosen-good k n spent) in
-        all_both (λ c. choiceCost g t k n (chosen g t k n spent) ≤ choiceCost g t k n c) (Good k n) (NotBelow k n spent) (fitting g t k n spent)
-        (λ c l h. rw (e, plain k n c h) at l) (chosen-cost g t k n spent) (all-fitting g t (Good k n) k n spent t.limit (tried-good k n))
+    chosen_least k n spent =
+        let e = plain k n (chosen g t k n spent) (chosen_good k n spent) in
+        all_both (λ c. choice_cost g t k n (chosen g t k n spent) ≤ choice_cost g t k n c) (Good k n) (NotBelow k n spent) (fitting g t k n spent)
+        (λ c l h. rw (e, plain k n c h) at l) (chosen-cost g t k n spent) (all_fitting g t (Good k n) k n spent t.limit (tried_good k n))
 
     -- nor SKIP, where it fits
-    pub under-skip : (k : ℕ) (n : Near) (spent : ℕ) → FitsLimit g t k n spent skipped → NotBelow k n spent skipped
+    pub under_skip : (k : ℕ) (n : Near) (spent : ℕ) → FitsLimit g t k n spent skipped → NotBelow k n spent skipped
     unfolding fitting
-    under-skip k n spent h = skip_first g t (NotBelow k n spent) k n spent t.limit h (chosen-least k n spent)
+    under_skip k n spent h = skip_first g t (NotBelow k n spent) k n spent t.limit h (chosen_least k n spent)
 
-    at-lambda : (k : ℕ) (m : Motion) → (planningFor g t k m).lambda ≤ largestLambda
-    unfolding planningFor
-    at-lambda k m = low
+    at_lambda : (k : ℕ) (m : Motion) → (planning_for g t k m).lambda ≤ largest_lambda
+    unfolding planning_for
+    at_lambda k m = low
 
     -- no pruning of a plan costs less than the plan
-    pub unpruned : (k : ℕ) (m : Motion) (cut : ℕ → Bool) → planCost (planningFor g t k m) ≤ prunedCost (planningFor g t k m) cut
-    unpruned k m cut = plan-cheapest (planningFor g t k m) (planned-for k m) (at-lambda k m) cut
+    pub unpruned : (k : ℕ) (m : Motion) (cut : ℕ → Bool) → plan_cost (planning_for g t k m) ≤ pruned_cost (planning_for g t k m) cut
+    unpruned k m cut = plan_cheapest (planning_for g t k m) (planned_for k m) (at_lambda k m) cut

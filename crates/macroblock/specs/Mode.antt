@@ -3,8 +3,8 @@ use Rattle.std.specs.Prelude.{ℕ}
 use Rattle.macroblock.specs.declared.svq1_enc_inter.Svq1MbMode.{Svq1MbMode}
 use Rattle.macroblock.specs.declared.svq1_enc_inter.Svq1MbMode.TheVariants.{Inter, Inter4Mv, Intra, Skip}
 
-abbrev pub modePosition : Svq1MbMode → ℕ
-modePosition Inter = 0
-modePosition Inter4Mv = 1
-modePosition Intra = 2
-modePosition Skip = 3
+abbrev pub mode_position : Svq1MbMode → ℕ
+mode_position Inter = 0
+mode_position Inter4Mv = 1
+mode_position Intra = 2
+mode_position Skip = 3

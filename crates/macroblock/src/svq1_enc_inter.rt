@@ -2,7 +2,7 @@
 pub mod inner;
 
 ghost use Rattle.std.specs.Prelude.{◌≡◌, ◌<◌};
-ghost use Rattle.macroblock.specs.Mode.{modePosition};
+ghost use Rattle.macroblock.specs.Mode.{mode_position};
 
 use vectors::svq1_motion_predictor::Svq1Mv;
 
@@ -18,7 +18,7 @@ pub enum Svq1MbMode {
 impl Svq1MbMode {
     // The position of the mode's code in the mode table.
     pub fn position(self) -> usize
-        ensures { (result ≡ modePosition self) × (result < 4) }
+        ensures { (result ≡ mode_position self) × (result < 4) }
     {
         match self {
             Svq1MbMode::Inter => 0,

@@ -4,37 +4,37 @@ use Rattle.std.specs.Prelude.{◌≡◌, refl, Bool, true, false, List, [], ◌�
 use Rattle.std.proofs.Common.{sym, ap, ◌∙◌, true≢false, arith}
 use Rattle.bits.specs.Basics.{pick, Bytes}
 use Rattle.book.specs.Book.{tables_of}
-use Rattle.book.specs.BookLaws.{good-tables, data-passes}
+use Rattle.book.specs.BookLaws.{good_tables, data_passes}
 use Rattle.book.specs.declared.svq1_vlc.Svq1Half.{Svq1Half}
 use Rattle.book.specs.declared.svq1_vlc.Svq1Half.TheVariants.{Intra, Inter}
-use Rattle.leaf.specs.LeafLaws.{vectors-sized}
+use Rattle.leaf.specs.LeafLaws.{vectors_sized}
 use Rattle.leaf.specs.declared.svq1_enc_leaf.LeafTerms.{LeafTerms}
 use Rattle.vectors.specs.declared.svq1_motion_predictor.Svq1Mv.{Svq1Mv}
 use Rattle.mv_cache.specs.Neighbours.{Near}
 use Rattle.tree.specs.NodeForms.{tree_of}
 use Rattle.tree.specs.Plan.{Planning, Weight}
-use Rattle.plan.specs.PlanClaimLaws.{Planned, plan-bits, plan-error, plan-short}
-use Rattle.tree.specs.TreeBits.{planTree, treeBits}
+use Rattle.plan.specs.PlanClaimLaws.{Planned, plan_bits, plan_error, plan_short}
+use Rattle.tree.specs.TreeBits.{plan_tree, tree_bits}
 use Rattle.macroblock_choice.specs.declared.svq1_enc_inter.inner.candidates.MbCandidate.{MbCandidate}
 use Rattle.macroblock.specs.declared.svq1_enc_inter.Settings.{Settings}
 use Rattle.macroblock.specs.declared.svq1_enc_inter.MbMotion.{MbMotion}
 use Rattle.canvas.specs.declared.svq1_plane.Svq1PlaneCanvas.{Svq1PlaneCanvas}
 use Rattle.macroblock.specs.Macroblock.{Given, Motion, skipped, coded, half_of, baseline, shown}
-use Rattle.macroblock.specs.MacroblockLaws.{Fine, baseline-block}
+use Rattle.macroblock.specs.MacroblockLaws.{Fine, baseline_block}
 use Rattle.macroblock.specs.Limit.{Limit, unlimited}
-use Rattle.macroblock.specs.Choice.{Task, target_of, target, skipsLeaves, planeTerms, planningFor, singleTried, fourTried}
-use Rattle.macroblock.specs.MotionForms.{motionOf}
-use Rattle.macroblock.specs.MacroblockNeeds.{givenBy}
-use Rattle.macroblock.specs.MacroblockNeedsLaws.{fits, book-passes}
+use Rattle.macroblock.specs.Choice.{Task, target_of, target, skips_leaves, plane_terms, planning_for, single_tried, four_tried}
+use Rattle.macroblock.specs.MotionForms.{motion_of}
+use Rattle.macroblock.specs.MacroblockNeeds.{given_by}
+use Rattle.macroblock.specs.MacroblockNeedsLaws.{fits, book_passes}
 use Rattle.macroblock_search.specs.declared.svq1_enc_inter.inner.motions.FoundMotion.{FoundMotion}
-use Rattle.macroblock_search.specs.SearchNeeds.{Searching, motionsOf, stillFound, MotionsFound}
+use Rattle.macroblock_search.specs.SearchNeeds.{Searching, motions_of, still_found, MotionsFound}
 use Rattle.macroblock_search.specs.TargetForms.{Sources}
-use Rattle.macroblock_search.specs.TargetFormsLaws.{target-long}
+use Rattle.macroblock_search.specs.TargetFormsLaws.{target_long}
 use Rattle.macroblock_choice.specs.CandidateNeeds.{choice_of, Stated, CandidateOf, Tried}
-use Rattle.macroblock_choice.specs.CandidateNeedsLaws.{coded-is, coded-stated, keeps, tried-one, chosen_is}
-use Rattle.plan.specs.PlanNeeds.{PlanReady, PlanFound, planningIn}
+use Rattle.macroblock_choice.specs.CandidateNeedsLaws.{coded_is, coded_stated, keeps, tried_one, chosen_is}
+use Rattle.plan.specs.PlanNeeds.{PlanReady, PlanFound, planning_in}
 use Rattle.plan.specs.declared.svq1_enc_tree.MbPlan.{MbPlan}
-use Rattle.macroblock_choice.specs.ChosenNeeds.{taskIn, planningBy, Placing, Sourced, Carries, Made, ChosenFor, ChosenBy}
+use Rattle.macroblock_choice.specs.ChosenNeeds.{task_in, planning_by, Placing, Sourced, Carries, Made, ChosenFor, ChosenBy}
 
 -- ---- a motion's plan
 bare : Task
@@ -43,96 +43,96 @@ bare = record { source = []; settings = record { lambda = 0; radius = 0; four = 
 module _ (g : Given) (raised : List ℕ) (k : ℕ) (block : List ℕ) (ready : Placing g raised k block) (bytes : Bytes block) (reference : Bytes g.reference.samples) (settings : Settings) (m : Motion) where
   fine : Fine g bare
   unfolding bare
-  fine = record { book = book-passes g raised ready.ok; source-bytes = λ j. omega arith; reference-bytes = reference }
+  fine = record { book = book_passes g raised ready.ok; source_bytes = λ j. omega arith; reference_bytes = reference }
 
-  inter-skips : (h : Svq1Half) → skipsLeaves h ≡ true → h ≡ Inter
-  inter-skips Intra e = absurd (true≢false (sym e))
-  inter-skips Inter e = refl
+  inter_skips : (h : Svq1Half) → skips_leaves h ≡ true → h ≡ Inter
+  inter_skips Intra e = absurd (true≢false (sym e))
+  inter_skips Inter e = refl
 
-  pub planned-by : Planned (planningBy g block settings k m)
-  planned-by = record {
-    tables = good-tables g.book (book-passes g raised ready.ok) (half_of m);
-    sized = vectors-sized g.codebook (half_of m);
+  pub planned_by : Planned (planning_by g block settings k m)
+  planned_by = record {
+    tables = good_tables g.book (book_passes g raised ready.ok) (half_of m);
+    sized = vectors_sized g.codebook (half_of m);
     same_half = refl;
     few = omega arith;
-    inter = inter-skips (half_of m);
+    inter = inter_skips (half_of m);
     five = omega arith;
-    target-long = ready.whole;
-    predictor-long = (baseline-block g bare fine k m).size;
-    target-bytes = bytes;
-    predictor-bytes = (baseline-block g bare fine k m).bytes;
+    target_long = ready.whole;
+    predictor_long = (baseline_block g bare fine k m).size;
+    target_bytes = bytes;
+    predictor_bytes = (baseline_block g bare fine k m).bytes;
   }
 
   -- what planning asks
-  pub plan-ready : (terms : LeafTerms) (under : List ℕ) → terms ≡ planeTerms settings.margin (half_of m) → length under ≡ 256 → PlanReady terms g.book g.codebook raised 5 block under
-  plan-ready terms under et eu = rw et (record {
-    good = book-passes g raised ready.ok;
-    whole = (data-passes g.book g.codebook ready.ok.tables).0;
+  pub plan_ready : (terms : LeafTerms) (under : List ℕ) → terms ≡ plane_terms settings.margin (half_of m) → length under ≡ 256 → PlanReady terms g.book g.codebook raised 5 block under
+  plan_ready terms under et eu = rw et (record {
+    good = book_passes g raised ready.ok;
+    whole = (data_passes g.book g.codebook ready.ok.tables).0;
     copy = ready.ok.copy;
     few = omega arith;
-    inter = inter-skips (half_of m);
+    inter = inter_skips (half_of m);
     five = omega arith;
-    target-long = ready.whole;
-    predictor-long = eu;
+    target_long = ready.whole;
+    predictor_long = eu;
   })
 
-  module _ (p : MbPlan) (found : PlanFound (planningBy g block settings k m) p) where
-    pub plan-few : p.bits ≤ 65536
-    plan-few =
-        let e : p.bits ≡ length (treeBits (tables_of g.book (half_of m)) (planTree (planningBy g block settings k m))) =
-        ap (λ (w : Weight). w.bits) found.weighs ∙ plan-bits (planningBy g block settings k m) planned-by in
-        omega (arith, plan-short (planningBy g block settings k m) planned-by)
+  module _ (p : MbPlan) (found : PlanFound (planning_by g block settings k m) p) where
+    pub plan_few : p.bits ≤ 65536
+    plan_few =
+        let e : p.bits ≡ length (tree_bits (tables_of g.book (half_of m)) (plan_tree (planning_by g block settings k m))) =
+        ap (λ (w : Weight). w.bits) found.weighs ∙ plan_bits (planning_by g block settings k m) planned_by in
+        omega (arith, plan_short (planning_by g block settings k m) planned_by)
 
-    pub made_by : (n : Near) (motion : MbMotion) (vectors : List Svq1Mv) (r : MbCandidate) → m ≡ motionOf motion vectors → Carries n motion vectors
+    pub made_by : (n : Near) (motion : MbMotion) (vectors : List Svq1Mv) (r : MbCandidate) → m ≡ motion_of motion vectors → Carries n motion vectors
         → CandidateOf g.book n motion vectors p.blocks p.bits p.error r → Made g block settings k n m r
     unfolding shown
     made_by n motion vectors r em ev c =
-        let is : choice_of r ≡ coded m (tree_of p.blocks) = rw em (coded-is g block k n motion vectors p.blocks p.bits p.error r c) in
+        let is : choice_of r ≡ coded m (tree_of p.blocks) = rw em (coded_is g block k n motion vectors p.blocks p.bits p.error r c) in
         record {
           is = rw found.tree at is;
-          stated = coded-stated g block k n motion vectors p.blocks p.bits p.error r c ev.stored ev.differs
-              (rw (← em, found.tree) (ap (λ (w : Weight). w.bits) found.weighs ∙ plan-bits (planningBy g block settings k m) planned-by))
-              (rw (← em, found.tree) (ap (λ (w : Weight). w.err) found.weighs ∙ plan-error (planningBy g block settings k m) planned-by));
+          stated = coded_stated g block k n motion vectors p.blocks p.bits p.error r c ev.stored ev.differs
+              (rw (← em, found.tree) (ap (λ (w : Weight). w.bits) found.weighs ∙ plan_bits (planning_by g block settings k m) planned_by))
+              (rw (← em, found.tree) (ap (λ (w : Weight). w.err) found.weighs ∙ plan_error (planning_by g block settings k m) planned_by));
         }
 
   -- by the block and by the source it is the same
-  pub planned-same : (t : Task) → block ≡ target g t k → settings ≡ t.settings → planningBy g block settings k m ≡ planningFor g t k m
-  unfolding planningFor
+  pub planned-same : (t : Task) → block ≡ target g t k → settings ≡ t.settings → planning_by g block settings k m ≡ planning_for g t k m
+  unfolding planning_for
   planned-same t eb el = rw (eb, el)
 
   -- a plan by the terms and the baseline as they were computed
-  pub found-by : (p : MbPlan) (terms : LeafTerms) (under : List ℕ) → terms ≡ planeTerms settings.margin (half_of m) → under ≡ baseline g k m
-      → PlanFound (planningIn terms g.book g.codebook settings.lambda 5 block under) p → PlanFound (planningBy g block settings k m) p
-  found-by p terms under et eu f = rw (et, eu) at f
+  pub found_by : (p : MbPlan) (terms : LeafTerms) (under : List ℕ) → terms ≡ plane_terms settings.margin (half_of m) → under ≡ baseline g k m
+      → PlanFound (planning_in terms g.book g.codebook settings.lambda 5 block under) p → PlanFound (planning_by g block settings k m) p
+  found_by p terms under et eu f = rw (et, eu) at f
 
   -- a motion that was found, if it is better
   pub try_one : (room : ℕ) (n : Near) (ms : List Motion) (c d r : MbCandidate) → ms ≡ m ∷ [] → Stated g block k n c → Made g block settings k n m d
       → r ≡ pick (keeps settings.lambda room c d) d c → Tried g block settings room k n ms c r
   try_one room n ms c d r e hc hd er =
-      tried-one g block settings room k n m ms c d r e hc hd.stated
-      (λ t eb el. hd.is ∙ ap (λ (x : Planning). coded m (planTree x)) (planned-same t eb el)) er
+      tried_one g block settings room k n m ms c d r e hc hd.stated
+      (λ t eb el. hd.is ∙ ap (λ (x : Planning). coded m (plan_tree x)) (planned-same t eb el)) er
 
 -- ---- all motions
-pub searching : (v : Svq1PlaneCanvas) (reference book codebook raised : List ℕ) (k : ℕ) (block : List ℕ) → Placing (givenBy v reference book codebook) raised k block
+pub searching : (v : Svq1PlaneCanvas) (reference book codebook raised : List ℕ) (k : ℕ) (block : List ℕ) → Placing (given_by v reference book codebook) raised k block
     → Searching v reference block k
 searching v reference book codebook raised k block p =
-    record { fits = fits (givenBy v reference book codebook) raised p.ok; number = p.number; whole = p.whole }
+    record { fits = fits (given_by v reference book codebook) raised p.ok; number = p.number; whole = p.whole }
 
 module _ (v : Svq1PlaneCanvas) (reference book codebook block : List ℕ) (settings : Settings) (room k : ℕ) (n : Near) where
   abbrev plane : Given
-  plane = givenBy v reference book codebook
+  plane = given_by v reference book codebook
 
-  pub chosen-for : (s a b r : MbCandidate) (one none more : FoundMotion) → choice_of s ≡ skipped
-      → MotionsFound v reference block settings.radius k n (λ g t. singleTried g t k n) one
-      → none ≡ stillFound
-      → MotionsFound v reference block settings.radius k n (λ g t. pick settings.four (fourTried g t k n) []) more
-      → Tried plane block settings room k n (motionsOf one) s a → Tried plane block settings room k n (motionsOf none) a b → Tried plane block settings room k n (motionsOf more) b r
+  pub chosen_for : (s a b r : MbCandidate) (one none more : FoundMotion) → choice_of s ≡ skipped
+      → MotionsFound v reference block settings.radius k n (λ g t. single_tried g t k n) one
+      → none ≡ still_found
+      → MotionsFound v reference block settings.radius k n (λ g t. pick settings.four (four_tried g t k n) []) more
+      → Tried plane block settings room k n (motions_of one) s a → Tried plane block settings room k n (motions_of none) a b → Tried plane block settings room k n (motions_of more) b r
       → ChosenFor plane block settings room k n r
-  chosen-for s a b r one none more es0 f1 f2 f3 ha hb hr = record {
+  chosen_for s a b r one none more es0 f1 f2 f3 ha hb hr = record {
     stated = hr.stated;
     is = λ t eb es.
-        chosen_is plane block settings room k n t s a b r (motionsOf one) (motionsOf none) (motionsOf more) eb es es0 ha hb hr
-        (f1.are book codebook t eb (ap (λ (x : Settings). x.radius) es)) (ap motionsOf f2)
+        chosen_is plane block settings room k n t s a b r (motions_of one) (motions_of none) (motions_of more) eb es es0 ha hb hr
+        (f1.are book codebook t eb (ap (λ (x : Settings). x.radius) es)) (ap motions_of f2)
         (rw (ap (λ (x : Settings). x.four) es) at (f3.are book codebook t eb (ap (λ (x : Settings). x.radius) es)));
   }
 
@@ -143,16 +143,16 @@ module _ (g : Given) (raised source : List ℕ) (k : ℕ) (p : Sourced g raised 
       let f = fits g raised p.ok in
       record {
         width_some = f.width.some;
-        width-most = f.width.most;
-        height-some = f.height.some;
-        height-most = f.height.most;
+        width_most = f.width.most;
+        height_some = f.height.some;
+        height_most = f.height.most;
         samples = p.samples;
         number = p.number;
       }
 
-  pub block-placed : (block : List ℕ) → block ≡ target_of g.width g.height source k → Placing g raised k block
-  block-placed block e = record { ok = p.ok; number = p.number; whole = ap length e ∙ target-long g.width g.height source k }
+  pub block_placed : (block : List ℕ) → block ≡ target_of g.width g.height source k → Placing g raised k block
+  block_placed block e = record { ok = p.ok; number = p.number; whole = ap length e ∙ target_long g.width g.height source k }
 
   pub chosen_by : (settings : Settings) (room : ℕ) (block : List ℕ) (n : Near) (r : MbCandidate) → block ≡ target_of g.width g.height source k
-      → ChosenFor g block settings room k n r → (limit : Limit) → ChosenBy g (taskIn source settings limit) room k n r
-  chosen_by settings room block n r e h limit = record { stated = rw e at h.stated; is = h.is (taskIn source settings limit) e refl }
+      → ChosenFor g block settings room k n r → (limit : Limit) → ChosenBy g (task_in source settings limit) room k n r
+  chosen_by settings room block n r e h limit = record { stated = rw e at h.stated; is = h.is (task_in source settings limit) e refl }

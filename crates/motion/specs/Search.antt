@@ -4,11 +4,11 @@ use Rattle.std.proofs.Math.Option.{Option, none, some}
 use Rattle.std.proofs.Math.IntN.{sub_ℕ}
 use Rattle.std.specs.Int.Signed.{lt_z, le_z, shr_z}
 use Rattle.bits.specs.Basics.{pick, or_else, unless}
-use Rattle.bits.specs.Calls.{Answer, done, refused, unlessRefused}
+use Rattle.bits.specs.Calls.{Answer, done, refused, unless_refused}
 use Rattle.vectors.specs.declared.svq1_motion_predictor.Svq1Mv.{Svq1Mv}
-use Rattle.vectors.specs.Vectors.{zeroMv, in_range, codable}
-use Rattle.canvas.specs.Canvas.{Canvas, sizeRefusal, canvasRefusal}
-use Rattle.compensation.specs.Compensation.{movedBlock}
+use Rattle.vectors.specs.Vectors.{zero_mv, in_range, codable}
+use Rattle.canvas.specs.Canvas.{Canvas, size_refusal, canvas_refusal}
+use Rattle.compensation.specs.Compensation.{moved_block}
 use Rattle.compensation.specs.Error.{sad}
 
 -- what a search is asked with: a block of side × side samples at (x, y) of a plane whose visible size is width × height
@@ -24,18 +24,18 @@ pub record Search : Type 0 where
   pub radius : ℕ
 
 -- on one axis, in the window: place + floor(v/2) is at least 0, and the lesser of the block's last place and the visible size - 1, plus floor((v+1)/2), is below the visible size
-unfoldable pub inWindow : ℕ → ℕ → ℕ → ℤ → Bool
-inWindow side place size v =
+unfoldable pub in_window : ℕ → ℕ → ℕ → ℤ → Bool
+in_window side place size v =
     le_z (pos 0) (pos place +ℤ shr_z v 2) && lt_z (pos (min (place + side - 1) (size - 1)) +ℤ shr_z (v +ℤ pos 1) 2) (pos size)
 
 -- a vector may be tried: codable and in the window on each axis
 unfoldable pub allowed : Search → Svq1Mv → Bool
 allowed g v =
-    (codable g.predictor.x v.x && inWindow g.side g.x g.width v.x)
-    && (codable g.predictor.y v.y && inWindow g.side g.y g.height v.y)
+    (codable g.predictor.x v.x && in_window g.side g.x g.width v.x)
+    && (codable g.predictor.y v.y && in_window g.side g.y g.height v.y)
 
-unfoldable pub errorOf : Search → Svq1Mv → ℕ
-errorOf g v = sad g.target (movedBlock g.reference g.side g.x g.y v)
+unfoldable pub error_of : Search → Svq1Mv → ℕ
+error_of g v = sad g.target (moved_block g.reference g.side g.x g.y v)
 
 -- the best so far: nothing yet, or a vector with its absolute error
 pub data Best : Type 0 where
@@ -48,67 +48,67 @@ lowers e nothing = true
 lowers e (best v b) = ltb e b
 
 unfoldable pub consider : Search → Svq1Mv → Best → Best
-consider g v f = pick (allowed g v && lowers (errorOf g v) f) (best v (errorOf g v)) f
+consider g v f = pick (allowed g v && lowers (error_of g v) f) (best v (error_of g v)) f
 
 -- ---- full-sample vectors: 2 (floor(p/2) + f) on each axis, f from -radius to radius
-unfoldable pub fullAt : ℤ → ℕ → ℕ → ℤ
-fullAt p radius k = let z = shr_z p 2 +ℤ sub_ℕ k radius in z +ℤ z
+unfoldable pub full_at : ℤ → ℕ → ℕ → ℤ
+full_at p radius k = let z = shr_z p 2 +ℤ sub_ℕ k radius in z +ℤ z
 
 -- the first n of the row with vertical component y
-unfoldable pub rowTo : Search → ℤ → Best → ℕ → Best
-rowTo g y f zero = f
-rowTo g y f (suc n) = consider g (record { x = fullAt g.predictor.x g.radius n; y = y }) (rowTo g y f n)
+unfoldable pub row_to : Search → ℤ → Best → ℕ → Best
+row_to g y f zero = f
+row_to g y f (suc n) = consider g (record { x = full_at g.predictor.x g.radius n; y = y }) (row_to g y f n)
 
 -- the first n rows
 unfoldable pub rows_to : Search → Best → ℕ → Best
 rows_to g f zero = f
-rows_to g f (suc n) = rowTo g (fullAt g.predictor.y g.radius n) (rows_to g f n) (2 * g.radius + 1)
+rows_to g f (suc n) = row_to g (full_at g.predictor.y g.radius n) (rows_to g f n) (2 * g.radius + 1)
 
 -- zero first, then row by row
-unfoldable pub fullSearch : Search → Best
-fullSearch g = rows_to g (consider g zeroMv nothing) (2 * g.radius + 1)
+unfoldable pub full_search : Search → Best
+full_search g = rows_to g (consider g zero_mv nothing) (2 * g.radius + 1)
 
 -- ---- half-sample neighbours, row by row, of the best of these, of zero if there is none
 abbrev pub centre : Best → Svq1Mv
-centre nothing = zeroMv
+centre nothing = zero_mv
 centre (best v e) = v
 
 -- the first n of the nine places around v, its own left out
-unfoldable pub aroundTo : Search → Svq1Mv → Best → ℕ → Best
-aroundTo g v f zero = f
-aroundTo g v f (suc n) =
-    pick (eqb n 4) (aroundTo g v f n) (consider g (record { x = v.x +ℤ sub_ℕ (n % 3) 1; y = v.y +ℤ sub_ℕ (n / 3) 1 }) (aroundTo g v f n))
+unfoldable pub around_to : Search → Svq1Mv → Best → ℕ → Best
+around_to g v f zero = f
+around_to g v f (suc n) =
+    pick (eqb n 4) (around_to g v f n) (consider g (record { x = v.x +ℤ sub_ℕ (n % 3) 1; y = v.y +ℤ sub_ℕ (n / 3) 1 }) (around_to g v f n))
 
-unfoldable pub searchBest : Search → Best
-searchBest g = let f = fullSearch g in aroundTo g (centre f) f 9
+unfoldable pub search_best : Search → Best
+search_best g = let f = full_search g in around_to g (centre f) f 9
 
 -- the vector found; none is 23
-abbrev pub vectorOf : Best → Option Svq1Mv
-vectorOf nothing = none
-vectorOf (best v e) = some v
+abbrev pub vector_of : Best → Option Svq1Mv
+vector_of nothing = none
+vector_of (best v e) = some v
 
 unfoldable pub searched : Search → Option Svq1Mv
-searched g = vectorOf (searchBest g)
+searched g = vector_of (search_best g)
 
 -- ---- refusals
 -- 9: side not 8 or 16, place off that grid or canvas, target length not side squared, predictor outside -32..31
-unfoldable pub searchOk : Search → Bool
-searchOk g =
+unfoldable pub search_ok : Search → Bool
+search_ok g =
     ((eqb g.side 8 || eqb g.side 16) && (eqb (g.x % g.side) 0 && eqb (g.y % g.side) 0))
     && ((ltb g.x g.reference.stride && ltb g.y g.reference.rows)
     && (eqb (length g.target) (g.side * g.side) && (in_range g.predictor.x && in_range g.predictor.y)))
 
 -- for what came in; 0 for none
-unfoldable pub searchRefusal : Search → ℕ
-searchRefusal g =
-    or_else (sizeRefusal g.width g.height)
-    (or_else (canvasRefusal g.width g.height g.reference) (unless (searchOk g) 9))
+unfoldable pub search_refusal : Search → ℕ
+search_refusal g =
+    or_else (size_refusal g.width g.height)
+    (or_else (canvas_refusal g.width g.height g.reference) (unless (search_ok g) 9))
 
 -- 23: no vector tried is codable and in the window
-abbrev pub vectorAnswer : Option Svq1Mv → Answer Svq1Mv
-vectorAnswer none = refused 23
-vectorAnswer (some v) = done v
+abbrev pub vector_answer : Option Svq1Mv → Answer Svq1Mv
+vector_answer none = refused 23
+vector_answer (some v) = done v
 
 -- the search as a call
-unfoldable pub searchAnswer : Search → Answer Svq1Mv
-searchAnswer g = unlessRefused (searchRefusal g) (vectorAnswer (searched g))
+unfoldable pub search_answer : Search → Answer Svq1Mv
+search_answer g = unless_refused (search_refusal g) (vector_answer (searched g))

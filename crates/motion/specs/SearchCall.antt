@@ -10,22 +10,22 @@ use Rattle.motion.specs.declared.svq1_enc_inter.SummedVector.TheVariants as summ
 use Rattle.motion.specs.CandidateForms.{lowered}
 
 -- the vector, or the number of the refusal
-abbrev pub searchedAnswer : Searched → Answer Svq1Mv
-searchedAnswer (Vector v) = done v
-searchedAnswer (Refused n) = refused n
+abbrev pub searched_answer : Searched → Answer Svq1Mv
+searched_answer (Vector v) = done v
+searched_answer (Refused n) = refused n
 
 -- the sum and the rows taken, or the number of the refusal
-abbrev pub summedAnswer : SummedVector → Answer VectorSum
-summedAnswer (summed.Sum s) = done s
-summedAnswer (summed.Refused n) = refused n
+abbrev pub summed_answer : SummedVector → Answer VectorSum
+summed_answer (summed.Sum s) = done s
+summed_answer (summed.Refused n) = refused n
 
 -- side 8 or 16
-abbrev pub eitherSide : ℕ → Bool
-eitherSide side = eqb side 8 || eqb side 16
+abbrev pub either_side : ℕ → Bool
+either_side side = eqb side 8 || eqb side 16
 
 -- not refused by 9 for its side, its place or the length of its target
-abbrev pub searchBlockOk : ℕ → ℕ → ℕ → ℕ → ℕ → ℕ → Bool
-searchBlockOk len side x y stride rows = (eitherSide side && (eqb (x % side) 0 && eqb (y % side) 0)) && ((ltb x stride && ltb y rows) && eqb len (side * side))
+abbrev pub search_block_ok : ℕ → ℕ → ℕ → ℕ → ℕ → ℕ → Bool
+search_block_ok len side x y stride rows = (either_side side && (eqb (x % side) 0 && eqb (y % side) 0)) && ((ltb x stride && ltb y rows) && eqb len (side * side))
 
 -- a component in -32..31, raised by 1024
 pub record Raised (z : ℤ) (u : ℕ) : Type 0 where

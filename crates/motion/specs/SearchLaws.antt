@@ -9,9 +9,9 @@ use Rattle.std.proofs.Math.Option.{some}
 use Rattle.bits.specs.Basics.{pick}
 use Rattle.bits.specs.BasicsLaws.{both_true}
 use Rattle.vectors.specs.declared.svq1_motion_predictor.Svq1Mv.{Svq1Mv}
-use Rattle.vectors.specs.Vectors.{zeroMv, codable}
-use Rattle.vectors.specs.VectorsLaws.{Codable, is-codable}
-use Rattle.motion.specs.Search.{Search, inWindow, allowed, errorOf, Best, nothing, best, lowers, consider, rowTo, rows_to, fullSearch, centre, aroundTo, searchBest, vectorOf, searched}
+use Rattle.vectors.specs.Vectors.{zero_mv, codable}
+use Rattle.vectors.specs.VectorsLaws.{Codable, is_codable}
+use Rattle.motion.specs.Search.{Search, in_window, allowed, error_of, Best, nothing, best, lowers, consider, row_to, rows_to, full_search, centre, around_to, search_best, vector_of, searched}
 
 -- what has been found so far was allowed
 abbrev Kept : Search → Best → Type 0
@@ -24,55 +24,55 @@ module _ (g : Search) where
   kept-pick true false v e f h k = k
   kept-pick false l v e f h k = k
 
-  kept-one : (v : Svq1Mv) (f : Best) → Kept g f → Kept g (consider g v f)
+  kept_one : (v : Svq1Mv) (f : Best) → Kept g f → Kept g (consider g v f)
   unfolding consider
-  kept-one v f k = kept-pick (allowed g v) (lowers (errorOf g v) f) v (errorOf g v) f refl k
+  kept_one v f k = kept-pick (allowed g v) (lowers (error_of g v) f) v (error_of g v) f refl k
 
-  kept_row : (n : ℕ) (y : ℤ) (f : Best) → Kept g f → Kept g (rowTo g y f n)
-  unfolding rowTo
+  kept_row : (n : ℕ) (y : ℤ) (f : Best) → Kept g f → Kept g (row_to g y f n)
+  unfolding row_to
   kept_row zero y f k = k
-  kept_row (suc n) y f k = kept-one _ (rowTo g y f n) (kept_row n y f k)
+  kept_row (suc n) y f k = kept_one _ (row_to g y f n) (kept_row n y f k)
 
   kept-rows : (n : ℕ) (f : Best) → Kept g f → Kept g (rows_to g f n)
   unfolding rows_to
   kept-rows zero f k = k
   kept-rows (suc n) f k = kept_row (2 * g.radius + 1) _ (rows_to g f n) (kept-rows n f k)
 
-  kept-around : (n : ℕ) (v : Svq1Mv) (f : Best) → Kept g f → Kept g (aroundTo g v f n)
-  unfolding aroundTo
+  kept-around : (n : ℕ) (v : Svq1Mv) (f : Best) → Kept g f → Kept g (around_to g v f n)
+  unfolding around_to
   kept-around zero v f k = k
-  kept-around (suc n) v f k = by (eqb n 4) (aroundTo g v f n) _ (kept-around n v f k) (kept-one _ (aroundTo g v f n) (kept-around n v f k))
+  kept-around (suc n) v f k = by (eqb n 4) (around_to g v f n) _ (kept-around n v f k) (kept_one _ (around_to g v f n) (kept-around n v f k))
     where
       by : (t : Bool) (a b : Best) → Kept g a → Kept g b → Kept g (pick t a b)
       by true a b h k = h
       by false a b h k = k
 
-  kept-best : Kept g (searchBest g)
-  unfolding searchBest fullSearch
-  kept-best = kept-around 9 (centre (fullSearch g)) (fullSearch g) (kept-rows (2 * g.radius + 1) (consider g zeroMv nothing) (kept-one zeroMv nothing tt))
+  kept_best : Kept g (search_best g)
+  unfolding search_best full_search
+  kept_best = kept-around 9 (centre (full_search g)) (full_search g) (kept-rows (2 * g.radius + 1) (consider g zero_mv nothing) (kept_one zero_mv nothing tt))
 
-  kept-vector : (f : Best) (v : Svq1Mv) → Kept g f → vectorOf f ≡ some v → allowed g v ≡ true
+  kept-vector : (f : Best) (v : Svq1Mv) → Kept g f → vector_of f ≡ some v → allowed g v ≡ true
   kept-vector nothing v k e = let z : ◌≡◌ {A = ℕ} 0 1 = cc in absurd (omega arith)
   kept-vector (best u n) v k e = let q : u ≡ v = cc in rw q at k
 
-  pub found-allowed : (v : Svq1Mv) → searched g ≡ some v → allowed g v ≡ true
+  pub found_allowed : (v : Svq1Mv) → searched g ≡ some v → allowed g v ≡ true
   unfolding searched
-  found-allowed v e = kept-vector (searchBest g) v kept-best e
+  found_allowed v e = kept-vector (search_best g) v kept_best e
 
 -- codable, and in the window on each axis
 pub record Allowed (g : Search) (v : Svq1Mv) : Type 0 where
   pub codes : Codable g.predictor v
-  pub across : inWindow g.side g.x g.width v.x ≡ true
-  pub down : inWindow g.side g.y g.height v.y ≡ true
+  pub across : in_window g.side g.x g.width v.x ≡ true
+  pub down : in_window g.side g.y g.height v.y ≡ true
 
-pub is-allowed : (g : Search) (v : Svq1Mv) → allowed g v ≡ true → Allowed g v
+pub is_allowed : (g : Search) (v : Svq1Mv) → allowed g v ≡ true → Allowed g v
 unfolding allowed
-is-allowed g v e =
-    let b = both_true (codable g.predictor.x v.x && inWindow g.side g.x g.width v.x) _ e in
+is_allowed g v e =
+    let b = both_true (codable g.predictor.x v.x && in_window g.side g.x g.width v.x) _ e in
     let x = both_true (codable g.predictor.x v.x) _ b.0 in
     let y = both_true (codable g.predictor.y v.y) _ b.1 in
-    record { codes = is-codable g.predictor v x.0 y.0; across = x.1; down = y.1 }
+    record { codes = is_codable g.predictor v x.0 y.0; across = x.1; down = y.1 }
 
 -- a found vector is both
 pub found : (g : Search) (v : Svq1Mv) → searched g ≡ some v → Allowed g v
-found g v e = is-allowed g v (found-allowed g v e)
+found g v e = is_allowed g v (found_allowed g v e)

@@ -2,13 +2,13 @@
 pub mod inner;
 
 ghost use Rattle.std.specs.Prelude.{◌≡◌, ◌&&◌, ◌≤◌, ◌<◌};
-ghost use Rattle.compensation.specs.RowForms.{bestOrNone};
+ghost use Rattle.compensation.specs.RowForms.{best_or_none};
 ghost use Rattle.vectors.specs.Vectors.{in_range};
 ghost use Rattle.vectors.specs.VectorsLaws.{InRange};
-ghost use Rattle.motion.specs.Search.{vectorOf, vectorAnswer, searchRefusal, searchAnswer};
-ghost use Rattle.motion.specs.Sum.{sumOr23, sumAnswer};
-ghost use Rattle.motion.specs.CandidateForms.{raisedEnd, spotSearch, MotionReady, lowered, loweredMv, bestSoFar, BestHeld};
-ghost use Rattle.motion.specs.SearchCall.{searchedAnswer, summedAnswer, eitherSide, searchBlockOk, Raised};
+ghost use Rattle.motion.specs.Search.{vector_of, vector_answer, search_refusal, search_answer};
+ghost use Rattle.motion.specs.Sum.{sum_or23, sum_answer};
+ghost use Rattle.motion.specs.CandidateForms.{raised_end, spot_search, MotionReady, lowered, lowered_mv, best_so_far, BestHeld};
+ghost use Rattle.motion.specs.SearchCall.{searched_answer, summed_answer, either_side, search_block_ok, Raised};
 
 use super::svq1_enc_inter::inner::{Candidate, Spot, axis_ok, search_best, vector_sum};
 use canvas::svq1_plane::plane_refusal;
@@ -30,13 +30,13 @@ pub enum SummedVector {
 }
 
 fn either_side(side: usize) -> bool
-    ensures { result ≡ eitherSide side }
+    ensures { result ≡ either_side side }
 {
     side == 8 || side == 16
 }
 
 fn block_ok(len: usize, side: usize, x: usize, y: usize, stride: usize, rows: usize) -> bool
-    ensures { result ≡ searchBlockOk len side x y stride rows }
+    ensures { result ≡ search_block_ok len side x y stride rows }
 {
     if !either_side(side) {
         return false;
@@ -84,7 +84,7 @@ fn search_refusal(
     predictor: Svq1Mv,
     radius: u8,
 ) -> u8
-    ensures { result ≡ searchRefusal (record { reference = record { samples = reference.entry.now; stride = stride; rows = rows }; width = width; height = height; target = target.now; side = side; x = x; y = y; predictor = predictor; radius = radius }) }
+    ensures { result ≡ search_refusal (record { reference = record { samples = reference.entry.now; stride = stride; rows = rows }; width = width; height = height; target = target.now; side = side; x = x; y = y; predictor = predictor; radius = radius }) }
 {
     let n = plane_refusal(reference, width, height, stride, rows);
     if n != 0 {
@@ -116,7 +116,7 @@ fn lower(u: usize) -> i32
 
 fn answered(b: Candidate) -> Searched
     requires { BestHeld b }
-    ensures { searchedAnswer result ≡ vectorAnswer (vectorOf (bestSoFar b)) }
+    ensures { searched_answer result ≡ vector_answer (vector_of (best_so_far b)) }
 {
     if b.error < 65536 {
         let x = lower(b.ux);
@@ -140,7 +140,7 @@ pub fn search_motion_vector(
     predictor: Svq1Mv,
     radius: u8,
 ) -> Searched
-    ensures { searchedAnswer result ≡ searchAnswer (record { reference = record { samples = reference.entry.now; stride = stride; rows = rows }; width = width; height = height; target = target.now; side = side; x = x; y = y; predictor = predictor; radius = radius }) }
+    ensures { searched_answer result ≡ search_answer (record { reference = record { samples = reference.entry.now; stride = stride; rows = rows }; width = width; height = height; target = target.now; side = side; x = x; y = y; predictor = predictor; radius = radius }) }
 {
     let n = search_refusal(
         reference, width, height, stride, rows, target, side, x, y, predictor, radius,
@@ -168,8 +168,8 @@ pub fn search_motion_vector(
 
 // The sum of a vector that may be tried, its components raised by 1024; 23 for any other.
 fn summed(target: &[u8], reference: &[u8], p: Spot, ux: usize, uy: usize, best: u64) -> SummedVector
-    requires { MotionReady target.now reference.now p × (ux < raisedEnd) × (uy < raisedEnd) }
-    ensures { summedAnswer result ≡ sumOr23 (spotSearch target.now reference.now p) (loweredMv ux uy) (bestOrNone best) }
+    requires { MotionReady target.now reference.now p × (ux < raised_end) × (uy < raised_end) }
+    ensures { summed_answer result ≡ sum_or23 (spot_search target.now reference.now p) (lowered_mv ux uy) (best_or_none best) }
 {
     if !axis_ok(p.side, p.x, p.width, p.px, ux) {
         return SummedVector::Refused(23);
@@ -201,7 +201,7 @@ pub fn sum_motion_vector(
     v: Svq1Mv,
     best: u64,
 ) -> SummedVector
-    ensures { summedAnswer result ≡ sumAnswer (record { reference = record { samples = reference.entry.now; stride = stride; rows = rows }; width = width; height = height; target = target.now; side = side; x = x; y = y; predictor = predictor; radius = 0 }) v (bestOrNone best) }
+    ensures { summed_answer result ≡ sum_answer (record { reference = record { samples = reference.entry.now; stride = stride; rows = rows }; width = width; height = height; target = target.now; side = side; x = x; y = y; predictor = predictor; radius = 0 }) v (best_or_none best) }
 {
     let n = search_refusal(
         reference, width, height, stride, rows, target, side, x, y, predictor, 0,

@@ -1,7 +1,7 @@
 -- A plane as a grid of macroblocks: which macroblock an entry of a slice belongs to, a macroblock's entries, and writing them (document 01, the last sentence of `svq1_mv_cache.rs`, and "gathering it by plane").
 -- One form serves samples (16 a side) and block vectors (2 a side).
 use Rattle.std.specs.Prelude.{ℕ, zero, suc, ◌+◌, ◌*◌, ◌/◌, ◌%◌, List, [], ◌∷◌, eqb, get_or, set}
-use Rattle.bits.specs.Basics.{pick, valuesFrom}
+use Rattle.bits.specs.Basics.{pick, values_from}
 
 -- n entries from place o on, by a function
 unfoldable pub row_set : ℕ → (ℕ → ℕ) → ℕ → List ℕ → List ℕ
@@ -21,13 +21,13 @@ entry_of s cols k j = (k / cols * s + j / s) * (s * cols) + (k % cols * s + j % 
 
 -- macroblock k's entries
 unfoldable pub part : ℕ → ℕ → ℕ → List ℕ → List ℕ
-part s cols k xs = valuesFrom (λ j. get_or xs (entry_of s cols k j) 0) (s * s) 0
+part s cols k xs = values_from (λ j. get_or xs (entry_of s cols k j) 0) (s * s) 0
 
 -- the list from its entry p on, with macroblock k's entries taken from v
-unfoldable pub putFrom : ℕ → ℕ → ℕ → List ℕ → ℕ → List ℕ → List ℕ
-putFrom s cols k v p [] = []
-putFrom s cols k v p (x ∷ xs) = pick (eqb (owner s cols p) k) (get_or v (place_in s cols p) 0) x ∷ putFrom s cols k v (suc p) xs
+unfoldable pub put_from : ℕ → ℕ → ℕ → List ℕ → ℕ → List ℕ → List ℕ
+put_from s cols k v p [] = []
+put_from s cols k v p (x ∷ xs) = pick (eqb (owner s cols p) k) (get_or v (place_in s cols p) 0) x ∷ put_from s cols k v (suc p) xs
 
 -- the slice xs with macroblock k's entries v; every other entry stays
-unfoldable pub putPart : ℕ → ℕ → ℕ → List ℕ → List ℕ → List ℕ
-putPart s cols k v xs = putFrom s cols k v 0 xs
+unfoldable pub put_part : ℕ → ℕ → ℕ → List ℕ → List ℕ → List ℕ
+put_part s cols k v xs = put_from s cols k v 0 xs

@@ -16,51 +16,51 @@ abbrev pub stored_at : ℕ → List ℕ → List ℕ → ℕ → ℕ → Svq1Mv
 stored_at cols vx vy row col = record { x = signed_of (get_or vx (row * (2 * cols) + col) 0); y = signed_of (get_or vy (row * (2 * cols) + col) 0) }
 
 -- the neighbour there; off the plane it is absent
-unfoldable pub neighbourAt : ℕ → ℕ → List ℕ → List ℕ → ℤ → ℤ → Neighbour
-neighbourAt cols rows vx vy row col =
+unfoldable pub neighbour_at : ℕ → ℕ → List ℕ → List ℕ → ℤ → ℤ → Neighbour
+neighbour_at cols rows vx vy row col =
     pick (within row (2 * rows) && within col (2 * cols)) (Present (stored_at cols vx vy (natural row) (natural col))) Absent
 
 -- the seven neighbours outside a macroblock that predictions use; its first 8×8 row and column are r and c
 pub record Near : Type 0 where
   pub left : Neighbour
-  pub lowLeft : Neighbour
+  pub low_left : Neighbour
   pub above : Neighbour
-  pub aboveRight : Neighbour
+  pub above_right : Neighbour
   pub top : Neighbour
-  pub topNext : Neighbour
-  pub topRight : Neighbour
+  pub top_next : Neighbour
+  pub top_right : Neighbour
 
-abbrev pub nearAt : (ℤ → ℤ → Neighbour) → ℤ → ℤ → Near
-nearAt at r c = record {
+abbrev pub near_at : (ℤ → ℤ → Neighbour) → ℤ → ℤ → Near
+near_at at r c = record {
   left = at r (c +ℤ negsuc 0);
-  lowLeft = at (r +ℤ pos 1) (c +ℤ negsuc 0);
+  low_left = at (r +ℤ pos 1) (c +ℤ negsuc 0);
   above = at (r +ℤ negsuc 1) c;
-  aboveRight = at (r +ℤ negsuc 1) (c +ℤ pos 2);
+  above_right = at (r +ℤ negsuc 1) (c +ℤ pos 2);
   top = at (r +ℤ negsuc 0) c;
-  topNext = at (r +ℤ negsuc 0) (c +ℤ pos 1);
-  topRight = at (r +ℤ negsuc 0) (c +ℤ pos 2);
+  top_next = at (r +ℤ negsuc 0) (c +ℤ pos 1);
+  top_right = at (r +ℤ negsuc 0) (c +ℤ pos 2);
 }
 
 -- of macroblock k, in raster order
-unfoldable pub nearOf : ℕ → ℕ → List ℕ → List ℕ → ℕ → Near
-nearOf cols rows vx vy k = nearAt (neighbourAt cols rows vx vy) (pos (k / cols * 2)) (pos (k % cols * 2))
+unfoldable pub near_of : ℕ → ℕ → List ℕ → List ℕ → ℕ → Near
+near_of cols rows vx vy k = near_at (neighbour_at cols rows vx vy) (pos (k / cols * 2)) (pos (k % cols * 2))
 
 -- the predictor of one vector: (r, c-1), (r-2, c), (r-2, c+2)
-abbrev pub forOne : Near → Svq1Mv
-forOne n = predicted n.left n.above n.aboveRight
+abbrev pub for_one : Near → Svq1Mv
+for_one n = predicted n.left n.above n.above_right
 
 -- of the first of four: (r, c-1), (r-1, c), (r-1, c+2)
-abbrev pub forFirst : Near → Svq1Mv
-forFirst n = predicted n.left n.top n.topRight
+abbrev pub for_first : Near → Svq1Mv
+for_first n = predicted n.left n.top n.top_right
 
 -- of the second: (r, c), (r-1, c+1), (r-1, c+2)
-abbrev pub forSecond : Near → Svq1Mv → Svq1Mv
-forSecond n a = predicted (Present a) n.topNext n.topRight
+abbrev pub for_second : Near → Svq1Mv → Svq1Mv
+for_second n a = predicted (Present a) n.top_next n.top_right
 
 -- of the third: (r+1, c-1), (r, c), (r, c+1)
-abbrev pub forThird : Near → Svq1Mv → Svq1Mv → Svq1Mv
-forThird n a b = predicted n.lowLeft (Present a) (Present b)
+abbrev pub for_third : Near → Svq1Mv → Svq1Mv → Svq1Mv
+for_third n a b = predicted n.low_left (Present a) (Present b)
 
 -- of the fourth: (r+1, c), (r, c+1), (r, c)
-abbrev pub forFourth : Svq1Mv → Svq1Mv → Svq1Mv → Svq1Mv
-forFourth a b c = predicted (Present c) (Present b) (Present a)
+abbrev pub for_fourth : Svq1Mv → Svq1Mv → Svq1Mv → Svq1Mv
+for_fourth a b c = predicted (Present c) (Present b) (Present a)

@@ -2,8 +2,8 @@
 pub mod inner;
 
 ghost use Rattle.std.specs.Prelude.{◌≡◌};
-ghost use Rattle.mv_cache.specs.Neighbours.{forOne, forFirst, forSecond, forThird, forFourth};
-ghost use Rattle.mv_cache.specs.CacheNeeds.{nearFrom};
+ghost use Rattle.mv_cache.specs.Neighbours.{for_one, for_first, for_second, for_third, for_fourth};
+ghost use Rattle.mv_cache.specs.CacheNeeds.{near_from};
 
 use vectors::svq1_motion_predictor::{Neighbour, Svq1Mv, predict};
 
@@ -22,7 +22,7 @@ pub struct NearBlocks {
 
 // The predictor of the one vector of an INTER macroblock.
 pub fn predict_one(near: NearBlocks) -> Svq1Mv
-    ensures { result ≡ forOne (nearFrom near) }
+    ensures { result ≡ for_one (near_from near) }
 {
     let a = near.left;
     let b = near.above;
@@ -32,7 +32,7 @@ pub fn predict_one(near: NearBlocks) -> Svq1Mv
 
 // The predictors of the four vectors of an INTER_4MV macroblock, each from those before it.
 pub fn predict_first(near: NearBlocks) -> Svq1Mv
-    ensures { result ≡ forFirst (nearFrom near) }
+    ensures { result ≡ for_first (near_from near) }
 {
     let a = near.left;
     let b = near.top;
@@ -41,7 +41,7 @@ pub fn predict_first(near: NearBlocks) -> Svq1Mv
 }
 
 pub fn predict_second(near: NearBlocks, first: Svq1Mv) -> Svq1Mv
-    ensures { result ≡ forSecond (nearFrom near) first }
+    ensures { result ≡ for_second (near_from near) first }
 {
     let b = near.top_next;
     let c = near.top_right;
@@ -49,14 +49,14 @@ pub fn predict_second(near: NearBlocks, first: Svq1Mv) -> Svq1Mv
 }
 
 pub fn predict_third(near: NearBlocks, first: Svq1Mv, second: Svq1Mv) -> Svq1Mv
-    ensures { result ≡ forThird (nearFrom near) first second }
+    ensures { result ≡ for_third (near_from near) first second }
 {
     let a = near.low_left;
     predict(a, Neighbour::Present(first), Neighbour::Present(second))
 }
 
 pub fn predict_fourth(first: Svq1Mv, second: Svq1Mv, third: Svq1Mv) -> Svq1Mv
-    ensures { result ≡ forFourth first second third }
+    ensures { result ≡ for_fourth first second third }
 {
     predict(
         Neighbour::Present(third),

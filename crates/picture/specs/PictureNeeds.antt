@@ -2,8 +2,8 @@
 use Rattle.std.specs.Prelude.{ℕ, ◌*◌, ◌≤◌, List, [], ◌∷◌, ◌≡◌, eqb, length}
 use Rattle.bits.specs.Basics.{pick, or_else, first_of}
 use Rattle.bits.specs.Bits.{bits_of}
-use Rattle.book.specs.Book.{bookRefusal}
-use Rattle.canvas.specs.Canvas.{largestSide}
+use Rattle.book.specs.Book.{book_refusal}
+use Rattle.canvas.specs.Canvas.{largest_side}
 use Rattle.canvas.specs.declared.svq1_plane.Svq1PlaneCanvas.{Svq1PlaneCanvas}
 use Rattle.macroblock.specs.Slices.{Slices}
 use Rattle.macroblock_enc.specs.declared.svq1_enc_inter.inner.limit.BitLimit.TheVariants.{Within}
@@ -12,41 +12,41 @@ use Rattle.plane.specs.Run.{End}
 use Rattle.plane.specs.Plane.{Writing}
 use Rattle.plane.specs.PlaneNeeds.{PlaneAccepted}
 use Rattle.plane_enc.specs.declared.svq1_enc_inter.WriteEnd.{WriteEnd}
-use Rattle.plane_enc.specs.WriterNeeds.{writeEndOf}
+use Rattle.plane_enc.specs.WriterNeeds.{write_end_of}
 use Rattle.picture.specs.declared.PictureEnd.{PictureEnd}
 use Rattle.picture.specs.declared.inner.PictureRefusals.{PictureRefusals}
-use Rattle.picture.specs.Picture.{Shared, Results, PlaneIn, planeGiven, macroblocks, Handed, planeEnd, planeLeft, in_turn, behindLast}
-use Rattle.picture.specs.Refusals.{skipBits}
-use Rattle.picture.specs.Calls.{PictureAnswer, writtenPicture}
+use Rattle.picture.specs.Picture.{Shared, Results, PlaneIn, plane_given, macroblocks, Handed, plane_end, plane_left, in_turn, behind_last}
+use Rattle.picture.specs.Refusals.{skip_bits}
+use Rattle.picture.specs.Calls.{PictureAnswer, written_picture}
 
 -- the answer of the code
-abbrev pub pictureEndOf : PictureEnd → PictureAnswer
-pictureEndOf r = record { refusal = r.refused; done = r.done; planes = writeEndOf r.first ∷ writeEndOf r.second ∷ writeEndOf r.third ∷ [] }
+abbrev pub picture_end_of : PictureEnd → PictureAnswer
+picture_end_of r = record { refusal = r.refused; done = r.done; planes = write_end_of r.first ∷ write_end_of r.second ∷ write_end_of r.third ∷ [] }
 
 -- ---- refusals
 -- a check behind others is asked only where they pass
-abbrev pub behindOthers : ℕ → ℕ → ℕ
-behindOthers before n = pick (eqb before 0) n 0
+abbrev pub behind_others : ℕ → ℕ → ℕ
+behind_others before n = pick (eqb before 0) n 0
 
 -- the checks of three planes and of the allowance, in turn
 pub record RefusalsTold (a b c d : ℕ) (r : PictureRefusals) : Type 0 where
   pub first : r.first ≡ a
-  pub second : r.second ≡ behindOthers a b
-  pub third : r.third ≡ behindOthers (or_else a b) c
+  pub second : r.second ≡ behind_others a b
+  pub third : r.third ≡ behind_others (or_else a b) c
   pub picture : r.picture ≡ first_of (a ∷ b ∷ c ∷ d ∷ [])
 
 -- the answer for a plane of a refused picture: a number or 0, and nothing done
-abbrev pub nothingDone : ℕ → WriteEnd
-nothingDone n = record { refused = n; done = 0; next = 0; bits = 0; error = 0 }
+abbrev pub nothing_done : ℕ → WriteEnd
+nothing_done n = record { refused = n; done = 0; next = 0; bits = 0; error = 0 }
 
 -- a size that passes 1
 pub record SmallSides (c : Svq1PlaneCanvas) : Type 0 where
-  pub width : c.width ≤ largestSide
-  pub height : c.height ≤ largestSide
+  pub width : c.width ≤ largest_side
+  pub height : c.height ≤ largest_side
 
 -- what 31 is judged by: a book that passes, and three sizes that do
 pub record AllowanceReady (book : List ℕ) (a b c : Svq1PlaneCanvas) : Type 0 where
-  pub passes : bookRefusal book ≡ 0
+  pub passes : book_refusal book ≡ 0
   pub first : SmallSides a
   pub second : SmallSides b
   pub third : SmallSides c
@@ -57,25 +57,25 @@ pub record AllowanceReady (book : List ℕ) (a b c : Svq1PlaneCanvas) : Type 0 w
 pub record Intact (s : Shared) (ps : List PlaneIn) (bytes : ℕ) (h : Handed) : Type 0 where
   pub long : length h.out ≡ 8 * bytes
   pub inside : h.next ≤ 8 * bytes
-  pub enough : skipBits s.book * macroblocks ps ≤ h.remaining
+  pub enough : skip_bits s.book * macroblocks ps ≤ h.remaining
 
 -- a plane that no refusal meets, to be written from a bit on inside what is left
 pub record NextReady (s : Shared) (p : PlaneIn) (behind remaining bytes start : ℕ) : Type 0 where
-  pub plane : PlaneAccepted (planeGiven s p) p.results.slices bytes start
+  pub plane : PlaneAccepted (plane_given s p) p.results.slices bytes start
   pub samples : length p.source ≡ p.canvas.width * p.canvas.height
-  pub spends : Spends (planeGiven s p) (Within remaining behind) 0 0
+  pub spends : Spends (plane_given s p) (Within remaining behind) 0 0
 
 -- the end that an answer, an output and slices stand for
-abbrev pub endBy : WriteEnd → List ℕ → Slices → End Writing
-endBy r out v = record { refusal = r.refused; done = r.done; state = record { out = bits_of out; next = r.next; slices = v; bits = r.bits; error = r.error } }
+abbrev pub end_by : WriteEnd → List ℕ → Slices → End Writing
+end_by r out v = record { refusal = r.refused; done = r.done; state = record { out = bits_of out; next = r.next; slices = v; bits = r.bits; error = r.error } }
 
 -- a plane has ended, reached or not, with the answer r, and has left out' and results'
 pub record PlaneThrough (s : Shared) (p : PlaneIn) (behind : ℕ) (h : Handed) (r : WriteEnd) (out' : List ℕ) (results' : Results) : Type 0 where
-  pub ended : planeEnd s p behind h ≡ endBy r out' results'.slices
-  pub left : results' ≡ planeLeft s p behind h
+  pub ended : plane_end s p behind h ≡ end_by r out' results'.slices
+  pub left : results' ≡ plane_left s p behind h
 
 -- a picture that no refusal meets is written as far as it goes
 pub record PictureThrough (s : Shared) (ps : List PlaneIn) (h : Handed) (r : PictureAnswer) (out' : List ℕ) (left : List Results) : Type 0 where
-  pub answer : r ≡ writtenPicture s ps h
-  pub left_out : bits_of out' ≡ (behindLast s ps h).out
-  pub left-planes : left ≡ in_turn s (planeLeft s) ps h
+  pub answer : r ≡ written_picture s ps h
+  pub left_out : bits_of out' ≡ (behind_last s ps h).out
+  pub left_planes : left ≡ in_turn s (plane_left s) ps h

@@ -1,9 +1,9 @@
 // Functions that only the crates of this repository call. Most have a `requires`: the caller, proved too, meets it.
 ghost use Rattle.std.specs.Prelude.{◌≡◌, ◌+◌};
 ghost use Rattle.bits.specs.Basics.{or_else};
-ghost use Rattle.picture.specs.Picture.{canvasBlocks};
-ghost use Rattle.picture.specs.Refusals.{planeRefusalBy, allowanceRefusal};
-ghost use Rattle.picture.specs.PictureNeeds.{behindOthers, RefusalsTold, SmallSides, AllowanceReady};
+ghost use Rattle.picture.specs.Picture.{canvas_blocks};
+ghost use Rattle.picture.specs.Refusals.{plane_refusal_by, allowance_refusal};
+ghost use Rattle.picture.specs.PictureNeeds.{behind_others, RefusalsTold, SmallSides, AllowanceReady};
 
 use canvas::svq1_plane::Svq1PlaneCanvas;
 use macroblock::svq1_enc_inter::Svq1MbMode;
@@ -41,7 +41,7 @@ pub fn first_of(a: u8, b: u8) -> u8
 // The macroblocks of a plane.
 pub fn blocks_of(canvas: Svq1PlaneCanvas) -> u64
     requires { SmallSides canvas }
-    ensures { result ≡ canvasBlocks canvas }
+    ensures { result ≡ canvas_blocks canvas }
 {
     ((canvas.height + 15) / 16 * ((canvas.width + 15) / 16)) as u64
 }
@@ -56,7 +56,7 @@ fn next_refusal(
     bytes: usize,
     start: usize,
 ) -> u8
-    ensures { result ≡ behindOthers before (planeRefusalBy p reference.now book.now codebook.now bytes start) }
+    ensures { result ≡ behind_others before (plane_refusal_by p reference.now book.now codebook.now bytes start) }
 {
     if before != 0 {
         return 0;
@@ -78,7 +78,7 @@ fn allowance_refusal(
     allowance: u64,
 ) -> u8
     requires { before ≡ 0 → AllowanceReady book.now canvas0 canvas1 canvas2 }
-    ensures { result ≡ behindOthers before (allowanceRefusal book.now (canvasBlocks canvas0 + (canvasBlocks canvas1 + canvasBlocks canvas2)) allowance) }
+    ensures { result ≡ behind_others before (allowance_refusal book.now (canvas_blocks canvas0 + (canvas_blocks canvas1 + canvas_blocks canvas2)) allowance) }
 {
     if before != 0 {
         return 0;
@@ -105,7 +105,7 @@ pub fn picture_refusals(
     start: usize,
     allowance: u64,
 ) -> PictureRefusals
-    ensures { RefusalsTold (planeRefusalBy p0 reference0.now book.now codebook.now bytes start) (planeRefusalBy p1 reference1.now book.now codebook.now bytes start) (planeRefusalBy p2 reference2.now book.now codebook.now bytes start) (allowanceRefusal book.now (canvasBlocks p0.canvas + (canvasBlocks p1.canvas + canvasBlocks p2.canvas)) allowance) result }
+    ensures { RefusalsTold (plane_refusal_by p0 reference0.now book.now codebook.now bytes start) (plane_refusal_by p1 reference1.now book.now codebook.now bytes start) (plane_refusal_by p2 reference2.now book.now codebook.now bytes start) (allowance_refusal book.now (canvas_blocks p0.canvas + (canvas_blocks p1.canvas + canvas_blocks p2.canvas)) allowance) result }
 {
     let first = next_refusal(0, p0, reference0, book, codebook, bytes, start);
     let second = next_refusal(first, p1, reference1, book, codebook, bytes, start);

@@ -1,8 +1,8 @@
 // The writer of pictures.
 ghost use Rattle.std.specs.Prelude.{◌≡◌, [], ◌∷◌};
-ghost use Rattle.picture.specs.Picture.{sharedBy, resultsBy, planeBy};
+ghost use Rattle.picture.specs.Picture.{shared_by, results_by, plane_by};
 ghost use Rattle.picture.specs.Calls.{PictureWritten};
-ghost use Rattle.picture.specs.PictureNeeds.{pictureEndOf, nothingDone};
+ghost use Rattle.picture.specs.PictureNeeds.{picture_end_of, nothing_done};
 
 use canvas::svq1_plane::Svq1PlaneCanvas;
 use macroblock::svq1_enc_inter::Settings;
@@ -14,7 +14,7 @@ use plane_enc::svq1_enc_inter::WriteEnd;
 
 // A plane of which nothing is done, with the number of a refusal, or 0.
 fn nothing_done(refused: u8) -> WriteEnd
-    ensures { result ≡ nothingDone refused }
+    ensures { result ≡ nothing_done refused }
 {
     WriteEnd {
         refused,
@@ -57,7 +57,7 @@ pub fn encode_picture(
     vy2: &mut [u8],
     stated2: &mut [u32],
 ) -> PictureEnd
-    ensures { PictureWritten (sharedBy book.now codebook.now settings) (planeBy canvas0 source0.now reference0.now (resultsBy recon0.old vx0.old vy0.old stated0.old) ∷ planeBy canvas1 source1.now reference1.now (resultsBy recon1.old vx1.old vy1.old stated1.old) ∷ planeBy canvas2 source2.now reference2.now (resultsBy recon2.old vx2.old vy2.old stated2.old) ∷ []) allowance out.old start (pictureEndOf result) out.new (resultsBy recon0.new vx0.new vy0.new stated0.new ∷ resultsBy recon1.new vx1.new vy1.new stated1.new ∷ resultsBy recon2.new vx2.new vy2.new stated2.new ∷ []) }
+    ensures { PictureWritten (shared_by book.now codebook.now settings) (plane_by canvas0 source0.now reference0.now (results_by recon0.old vx0.old vy0.old stated0.old) ∷ plane_by canvas1 source1.now reference1.now (results_by recon1.old vx1.old vy1.old stated1.old) ∷ plane_by canvas2 source2.now reference2.now (results_by recon2.old vx2.old vy2.old stated2.old) ∷ []) allowance out.old start (picture_end_of result) out.new (results_by recon0.new vx0.new vy0.new stated0.new ∷ results_by recon1.new vx1.new vy1.new stated1.new ∷ results_by recon2.new vx2.new vy2.new stated2.new ∷ []) }
 {
     let p0 = PlaneLengths {
         canvas: canvas0,

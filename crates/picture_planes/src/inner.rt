@@ -1,9 +1,9 @@
 // A picture that no refusal meets.
 ghost use Rattle.std.specs.Prelude.{◌≡◌, [], ◌∷◌, length};
 ghost use Rattle.bits.specs.Bits.{bits_of};
-ghost use Rattle.picture.specs.Picture.{sharedBy, resultsBy, planeBy, handedBy};
-ghost use Rattle.picture.specs.Refusals.{pictureRefusal};
-ghost use Rattle.picture.specs.PictureNeeds.{pictureEndOf, NextReady, PlaneThrough, PictureThrough};
+ghost use Rattle.picture.specs.Picture.{shared_by, results_by, plane_by, handed_by};
+ghost use Rattle.picture.specs.Refusals.{picture_refusal};
+ghost use Rattle.picture.specs.PictureNeeds.{picture_end_of, NextReady, PlaneThrough, PictureThrough};
 
 use canvas::svq1_plane::Svq1PlaneCanvas;
 use macroblock::svq1_enc_inter::Settings;
@@ -31,8 +31,8 @@ fn write_next(
     vy: &mut [u8],
     stated: &mut [u32],
 ) -> WriteEnd
-    requires { NextReady (sharedBy book.now codebook.now settings) (planeBy canvas source.now reference.now (resultsBy recon.old vx.old vy.old stated.old)) behind remaining (length out.old) start }
-    ensures { PlaneThrough (sharedBy book.now codebook.now settings) (planeBy canvas source.now reference.now (resultsBy recon.old vx.old vy.old stated.old)) behind (handedBy (bits_of out.old) start remaining before) result out.new (resultsBy recon.new vx.new vy.new stated.new) }
+    requires { NextReady (shared_by book.now codebook.now settings) (plane_by canvas source.now reference.now (results_by recon.old vx.old vy.old stated.old)) behind remaining (length out.old) start }
+    ensures { PlaneThrough (shared_by book.now codebook.now settings) (plane_by canvas source.now reference.now (results_by recon.old vx.old vy.old stated.old)) behind (handed_by (bits_of out.old) start remaining before) result out.new (results_by recon.new vx.new vy.new stated.new) }
 {
     if before != 0 {
         return WriteEnd {
@@ -93,8 +93,8 @@ pub fn write_planes(
     vy2: &mut [u8],
     stated2: &mut [u32],
 ) -> PictureEnd
-    requires { pictureRefusal (sharedBy book.now codebook.now settings) (planeBy canvas0 source0.now reference0.now (resultsBy recon0.old vx0.old vy0.old stated0.old) ∷ planeBy canvas1 source1.now reference1.now (resultsBy recon1.old vx1.old vy1.old stated1.old) ∷ planeBy canvas2 source2.now reference2.now (resultsBy recon2.old vx2.old vy2.old stated2.old) ∷ []) allowance (length out.old) start ≡ 0 }
-    ensures { PictureThrough (sharedBy book.now codebook.now settings) (planeBy canvas0 source0.now reference0.now (resultsBy recon0.old vx0.old vy0.old stated0.old) ∷ planeBy canvas1 source1.now reference1.now (resultsBy recon1.old vx1.old vy1.old stated1.old) ∷ planeBy canvas2 source2.now reference2.now (resultsBy recon2.old vx2.old vy2.old stated2.old) ∷ []) (handedBy (bits_of out.old) start allowance 0) (pictureEndOf result) out.new (resultsBy recon0.new vx0.new vy0.new stated0.new ∷ resultsBy recon1.new vx1.new vy1.new stated1.new ∷ resultsBy recon2.new vx2.new vy2.new stated2.new ∷ []) }
+    requires { picture_refusal (shared_by book.now codebook.now settings) (plane_by canvas0 source0.now reference0.now (results_by recon0.old vx0.old vy0.old stated0.old) ∷ plane_by canvas1 source1.now reference1.now (results_by recon1.old vx1.old vy1.old stated1.old) ∷ plane_by canvas2 source2.now reference2.now (results_by recon2.old vx2.old vy2.old stated2.old) ∷ []) allowance (length out.old) start ≡ 0 }
+    ensures { PictureThrough (shared_by book.now codebook.now settings) (plane_by canvas0 source0.now reference0.now (results_by recon0.old vx0.old vy0.old stated0.old) ∷ plane_by canvas1 source1.now reference1.now (results_by recon1.old vx1.old vy1.old stated1.old) ∷ plane_by canvas2 source2.now reference2.now (results_by recon2.old vx2.old vy2.old stated2.old) ∷ []) (handed_by (bits_of out.old) start allowance 0) (picture_end_of result) out.new (results_by recon0.new vx0.new vy0.new stated0.new ∷ results_by recon1.new vx1.new vy1.new stated1.new ∷ results_by recon2.new vx2.new vy2.new stated2.new ∷ []) }
 {
     let last = blocks_of(canvas2);
     let behind = blocks_of(canvas1) + last;

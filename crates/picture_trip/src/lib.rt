@@ -1,11 +1,11 @@
 // A picture written, and its planes read back: what is claimed of a picture, tied to memory.
 ghost use Rattle.std.specs.Prelude.{[], ◌∷◌};
-ghost use Rattle.macroblock.specs.MacroblockNeeds.{givenBy};
-ghost use Rattle.macroblock.specs.Slices.{slicesBy};
+ghost use Rattle.macroblock.specs.MacroblockNeeds.{given_by};
+ghost use Rattle.macroblock.specs.Slices.{slices_by};
 ghost use Rattle.plane.specs.Calls.{PlaneRead};
 ghost use Rattle.plane_dec.specs.ReaderNeeds as reader;
 ghost use Rattle.plane_enc.specs.WriterNeeds as writer;
-ghost use Rattle.picture.specs.Picture.{sharedBy, resultsBy, planeBy};
+ghost use Rattle.picture.specs.Picture.{shared_by, results_by, plane_by};
 ghost use Rattle.picture_trip.specs.PictureTrip.{PictureTrip};
 
 use canvas::svq1_plane::Svq1PlaneCanvas;
@@ -52,7 +52,7 @@ fn read_planes(
     backx2: &mut [u8],
     backy2: &mut [u8],
 ) -> PlanesRead
-    ensures { PlaneRead (givenBy canvas0 reference0.now book.now codebook.now) bytes.now start0 (slicesBy back0.old backx0.old backy0.old) (reader.readEndOf result.first) (slicesBy back0.new backx0.new backy0.new) × PlaneRead (givenBy canvas1 reference1.now book.now codebook.now) bytes.now start1 (slicesBy back1.old backx1.old backy1.old) (reader.readEndOf result.second) (slicesBy back1.new backx1.new backy1.new) × PlaneRead (givenBy canvas2 reference2.now book.now codebook.now) bytes.now start2 (slicesBy back2.old backx2.old backy2.old) (reader.readEndOf result.third) (slicesBy back2.new backx2.new backy2.new) }
+    ensures { PlaneRead (given_by canvas0 reference0.now book.now codebook.now) bytes.now start0 (slices_by back0.old backx0.old backy0.old) (reader.read_end_of result.first) (slices_by back0.new backx0.new backy0.new) × PlaneRead (given_by canvas1 reference1.now book.now codebook.now) bytes.now start1 (slices_by back1.old backx1.old backy1.old) (reader.read_end_of result.second) (slices_by back1.new backx1.new backy1.new) × PlaneRead (given_by canvas2 reference2.now book.now codebook.now) bytes.now start2 (slices_by back2.old backx2.old backy2.old) (reader.read_end_of result.third) (slices_by back2.new backx2.new backy2.new) }
 {
     let first = decode_inter_plane(
         canvas0, reference0, book, codebook, bytes, start0, back0, backx0, backy0,
@@ -110,7 +110,7 @@ pub fn round_trip_picture(
     backx2: &mut [u8],
     backy2: &mut [u8],
 ) -> PictureTripEnd
-    ensures { PictureTrip (sharedBy book.now codebook.now settings) (record { plane = planeBy canvas0 source0.now reference0.now (resultsBy recon0.old vx0.old vy0.old stated0.old); wrote = writer.writeEndOf result.written.first; left = resultsBy recon0.new vx0.new vy0.new stated0.new; back = slicesBy back0.old backx0.old backy0.old; read = reader.readEndOf result.read.first; left_back = slicesBy back0.new backx0.new backy0.new } ∷ record { plane = planeBy canvas1 source1.now reference1.now (resultsBy recon1.old vx1.old vy1.old stated1.old); wrote = writer.writeEndOf result.written.second; left = resultsBy recon1.new vx1.new vy1.new stated1.new; back = slicesBy back1.old backx1.old backy1.old; read = reader.readEndOf result.read.second; left_back = slicesBy back1.new backx1.new backy1.new } ∷ record { plane = planeBy canvas2 source2.now reference2.now (resultsBy recon2.old vx2.old vy2.old stated2.old); wrote = writer.writeEndOf result.written.third; left = resultsBy recon2.new vx2.new vy2.new stated2.new; back = slicesBy back2.old backx2.old backy2.old; read = reader.readEndOf result.read.third; left_back = slicesBy back2.new backx2.new backy2.new } ∷ []) allowance out.old start result.written.refused result.written.done out.new }
+    ensures { PictureTrip (shared_by book.now codebook.now settings) (record { plane = plane_by canvas0 source0.now reference0.now (results_by recon0.old vx0.old vy0.old stated0.old); wrote = writer.write_end_of result.written.first; left = results_by recon0.new vx0.new vy0.new stated0.new; back = slices_by back0.old backx0.old backy0.old; read = reader.read_end_of result.read.first; left_back = slices_by back0.new backx0.new backy0.new } ∷ record { plane = plane_by canvas1 source1.now reference1.now (results_by recon1.old vx1.old vy1.old stated1.old); wrote = writer.write_end_of result.written.second; left = results_by recon1.new vx1.new vy1.new stated1.new; back = slices_by back1.old backx1.old backy1.old; read = reader.read_end_of result.read.second; left_back = slices_by back1.new backx1.new backy1.new } ∷ record { plane = plane_by canvas2 source2.now reference2.now (results_by recon2.old vx2.old vy2.old stated2.old); wrote = writer.write_end_of result.written.third; left = results_by recon2.new vx2.new vy2.new stated2.new; back = slices_by back2.old backx2.old backy2.old; read = reader.read_end_of result.read.third; left_back = slices_by back2.new backx2.new backy2.new } ∷ []) allowance out.old start result.written.refused result.written.done out.new }
 {
     let written = encode_picture(
         canvas0, source0, reference0, canvas1, source1, reference1, canvas2, source2, reference2,

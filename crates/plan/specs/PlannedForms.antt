@@ -4,7 +4,7 @@ use Rattle.std.proofs.Math.Path.{sym}
 use borrow.Author.Tests.{lt-ltb, le-ltb}
 use Rattle.bits.specs.Basics.{pick}
 use Rattle.leaf.specs.LentNeeds.{Clean}
-use Rattle.tree.specs.Plan.{Weight, cost, jointWeight, flagged, cheaper}
+use Rattle.tree.specs.Plan.{Weight, cost, joint_weight, flagged, cheaper}
 use Rattle.plan.specs.declared.svq1_enc_tree.PlannedBlock.{PlannedBlock}
 
 -- bits and an error as a weight, and what a record weighs
@@ -24,21 +24,21 @@ abbrev pub CleanChoice : PlannedBlock → Type 0
 CleanChoice b = Clean b.code b.stages
 
 -- the leaf l as what it or a split weighs
-abbrev pub decidedAs : Bool → PlannedBlock → Weight → PlannedBlock
-decidedAs split l w = record { split = split; bits = w.bits; error = w.err; code = l.code; stages = l.stages }
+abbrev pub decided_as : Bool → PlannedBlock → Weight → PlannedBlock
+decided_as split l w = record { split = split; bits = w.bits; error = w.err; code = l.code; stages = l.stages }
 
 -- a leaf, or a split where that is strictly cheaper
 unfoldable pub decided : ℕ → PlannedBlock → PlannedBlock → PlannedBlock → PlannedBlock
 decided lambda l x y =
-    pick (cheaper lambda (jointWeight (weigh x) (weigh y)) (flagged (weigh l)))
-    (decidedAs true l (jointWeight (weigh x) (weigh y))) (decidedAs false l (flagged (weigh l)))
+    pick (cheaper lambda (joint_weight (weigh x) (weigh y)) (flagged (weigh l)))
+    (decided_as true l (joint_weight (weigh x) (weigh y))) (decided_as false l (flagged (weigh l)))
 
 -- the two ways to decide, by the costs p and q as they were computed
-module _ (lambda : ℕ) (l x y : PlannedBlock) (p q : ℕ) (hp : p ≡ cost lambda (jointWeight (weigh x) (weigh y))) (hq : q ≡ cost lambda (flagged (weigh l))) where
-  pub decided-split : p < q → decidedAs true l (jointWeight (weigh x) (weigh y)) ≡ decided lambda l x y
+module _ (lambda : ℕ) (l x y : PlannedBlock) (p q : ℕ) (hp : p ≡ cost lambda (joint_weight (weigh x) (weigh y))) (hq : q ≡ cost lambda (flagged (weigh l))) where
+  pub decided_split : p < q → decided_as true l (joint_weight (weigh x) (weigh y)) ≡ decided lambda l x y
   unfolding decided
-  decided-split h = sym (rw (← hp, ← hq, lt-ltb p q h))
+  decided_split h = sym (rw (← hp, ← hq, lt-ltb p q h))
 
-  pub decided-leaf : q ≤ p → decidedAs false l (flagged (weigh l)) ≡ decided lambda l x y
+  pub decided_leaf : q ≤ p → decided_as false l (flagged (weigh l)) ≡ decided lambda l x y
   unfolding decided
-  decided-leaf h = sym (rw (← hp, ← hq, le-ltb p q h))
+  decided_leaf h = sym (rw (← hp, ← hq, le-ltb p q h))

@@ -3,17 +3,17 @@ use Rattle.std.specs.Prelude.{◌≡◌, List, ℕ, ◌-◌, ◌≤◌, eqb, len
 use Rattle.bits.specs.Basics.{pick, All}
 use Rattle.bits.specs.Calls.{Answer, done, refused}
 use Rattle.book.specs.Level.{area}
-use Rattle.codebook.specs.Codebook.{vectorAt}
+use Rattle.codebook.specs.Codebook.{vector_at}
 use Rattle.leaf_call.specs.LeafAnswer.{Searchable}
 use Rattle.leaf.specs.LeafCall.{BlockIn}
 use Rattle.leaf.specs.declared.svq1_enc_leaf.LeafTerms.{LeafTerms}
-use Rattle.tree.specs.Blocks.{blockCount}
-use Rattle.tree.specs.NodeForms.{tree_of, offBlock, CleanBlock}
+use Rattle.tree.specs.Blocks.{block_count}
+use Rattle.tree.specs.NodeForms.{tree_of, off_block, CleanBlock}
 use Rattle.plan.specs.PlanClaim.{PlanClaim}
 use Rattle.plan.specs.PlannedForms.{weight}
-use Rattle.plan.specs.PlanNeeds.{planningIn, PlanFound}
-use Rattle.tree.specs.TreeBits.{planTree, treeShown}
-use Rattle.plan.specs.PlanAnswer.{PlanMade, planAnswer}
+use Rattle.plan.specs.PlanNeeds.{planning_in, PlanFound}
+use Rattle.tree.specs.TreeBits.{plan_tree, tree_shown}
+use Rattle.plan.specs.PlanAnswer.{PlanMade, plan_answer}
 use Rattle.plan.specs.declared.svq1_enc_tree.MbPlan.{MbPlan}
 use Rattle.plan_call.specs.declared.svq1_enc_tree.PlanAnswer.{PlanAnswer}
 
@@ -26,24 +26,24 @@ pub record Plannable (book codebook raised : List ℕ) (d : ℕ) (terms : LeafTe
 
 -- and what it finds: the plan, and its samples with zeros behind them
 pub record PlanShown (book codebook : List ℕ) (d : ℕ) (terms : LeafTerms) (target predictor : List ℕ) (lambda : ℕ) (r : MbPlan) (left : List ℕ) : Type 0 where
-  pub found : PlanFound (planningIn terms book codebook lambda d target predictor) r
-  pub front : take (area d) left ≡ treeShown (vectorAt codebook terms.half) d predictor (planTree (planningIn terms book codebook lambda d target predictor))
+  pub found : PlanFound (planning_in terms book codebook lambda d target predictor) r
+  pub front : take (area d) left ≡ tree_shown (vector_at codebook terms.half) d predictor (plan_tree (planning_in terms book codebook lambda d target predictor))
   pub behind : drop (area d) left ≡ replicate (256 - area d) 0
 
 -- the answer for a block of n samples, by the struct's fields
-abbrev pub planAnswerOf : ℕ → PlanAnswer → Answer PlanMade
-planAnswerOf n r =
+abbrev pub plan_answer_of : ℕ → PlanAnswer → Answer PlanMade
+plan_answer_of n r =
     pick (eqb r.refused 0) (done (record { tree = tree_of r.blocks; weight = weight r.bits r.error; shown = take n r.samples })) (refused r.refused)
 
 -- what a refused call answers: its number, and nothing else
-abbrev pub refusedPlan : ℕ → PlanAnswer
-refusedPlan n = record { refused = n; bits = 0; error = 0; blocks = replicate blockCount offBlock; samples = replicate 256 0 }
+abbrev pub refused_plan : ℕ → PlanAnswer
+refused_plan n = record { refused = n; bits = 0; error = 0; blocks = replicate block_count off_block; samples = replicate 256 0 }
 
 -- a call's answer: by the definition, with zeros behind the block's samples and every block in its one form; a refused one is its number and nothing else; of an
 -- accepted one document 01's sentence on plans holds
 pub record PlanAnswered (b : BlockIn) (lambda : ℕ) (r : PlanAnswer) : Type 0 where
-  pub answer : planAnswerOf (length b.target) r ≡ planAnswer b lambda
+  pub answer : plan_answer_of (length b.target) r ≡ plan_answer b lambda
   pub behind : drop (length b.target) r.samples ≡ replicate (256 - length b.target) 0
-  pub bare : (r.refused ≡ 0 → ⊥) → r ≡ refusedPlan r.refused
+  pub bare : (r.refused ≡ 0 → ⊥) → r ≡ refused_plan r.refused
   pub clean : All CleanBlock r.blocks
   pub claimed : r.refused ≡ 0 → PlanClaim b lambda

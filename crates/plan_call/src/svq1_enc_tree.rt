@@ -1,7 +1,7 @@
 // The plan as a call.
 ghost use Rattle.std.specs.Prelude.{◌≡◌};
-ghost use Rattle.leaf.specs.LeafCall.{blockBy};
-ghost use Rattle.plan_call.specs.PlanCall.{refusedPlan, Plannable, PlanShown, PlanAnswered};
+ghost use Rattle.leaf.specs.LeafCall.{block_by};
+ghost use Rattle.plan_call.specs.PlanCall.{refused_plan, Plannable, PlanShown, PlanAnswered};
 
 use book::inner::CODEBOOK_BYTES;
 use codebook::svq1_codebook::inner::raise_codebook;
@@ -23,7 +23,7 @@ pub struct PlanAnswer {
 }
 
 fn refused_plan(refused: u8) -> PlanAnswer
-    ensures { result ≡ refusedPlan refused }
+    ensures { result ≡ refused_plan refused }
 {
     PlanAnswer {
         refused,
@@ -73,7 +73,7 @@ pub fn plan_macroblock(
     lambda: u64,
     margin: u32,
 ) -> PlanAnswer
-    ensures { PlanAnswered (blockBy book.now codebook.now level half target.now predictor.now cap skip margin) lambda result }
+    ensures { PlanAnswered (block_by book.now codebook.now level half target.now predictor.now cap skip margin) lambda result }
 {
     let refusal = block_refusal(book, codebook, level, half, target, predictor, cap, skip);
     if refusal != 0 {

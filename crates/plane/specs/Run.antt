@@ -12,14 +12,14 @@ pub record End (S : Type 0) : Type 0 where
   pub done : ℕ
   pub state : S
 
-abbrev pub goOn : {S : Type 0} → Step S → (S → End S) → ℕ → S → End S
-goOn (on u) f k s = f u
-goOn (stop c) f k s = record { refusal = c; done = k; state = s }
+abbrev pub go_on : {S : Type 0} → Step S → (S → End S) → ℕ → S → End S
+go_on (on u) f k s = f u
+go_on (stop c) f k s = record { refusal = c; done = k; state = s }
 
 -- n steps from macroblock k on; a step that stops leaves the state before it
 unfoldable pub run : {S : Type 0} → (ℕ → S → Step S) → ℕ → ℕ → S → End S
 run f zero k s = record { refusal = 0; done = k; state = s }
-run f (suc n) k s = goOn (f k s) (run f n (suc k)) k s
+run f (suc n) k s = go_on (f k s) (run f n (suc k)) k s
 
 -- the states that a step which never stops goes through: the one before macroblock k
 unfoldable pub after : {S : Type 0} → (ℕ → S → S) → S → ℕ → S

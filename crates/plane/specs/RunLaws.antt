@@ -4,7 +4,7 @@ use Rattle.std.specs.Prelude.{◌≡◌, refl, ℕ, zero, suc, ◌+◌, ◌-◌,
 use Rattle.std.proofs.Common.{sym, ◌∙◌, subst, arith, add-zero, add-suc, suc-add, add-one}
 use Rattle.std.proofs.Math.Decide.{ℕ_discrete}
 use Rattle.bits.specs.Basics.{pick}
-use Rattle.plane.specs.Run.{Step, on, stop, End, goOn, run, after}
+use Rattle.plane.specs.Run.{Step, on, stop, End, go_on, run, after}
 
 -- a step that is taken where a test holds
 abbrev pub testing : {S : Type 0} → ℕ → (ℕ → S → Bool) → (ℕ → S → S) → ℕ → S → Step S
@@ -18,13 +18,13 @@ run_on f t zero k h = rw add-zero
 run_on f t (suc n) k h =
     rw (h k (omega arith) (omega arith), add-suc, ← suc-add) (run_on f t n (suc k) (λ j a l. h j (omega arith) (omega arith)))
 
-one_on : {S : Type 0} (q : Bool) (c k : ℕ) (s u : S) (f : S → End S) → (goOn (pick q (on u) (stop (suc c))) f k s).refusal ≡ 0 → (q ≡ true) × ((f u).refusal ≡ 0)
+one_on : {S : Type 0} (q : Bool) (c k : ℕ) (s u : S) (f : S → End S) → (go_on (pick q (on u) (stop (suc c))) f k s).refusal ≡ 0 → (q ≡ true) × ((f u).refusal ≡ 0)
 one_on true c k s u f e = (refl, e)
 one_on false c k s u f e = absurd (omega arith)
 
-here-or : (P : ℕ → Type 0) (k j : ℕ) → P k → (suc k ≤ j → P j) → k ≤ j → Dec (k ≡ j) → P j
-here-or P k j p f a (yes e) = subst P e p
-here-or P k j p f a (no d) = f (omega arith)
+here_or : (P : ℕ → Type 0) (k j : ℕ) → P k → (suc k ≤ j → P j) → k ≤ j → Dec (k ≡ j) → P j
+here_or P k j p f a (yes e) = subst P e p
+here_or P k j p f a (no d) = f (omega arith)
 
 -- a run that was not stopped took every step
 pub run_fits : {S : Type 0} (c : ℕ) (fits : ℕ → S → Bool) (g : ℕ → S → S) (s : S) (n k : ℕ)
@@ -33,7 +33,7 @@ unfolding run after
 run_fits c fits g s zero k e j a l = absurd (omega arith)
 run_fits c fits g s (suc n) k e j a l =
     let two = one_on (fits k (after g s k)) c k (after g s k) (g k (after g s k)) (run (testing (suc c) fits g) n (suc k)) e in
-    here-or (λ i. fits i (after g s i) ≡ true) k j two.0 (λ m. run_fits c fits g s n (suc k) two.1 j m (omega arith)) a (ℕ_discrete k j)
+    here_or (λ i. fits i (after g s i) ≡ true) k j two.0 (λ m. run_fits c fits g s n (suc k) two.1 j m (omega arith)) a (ℕ_discrete k j)
 
 -- ---- a loop's laws: with n macroblocks in all, a step taken, a step that stops, and the end
 pub turned : {S : Type 0} (f : ℕ → S → Step S) (n k : ℕ) (s u : S) → k < n → f k s ≡ on u → run f (n - k) k s ≡ run f (n - suc k) (suc k) u
@@ -65,11 +65,11 @@ set_out f n s₀ =
     record { most = omega arith; whole = rw z }
 
 module _ {S : Type 0} (f : ℕ → S → Step S) (n : ℕ) (s₀ : S) (k : ℕ) (s : S) (m : Midway f n s₀ k s) where
-  pub gone-on : (u : S) → k < n → f k s ≡ on u → Midway f n s₀ (k + 1) u
-  gone-on u h e = record { most = omega arith; whole = rw (add-one k) (sym (turned f n k s u h e) ∙ m.whole) }
+  pub gone_on : (u : S) → k < n → f k s ≡ on u → Midway f n s₀ (k + 1) u
+  gone_on u h e = record { most = omega arith; whole = rw (add-one k) (sym (turned f n k s u h e) ∙ m.whole) }
 
-  pub ends-early : (c : ℕ) → k < n → f k s ≡ stop c → run f n 0 s₀ ≡ record { refusal = c; done = k; state = s }
-  ends-early c h e = sym m.whole ∙ stopped f n k c s h e
+  pub ends_early : (c : ℕ) → k < n → f k s ≡ stop c → run f n 0 s₀ ≡ record { refusal = c; done = k; state = s }
+  ends_early c h e = sym m.whole ∙ stopped f n k c s h e
 
   pub ends_last : n ≤ k → run f n 0 s₀ ≡ record { refusal = 0; done = k; state = s }
   ends_last h = sym m.whole ∙ ended f n k s h
@@ -82,20 +82,20 @@ pub record RunStands {S : Type 0} (c : ℕ) (fits : ℕ → S → Bool) (g : ℕ
 
 one_more : {S : Type 0} (q : Bool) (c : ℕ) (fits : ℕ → S → Bool) (g : ℕ → S → S) (s : S) (k last : ℕ) (f : S → End S) → fits k (after g s k) ≡ q → k < last
     → RunStands c fits g s last (f (g k (after g s k)))
-    → RunStands c fits g s last (goOn (pick q (on (g k (after g s k))) (stop c)) f k (after g s k))
+    → RunStands c fits g s last (go_on (pick q (on (g k (after g s k))) (stop c)) f k (after g s k))
 one_more true c fits g s k last f e h x = x
 one_more false c fits g s k last f e h x = record { state = refl; at_most = omega arith; early = λ l. (refl, e) }
 
-pub run-stands : {S : Type 0} (c : ℕ) (fits : ℕ → S → Bool) (g : ℕ → S → S) (s : S) (n k : ℕ)
+pub run_stands : {S : Type 0} (c : ℕ) (fits : ℕ → S → Bool) (g : ℕ → S → S) (s : S) (n k : ℕ)
     → RunStands c fits g s (k + n) (run (testing c fits g) n k (after g s k))
 unfolding run after
-run-stands c fits g s zero k = record { state = refl; at_most = omega arith; early = λ l. absurd (omega arith) }
-run-stands c fits g s (suc n) k =
+run_stands c fits g s zero k = record { state = refl; at_most = omega arith; early = λ l. absurd (omega arith) }
+run_stands c fits g s (suc n) k =
     one_more (fits k (after g s k)) c fits g s k (k + suc n) (run (testing c fits g) n (suc k)) refl (omega arith)
-    (rw (add-suc, ← suc-add) (run-stands c fits g s n (suc k)))
+    (rw (add-suc, ← suc-add) (run_stands c fits g s n (suc k)))
 
 -- what holds at first, and behind each step that is taken, holds at the end, early or not
-held_one : {S : Type 0} (P : S → Type 0) (q : Bool) (c k : ℕ) (s u : S) (f : S → End S) → P s → (q ≡ true → P u) → (P u → P (f u).state) → P (goOn (pick q (on u) (stop c)) f k s).state
+held_one : {S : Type 0} (P : S → Type 0) (q : Bool) (c k : ℕ) (s u : S) (f : S → End S) → P s → (q ≡ true → P u) → (P u → P (f u).state) → P (go_on (pick q (on u) (stop c)) f k s).state
 held_one P true c k s u f p h r = r (h refl)
 held_one P false c k s u f p h r = p
 

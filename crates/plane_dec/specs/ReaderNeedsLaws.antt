@@ -8,56 +8,56 @@ use Rattle.std.proofs.Math.Dec.{eqb}
 use Rattle.std.proofs.Math.ListN.{length, length-drop}
 use borrow.Author.Tests.{eq-eqb, ne_eqb}
 use Rattle.bits.specs.Basics.{or_else, first_of}
-use Rattle.bits.specs.BasicsLaws.{chain-met, chain-passed, two-links}
+use Rattle.bits.specs.BasicsLaws.{chain_met, chain_passed, two_links}
 use Rattle.bits.specs.Bits.{bits_of}
-use Rattle.bits.specs.BitsLaws.{length-bitsOf}
+use Rattle.bits.specs.BitsLaws.{length_bits_of}
 use Rattle.code_tables.specs.Codes.{got, bad}
-use Rattle.canvas.specs.Canvas.{sizeRefusal, canvasRefusal, canvasLinks}
+use Rattle.canvas.specs.Canvas.{size_refusal, canvas_refusal, canvas_links}
 use Rattle.macroblock.specs.Macroblock.{Given}
-use Rattle.macroblock.specs.Reading.{readMacroblock}
+use Rattle.macroblock.specs.Reading.{read_macroblock}
 use Rattle.macroblock.specs.Slices.{Slices, near, laid}
 use Rattle.macroblock_dec.specs.declared.svq1_plane.inner.reading.ReadMb.{ReadMb}
 use Rattle.macroblock_dec.specs.ReadNeeds.{ReadReady, MbRead}
 use Rattle.plane.specs.declared.svq1_plane.inner.SliceLengths.{SliceLengths}
 use Rattle.plane.specs.Run.{Step, on, stop}
-use Rattle.plane.specs.RunLaws.{set_out, gone-on, ends-early, ends_last}
-use Rattle.plane.specs.Plane.{count, ReadingState, read_step, readUpTo, readPlane}
-use Rattle.plane.specs.Refusals.{lentLinks, readRefusalBy, readRefusal}
-use Rattle.plane.specs.Calls.{PlaneRead, readPlaneAnswer, readSlices}
+use Rattle.plane.specs.RunLaws.{set_out, gone_on, ends_early, ends_last}
+use Rattle.plane.specs.Plane.{count, ReadingState, read_step, read_up_to, read_plane}
+use Rattle.plane.specs.Refusals.{lent_links, read_refusal_by, read_refusal}
+use Rattle.plane.specs.Calls.{PlaneRead, read_plane_answer, read_slices}
 use Rattle.plane.specs.PlaneNeeds.{PlaneReady}
-use Rattle.plane.specs.SlicesLaws.{same-at-first, laid_same, same-held}
+use Rattle.plane.specs.SlicesLaws.{same_at_first, laid_same, same_held}
 use Rattle.plane_dec.specs.declared.svq1_plane.ReadEnd.{ReadEnd}
-use Rattle.plane_dec.specs.ReaderNeeds.{readEndOf, ReadThrough, Going}
+use Rattle.plane_dec.specs.ReaderNeeds.{read_end_of, ReadThrough, Going}
 
 -- ---- one macroblock is one step
 module _ (g : Given) (bytes : List ℕ) (at k : ℕ) (u : Slices) (r : ReadMb) (left : Slices) (m : MbRead g bytes at k u r left) where
-  abbrev stepHere : Step ReadingState
-  stepHere = read_step g (bits_of bytes) k (record { next = at; slices = u })
+  abbrev step_here : Step ReadingState
+  step_here = read_step g (bits_of bytes) k (record { next = at; slices = u })
 
-  pub step-on : r.refused ≡ 0 → stepHere ≡ on (record { next = r.next; slices = left })
+  pub step_on : r.refused ≡ 0 → step_here ≡ on (record { next = r.next; slices = left })
   unfolding read_step
-  step-on z =
+  step_on z =
       let yes = eq-eqb r.refused 0 z in
-      let is : got m.choice (drop r.next (bits_of bytes)) ≡ readMacroblock g (near g u k) (drop at (bits_of bytes)) = rw yes at m.is in
+      let is : got m.choice (drop r.next (bits_of bytes)) ≡ read_macroblock g (near g u k) (drop at (bits_of bytes)) = rw yes at m.is in
       let left_is : left ≡ laid g k m.choice u = rw yes at m.slices in
-      let n : length (bits_of bytes) - length (drop r.next (bits_of bytes)) ≡ r.next = omega (arith, length-drop r.next (bits_of bytes), length-bitsOf bytes, m.within) in
+      let n : length (bits_of bytes) - length (drop r.next (bits_of bytes)) ≡ r.next = omega (arith, length-drop r.next (bits_of bytes), length_bits_of bytes, m.within) in
       rw (← is, n, ← left_is)
 
-  pub step-stop : (r.refused ≡ 0 → ⊥) → stepHere ≡ stop r.refused
+  pub step_stop : (r.refused ≡ 0 → ⊥) → step_here ≡ stop r.refused
   unfolding read_step
-  step-stop e =
+  step_stop e =
       let no = ne_eqb r.refused 0 e in
-      let is : bad r.refused ≡ readMacroblock g (near g u k) (drop at (bits_of bytes)) = rw no at m.is in
+      let is : bad r.refused ≡ read_macroblock g (near g u k) (drop at (bits_of bytes)) = rw no at m.is in
       rw (← is)
 
 -- ---- the loop
 module _ (g : Given) (raised bytes : List ℕ) (start : ℕ) (u₀ : Slices) (p : PlaneReady g raised u₀ (length bytes) start) where
   pub begun : Going g bytes start u₀ u₀ 0 start
-  begun = record { same = same-at-first u₀; within = omega (arith, p.from.bits_fit); loop = set_out (read_step g (bits_of bytes)) (count g) _ }
+  begun = record { same = same_at_first u₀; within = omega (arith, p.from.bits_fit); loop = set_out (read_step g (bits_of bytes)) (count g) _ }
 
   module _ (u : Slices) (k at : ℕ) (i : Going g bytes start u₀ u k at) where
     pub ready : k < count g → ReadReady g raised u k (length bytes) at
-    ready h = record { ok = p.ok; held = same-held g u₀ u i.same p.held; number = h; from = record { bytes_fit = p.from.bytes_fit; bits_fit = omega (arith, i.within) } }
+    ready h = record { ok = p.ok; held = same_held g u₀ u i.same p.held; number = h; from = record { bytes_fit = p.from.bytes_fit; bits_fit = omega (arith, i.within) } }
 
     module _ (r : ReadMb) (left : Slices) (h : k < count g) (m : MbRead g bytes at k u r left) where
       pub turn : r.refused ≡ 0 → Going g bytes start u₀ left (k + 1) r.next
@@ -66,42 +66,42 @@ module _ (g : Given) (raised bytes : List ℕ) (start : ℕ) (u₀ : Slices) (p 
           record {
             same = rw left_is (laid_same g k m.choice u₀ u i.same);
             within = m.within;
-            loop = gone-on (read_step g (bits_of bytes)) (count g) _ k _ i.loop (record { next = r.next; slices = left }) h (step-on g bytes at k u r left m z);
+            loop = gone_on (read_step g (bits_of bytes)) (count g) _ k _ i.loop (record { next = r.next; slices = left }) h (step_on g bytes at k u r left m z);
           }
 
-      pub stop-early : (r.refused ≡ 0 → ⊥) → ReadThrough g bytes start u₀ (record { refused = r.refused; done = k; next = at }) left
-      unfolding readPlane readUpTo
-      stop-early e =
+      pub stop_early : (r.refused ≡ 0 → ⊥) → ReadThrough g bytes start u₀ (record { refused = r.refused; done = k; next = at }) left
+      unfolding read_plane read_up_to
+      stop_early e =
           let left_is : left ≡ u = rw (ne_eqb r.refused 0 e) at m.slices in
-          ends-early (read_step g (bits_of bytes)) (count g) _ k _ i.loop r.refused h (step-stop g bytes at k u r left m e) ∙ rw left_is
+          ends_early (read_step g (bits_of bytes)) (count g) _ k _ i.loop r.refused h (step_stop g bytes at k u r left m e) ∙ rw left_is
 
-    pub stop-last : count g ≤ k → ReadThrough g bytes start u₀ (record { refused = 0; done = k; next = at }) u
-    unfolding readPlane readUpTo
-    stop-last h = ends_last (read_step g (bits_of bytes)) (count g) _ k _ i.loop h
+    pub stop_last : count g ≤ k → ReadThrough g bytes start u₀ (record { refused = 0; done = k; next = at }) u
+    unfolding read_plane read_up_to
+    stop_last h = ends_last (read_step g (bits_of bytes)) (count g) _ k _ i.loop h
 
 -- ---- refusals, by the code's tests
-module _ (g : Given) (bytes start : ℕ) (l : SliceLengths) (plane : ℕ) (e : plane ≡ or_else (sizeRefusal g.width g.height) (canvasRefusal g.width g.height g.reference)) where
+module _ (g : Given) (bytes start : ℕ) (l : SliceLengths) (plane : ℕ) (e : plane ≡ or_else (size_refusal g.width g.height) (canvas_refusal g.width g.height g.reference)) where
   abbrev before : List ℕ
-  before = canvasLinks g.width g.height g.reference
+  before = canvas_links g.width g.height g.reference
 
-  pub by-plane : (plane ≡ 0 → ⊥) → plane ≡ readRefusalBy g bytes start l
-  unfolding readRefusalBy
-  by-plane h = chain-met plane before (lentLinks g bytes start l) (e ∙ sym (two-links _ _)) h
+  pub by_plane : (plane ≡ 0 → ⊥) → plane ≡ read_refusal_by g bytes start l
+  unfolding read_refusal_by
+  by_plane h = chain_met plane before (lent_links g bytes start l) (e ∙ sym (two_links _ _)) h
 
-  pub by-lent : (n : ℕ) → plane ≡ 0 → n ≡ first_of (lentLinks g bytes start l) → n ≡ readRefusalBy g bytes start l
-  unfolding readRefusalBy
-  by-lent n z q = chain-passed n before (lentLinks g bytes start l) (two-links _ _ ∙ sym e ∙ z) q
+  pub by_lent : (n : ℕ) → plane ≡ 0 → n ≡ first_of (lent_links g bytes start l) → n ≡ read_refusal_by g bytes start l
+  unfolding read_refusal_by
+  by_lent n z q = chain_passed n before (lent_links g bytes start l) (two_links _ _ ∙ sym e ∙ z) q
 
 -- ---- the call
 module _ (g : Given) (bytes : List ℕ) (start : ℕ) (u : Slices) where
-  pub call-refused : (n : ℕ) → n ≡ readRefusal g bytes start u → (n ≡ 0 → ⊥) → PlaneRead g bytes start u (readEndOf (record { refused = n; done = 0; next = 0 })) u
-  unfolding readPlaneAnswer readSlices
-  call-refused n e h =
-      let no : eqb (readRefusal g bytes start u) 0 ≡ false = ne_eqb (readRefusal g bytes start u) 0 (λ z. h (e ∙ z)) in
-      record { answer = rw (no, ← e); left-slices = rw no }
+  pub call_refused : (n : ℕ) → n ≡ read_refusal g bytes start u → (n ≡ 0 → ⊥) → PlaneRead g bytes start u (read_end_of (record { refused = n; done = 0; next = 0 })) u
+  unfolding read_plane_answer read_slices
+  call_refused n e h =
+      let no : eqb (read_refusal g bytes start u) 0 ≡ false = ne_eqb (read_refusal g bytes start u) 0 (λ z. h (e ∙ z)) in
+      record { answer = rw (no, ← e); left_slices = rw no }
 
-  pub call-read : (r : ReadEnd) (left : Slices) → readRefusal g bytes start u ≡ 0 → ReadThrough g bytes start u r left → PlaneRead g bytes start u (readEndOf r) left
-  unfolding readPlaneAnswer readSlices
-  call-read r left z e =
-      let yes : eqb (readRefusal g bytes start u) 0 ≡ true = eq-eqb (readRefusal g bytes start u) 0 z in
-      record { answer = rw (yes, e); left-slices = rw (yes, e) }
+  pub call_read : (r : ReadEnd) (left : Slices) → read_refusal g bytes start u ≡ 0 → ReadThrough g bytes start u r left → PlaneRead g bytes start u (read_end_of r) left
+  unfolding read_plane_answer read_slices
+  call_read r left z e =
+      let yes : eqb (read_refusal g bytes start u) 0 ≡ true = eq-eqb (read_refusal g bytes start u) 0 z in
+      record { answer = rw (yes, e); left_slices = rw (yes, e) }

@@ -1,10 +1,10 @@
 // The plane reader.
 pub mod inner;
 
-ghost use Rattle.macroblock.specs.MacroblockNeeds.{givenBy};
-ghost use Rattle.macroblock.specs.Slices.{slicesBy};
+ghost use Rattle.macroblock.specs.MacroblockNeeds.{given_by};
+ghost use Rattle.macroblock.specs.Slices.{slices_by};
 ghost use Rattle.plane.specs.Calls.{PlaneRead};
-ghost use Rattle.plane_dec.specs.ReaderNeeds.{readEndOf};
+ghost use Rattle.plane_dec.specs.ReaderNeeds.{read_end_of};
 
 use super::svq1_plane::inner::{read_accepted, read_refusal};
 use canvas::svq1_plane::Svq1PlaneCanvas;
@@ -32,7 +32,7 @@ pub fn decode_inter_plane(
     vx: &mut [u8],
     vy: &mut [u8],
 ) -> ReadEnd
-    ensures { PlaneRead (givenBy canvas reference.now book.now codebook.now) bytes.now start (slicesBy recon.old vx.old vy.old) (readEndOf result) (slicesBy recon.new vx.new vy.new) }
+    ensures { PlaneRead (given_by canvas reference.now book.now codebook.now) bytes.now start (slices_by recon.old vx.old vy.old) (read_end_of result) (slices_by recon.new vx.new vy.new) }
 {
     let slices = SliceLengths {
         recon: recon.len(),

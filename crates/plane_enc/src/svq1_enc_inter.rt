@@ -1,12 +1,12 @@
 // The plane writer.
 pub mod inner;
 
-ghost use Rattle.macroblock_choice.specs.ChosenNeeds.{taskBy};
-ghost use Rattle.macroblock.specs.MacroblockNeeds.{givenBy};
+ghost use Rattle.macroblock_choice.specs.ChosenNeeds.{task_by};
+ghost use Rattle.macroblock.specs.MacroblockNeeds.{given_by};
 ghost use Rattle.plane.specs.Calls.{PlaneWritten};
 ghost use Rattle.plane_enc.specs.Stated.{PlaneStated};
-ghost use Rattle.plane_enc.specs.WriterNeeds.{writeEndOf};
-ghost use Rattle.macroblock.specs.Slices.{slicesBy, lent_by};
+ghost use Rattle.plane_enc.specs.WriterNeeds.{write_end_of};
+ghost use Rattle.macroblock.specs.Slices.{slices_by, lent_by};
 
 use super::svq1_enc_inter::inner::{write_accepted, write_refusal};
 use canvas::svq1_plane::Svq1PlaneCanvas;
@@ -41,7 +41,7 @@ pub fn encode_inter_plane(
     vx: &mut [u8],
     vy: &mut [u8],
 ) -> WriteEnd
-    ensures { PlaneWritten (givenBy canvas reference.now book.now codebook.now) (taskBy source.now settings) start (lent_by out.old (slicesBy recon.old vx.old vy.old)) (writeEndOf result) (lent_by out.new (slicesBy recon.new vx.new vy.new)) }
+    ensures { PlaneWritten (given_by canvas reference.now book.now codebook.now) (task_by source.now settings) start (lent_by out.old (slices_by recon.old vx.old vy.old)) (write_end_of result) (lent_by out.new (slices_by recon.new vx.new vy.new)) }
 {
     let mut none = [0u32; 1];
     encode_inter_plane_stated(
@@ -65,7 +65,7 @@ pub fn encode_inter_plane_stated(
     vy: &mut [u8],
     stated: &mut [u32],
 ) -> WriteEnd
-    ensures { PlaneStated (givenBy canvas reference.now book.now codebook.now) (taskBy source.now settings) start (lent_by out.old (slicesBy recon.old vx.old vy.old)) stated.old (writeEndOf result) (lent_by out.new (slicesBy recon.new vx.new vy.new)) stated.new }
+    ensures { PlaneStated (given_by canvas reference.now book.now codebook.now) (task_by source.now settings) start (lent_by out.old (slices_by recon.old vx.old vy.old)) stated.old (write_end_of result) (lent_by out.new (slices_by recon.new vx.new vy.new)) stated.new }
 {
     let slices = SliceLengths {
         recon: recon.len(),

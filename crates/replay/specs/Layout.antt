@@ -1,7 +1,7 @@
 -- The fixed list of jobs and answers, byte by byte (oracle/README.md, "The fixed list").
 use Rattle.std.specs.Prelude.{ℕ, ◌+◌, ◌*◌, ◌/◌, ◌%◌, ◌≤◌, not, List, [], ◌∷◌, eqb, leb, ltb, length, take, drop, get_or}
 use Rattle.bits.specs.Basics.{pick}
-use Rattle.book.specs.Book.{bookBytes, codebookBytes}
+use Rattle.book.specs.Book.{book_bytes, codebook_bytes}
 use Rattle.canvas.specs.Canvas.{padded16}
 use Rattle.replay.specs.declared.inner.file.Scene.{Scene}
 use Rattle.replay.specs.declared.inner.file.SceneRead.{SceneRead}
@@ -10,8 +10,8 @@ use Rattle.replay.specs.declared.inner.file.JobRead.{JobRead}
 use Rattle.replay.specs.declared.inner.file.JobRead.TheVariants as job
 
 -- the n bytes at a place; none where they are not all there
-unfoldable pub partIn : List ℕ → ℕ → ℕ → List ℕ
-partIn t at n = pick (leb (at + n) (length t)) (take n (drop at t)) []
+unfoldable pub part_in : List ℕ → ℕ → ℕ → List ℕ
+part_in t at n = pick (leb (at + n) (length t)) (take n (drop at t)) []
 
 -- the number that bytes stand for, lowest first
 unfoldable pub little : List ℕ → ℕ
@@ -23,27 +23,27 @@ unfoldable pub number_in : List ℕ → ℕ
 number_in t = pick (leb (length t) 8) (little t) 0
 
 -- how many bytes n bits take
-unfoldable pub bytesFor : ℕ → ℕ
-bytesFor n = pick (eqb (n % 8) 0) (n / 8) (n / 8 + 1)
+unfoldable pub bytes_for : ℕ → ℕ
+bytes_for n = pick (eqb (n % 8) 0) (n / 8) (n / 8 + 1)
 
 -- the largest side of a scene that the program takes, and the samples of the largest canvas
-abbrev pub mostSide : ℕ
-mostSide = 64
+abbrev pub most_side : ℕ
+most_side = 64
 
-abbrev pub mostSize : ℕ
-mostSize = 4096
+abbrev pub most_size : ℕ
+most_size = 4096
 
 -- its macroblocks
-abbrev pub mostJobBlocks : ℕ
-mostJobBlocks = 16
+abbrev pub most_job_blocks : ℕ
+most_job_blocks = 16
 
 -- the first n bytes of what stands at a place are there
 abbrev pub Begun : ℕ → ℕ → ℕ → Type 0
 Begun bytes at n = at + n ≤ bytes
 
 -- a scene of a width and a height: both numbers, source, reference, number of jobs, jobs
-abbrev pub jobsAt : ℕ → ℕ → ℕ → ℕ
-jobsAt at w h = at + 4 + w * h + padded16 w * padded16 h
+abbrev pub jobs_at : ℕ → ℕ → ℕ → ℕ
+jobs_at at w h = at + 4 + w * h + padded16 w * padded16 h
 
 abbrev pub scene_of : List ℕ → ℕ → ℕ → ℕ → Scene
 scene_of t at w h = record {
@@ -52,40 +52,40 @@ scene_of t at w h = record {
   size = padded16 w * padded16 h;
   source = at + 4;
   reference = at + 4 + w * h;
-  jobs = get_or t (jobsAt at w h) 0;
-  first = jobsAt at w h + 1;
+  jobs = get_or t (jobs_at at w h) 0;
+  first = jobs_at at w h + 1;
 }
 
-unfoldable pub sizedIn : List ℕ → ℕ → ℕ → ℕ → SceneRead
-sizedIn t at w h = pick (ltb (jobsAt at w h) (length t)) (scene.Whole (scene_of t at w h)) scene.Ends
+unfoldable pub sized_in : List ℕ → ℕ → ℕ → ℕ → SceneRead
+sized_in t at w h = pick (ltb (jobs_at at w h) (length t)) (scene.Whole (scene_of t at w h)) scene.Ends
 
 -- the scene at a place
-unfoldable pub sceneIn : List ℕ → ℕ → SceneRead
-sceneIn t at =
-    let w = number_in (partIn t at 2) in
-    let h = number_in (partIn t (at + 2) 2) in
-    pick (leb (at + 4) (length t)) (pick (leb w mostSide) (pick (leb h mostSide) (sizedIn t at w h) scene.TooLarge) scene.TooLarge) scene.Ends
+unfoldable pub scene_in : List ℕ → ℕ → SceneRead
+scene_in t at =
+    let w = number_in (part_in t at 2) in
+    let h = number_in (part_in t (at + 2) 2) in
+    pick (leb (at + 4) (length t)) (pick (leb w most_side) (pick (leb h most_side) (sized_in t at w h) scene.TooLarge) scene.TooLarge) scene.Ends
 
 -- where a book and a codebook stand: the books behind the list's three numbers, the codebooks behind the books
-abbrev pub bookAt : ℕ → ℕ
-bookAt k = 4 + bookBytes * k
+abbrev pub book_at : ℕ → ℕ
+book_at k = 4 + book_bytes * k
 
-abbrev pub codebookAt : ℕ → ℕ → ℕ
-codebookAt books k = 4 + bookBytes * books + codebookBytes * k
+abbrev pub codebook_at : ℕ → ℕ → ℕ
+codebook_at books k = 4 + book_bytes * books + codebook_bytes * k
 
 -- a job with an answer of n bits: book, codebook, lambda, radius, flag, bit count, bits, macroblocks, reconstruction, x and y of the vectors
-unfoldable pub measuredIn : List ℕ → ℕ → ℕ → ℕ → ℕ → JobRead
-measuredIn t books size at n =
+unfoldable pub measured_in : List ℕ → ℕ → ℕ → ℕ → ℕ → JobRead
+measured_in t books size at n =
     let blocks = size / 256 in
-    let steps = at + 16 + bytesFor n in
+    let steps = at + 16 + bytes_for n in
     let recon = steps + 7 * blocks in
     let vx = recon + size in
     let vy = vx + 4 * blocks in
     pick (leb (vy + 4 * blocks) (length t))
     (job.Whole (record {
-      book = bookAt (get_or t at 0);
-      codebook = codebookAt books (get_or t (at + 1) 0);
-      lambda = number_in (partIn t (at + 2) 8);
+      book = book_at (get_or t at 0);
+      codebook = codebook_at books (get_or t (at + 1) 0);
+      lambda = number_in (part_in t (at + 2) 8);
       radius = get_or t (at + 10) 0;
       four = not (eqb (get_or t (at + 11) 0) 0);
       count = n;
@@ -99,5 +99,5 @@ measuredIn t books size at n =
     job.Ends
 
 -- the job at a place
-unfoldable pub jobOfList : List ℕ → ℕ → ℕ → ℕ → JobRead
-jobOfList t books size at = pick (leb (at + 16) (length t)) (measuredIn t books size at (number_in (partIn t (at + 12) 4))) job.Ends
+unfoldable pub job_of_list : List ℕ → ℕ → ℕ → ℕ → JobRead
+job_of_list t books size at = pick (leb (at + 16) (length t)) (measured_in t books size at (number_in (part_in t (at + 12) 4))) job.Ends

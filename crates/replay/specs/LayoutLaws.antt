@@ -15,29 +15,29 @@ use Rattle.replay.specs.declared.inner.file.SceneRead.{SceneRead}
 use Rattle.replay.specs.declared.inner.file.SceneRead.TheVariants as scene
 use Rattle.replay.specs.declared.inner.file.JobRead.{JobRead}
 use Rattle.replay.specs.declared.inner.file.JobRead.TheVariants as job
-use Rattle.replay.specs.Layout.{partIn, little, number_in, bytesFor, mostSide, mostSize, jobsAt, scene_of, bookAt, codebookAt, sizedIn, sceneIn, measuredIn, jobOfList}
+use Rattle.replay.specs.Layout.{part_in, little, number_in, bytes_for, most_side, most_size, jobs_at, scene_of, book_at, codebook_at, sized_in, scene_in, measured_in, job_of_list}
 
 -- ---- parts
-pub part_off : (t : List ℕ) (at n : ℕ) → length t < at + n → ◌≡◌ {A = List ℕ} [] (partIn t at n)
-unfolding partIn
+pub part_off : (t : List ℕ) (at n : ℕ) → length t < at + n → ◌≡◌ {A = List ℕ} [] (part_in t at n)
+unfolding part_in
 part_off t at n h = rw (lt-leb (at + n) (length t) h)
 
-pub part-on : (t : List ℕ) (at n : ℕ) → at + n ≤ length t → take (at + n - at) (drop at t) ≡ partIn t at n
-unfolding partIn
-part-on t at n h =
+pub part_on : (t : List ℕ) (at n : ℕ) → at + n ≤ length t → take (at + n - at) (drop at t) ≡ part_in t at n
+unfolding part_in
+part_on t at n h =
     let m : at + n - at ≡ n = omega arith in
     rw (le-leb (at + n) (length t) h, m)
 
 -- ---- numbers
-above-none : (n : ℕ) → 0 < 256 ^ n
-above-none zero = omega arith
-above-none (suc n) = rw pow-suc (omega (arith, above-none n))
+above_none : (n : ℕ) → 0 < 256 ^ n
+above_none zero = omega arith
+above_none (suc n) = rw pow-suc (omega (arith, above_none n))
 
-little-low : (n : ℕ) (t : List ℕ) → Bytes t → length t ≤ n → little t < 256 ^ n
+little_low : (n : ℕ) (t : List ℕ) → Bytes t → length t ≤ n → little t < 256 ^ n
 unfolding little
-little-low n [] b h = above-none n
-little-low zero (x ∷ t) b h = absurd (omega arith)
-little-low (suc n) (x ∷ t) b h = rw pow-suc (omega (arith, little-low n t (λ k. b (suc k)) (omega arith), b 0))
+little_low n [] b h = above_none n
+little_low zero (x ∷ t) b h = absurd (omega arith)
+little_low (suc n) (x ∷ t) b h = rw pow-suc (omega (arith, little_low n t (λ k. b (suc k)) (omega arith), b 0))
 
 module _ (t : List ℕ) (b : Bytes t) (i n : ℕ) (low : 0 < i) (most : i ≤ length t) (few : length t ≤ 8) (e : n ≡ little (drop i t)) where
   -- with one byte more it still has at most 64 bits
@@ -45,7 +45,7 @@ module _ (t : List ℕ) (b : Bytes t) (i n : ℕ) (low : 0 < i) (most : i ≤ le
   short =
       let here : Bytes (drop i t) = λ k. rw (get_or-drop i t k 0) (b (i + k)) in
       let l : length (drop i t) ≤ 7 = rw length-drop (omega arith) in
-      rw e (little-low 7 (drop i t) here l)
+      rw e (little_low 7 (drop i t) here l)
 
   pub one_byte : 256 * n + get_or t (i - 1) 0 ≡ little (drop (i - 1) t)
   unfolding little
@@ -59,79 +59,79 @@ pub no_byte : (t : List ℕ) → 0 ≡ little (drop (length t) t)
 unfolding little
 no_byte t = rw (drop-length t)
 
-pub number-many : (t : List ℕ) → 8 < length t → 0 ≡ number_in t
+pub number_many : (t : List ℕ) → 8 < length t → 0 ≡ number_in t
 unfolding number_in
-number-many t h = rw (lt-leb (length t) 8 h)
+number_many t h = rw (lt-leb (length t) 8 h)
 
-pub number-few : (t : List ℕ) → length t ≤ 8 → little t ≡ number_in t
+pub number_few : (t : List ℕ) → length t ≤ 8 → little t ≡ number_in t
 unfolding number_in
-number-few t h = rw (le-leb (length t) 8 h)
+number_few t h = rw (le-leb (length t) 8 h)
 
 -- ---- bytes for bits
-pub bytes_whole : (n : ℕ) → n % 8 ≡ 0 → n / 8 ≡ bytesFor n
-unfolding bytesFor
+pub bytes_whole : (n : ℕ) → n % 8 ≡ 0 → n / 8 ≡ bytes_for n
+unfolding bytes_for
 bytes_whole n e = rw (eq-eqb (n % 8) 0 e)
 
-pub bytes-more : (n : ℕ) → (n % 8 ≡ 0 → ⊥) → n / 8 + 1 ≡ bytesFor n
-unfolding bytesFor
-bytes-more n e = rw (ne_eqb (n % 8) 0 e)
+pub bytes_more : (n : ℕ) → (n % 8 ≡ 0 → ⊥) → n / 8 + 1 ≡ bytes_for n
+unfolding bytes_for
+bytes_more n e = rw (ne_eqb (n % 8) 0 e)
 
 -- ---- a scene
 module _ (t : List ℕ) (at w h s r : ℕ) (wide : s ≡ padded16 w) (high : r ≡ padded16 h) where
-  pub sized-ends : at ≤ length t → length t - at ≤ 4 + w * h + s * r → scene.Ends ≡ sizedIn t at w h
-  unfolding sizedIn
-  sized-ends l m =
+  pub sized_ends : at ≤ length t → length t - at ≤ 4 + w * h + s * r → scene.Ends ≡ sized_in t at w h
+  unfolding sized_in
+  sized_ends l m =
       let a : s * r ≡ padded16 w * padded16 h = rw (wide, high) in
-      let n : length t ≤ jobsAt at w h = omega arith in
-      rw (le-ltb (jobsAt at w h) (length t) n)
+      let n : length t ≤ jobs_at at w h = omega arith in
+      rw (le-ltb (jobs_at at w h) (length t) n)
 
-  pub sized-whole : (j : ℕ) → 4 + w * h + s * r < length t - at → j ≡ get_or t (at + 4 + w * h + s * r) 0
+  pub sized_whole : (j : ℕ) → 4 + w * h + s * r < length t - at → j ≡ get_or t (at + 4 + w * h + s * r) 0
       → scene.Whole (record { canvas = record { width = w; height = h; stride = s; rows = r }; samples = w * h; size = s * r; source = at + 4; reference = at + 4 + w * h; jobs = j; first = at + 4 + w * h + s * r + 1 })
-      ≡ sizedIn t at w h
-  unfolding sizedIn
-  sized-whole j m e =
+      ≡ sized_in t at w h
+  unfolding sized_in
+  sized_whole j m e =
       let a : s * r ≡ padded16 w * padded16 h = rw (wide, high) in
-      let n : jobsAt at w h < length t = omega arith in
-      rw (lt-ltb (jobsAt at w h) (length t) n, e, wide, high)
+      let n : jobs_at at w h < length t = omega arith in
+      rw (lt-ltb (jobs_at at w h) (length t) n, e, wide, high)
 
 module _ (t : List ℕ) (at : ℕ) where
-  pub scene-short : length t < at + 4 → scene.Ends ≡ sceneIn t at
-  unfolding sceneIn
-  scene-short h = rw (lt-leb (at + 4) (length t) h)
+  pub scene_short : length t < at + 4 → scene.Ends ≡ scene_in t at
+  unfolding scene_in
+  scene_short h = rw (lt-leb (at + 4) (length t) h)
 
-  module _ (begun : at + 4 ≤ length t) (w h : ℕ) (ew : w ≡ number_in (partIn t at 2)) (eh : h ≡ number_in (partIn t (at + 2) 2)) where
-    pub scene-wide : mostSide < w → scene.TooLarge ≡ sceneIn t at
-    unfolding sceneIn
-    scene-wide m = rw (le-leb (at + 4) (length t) begun, ← ew, lt-leb w mostSide m)
+  module _ (begun : at + 4 ≤ length t) (w h : ℕ) (ew : w ≡ number_in (part_in t at 2)) (eh : h ≡ number_in (part_in t (at + 2) 2)) where
+    pub scene_wide : most_side < w → scene.TooLarge ≡ scene_in t at
+    unfolding scene_in
+    scene_wide m = rw (le-leb (at + 4) (length t) begun, ← ew, lt-leb w most_side m)
 
-    pub scene-high : w ≤ mostSide → mostSide < h → scene.TooLarge ≡ sceneIn t at
-    unfolding sceneIn
-    scene-high l m = rw (le-leb (at + 4) (length t) begun, ← ew, ← eh, le-leb w mostSide l, lt-leb h mostSide m)
+    pub scene_high : w ≤ most_side → most_side < h → scene.TooLarge ≡ scene_in t at
+    unfolding scene_in
+    scene_high l m = rw (le-leb (at + 4) (length t) begun, ← ew, ← eh, le-leb w most_side l, lt-leb h most_side m)
 
-    pub scene-sized : (r : SceneRead) → w ≤ mostSide → h ≤ mostSide → r ≡ sizedIn t at w h → r ≡ sceneIn t at
-    unfolding sceneIn
-    scene-sized r l m e = rw (le-leb (at + 4) (length t) begun, ← ew, ← eh, le-leb w mostSide l, le-leb h mostSide m) e
+    pub scene_sized : (r : SceneRead) → w ≤ most_side → h ≤ most_side → r ≡ sized_in t at w h → r ≡ scene_in t at
+    unfolding scene_in
+    scene_sized r l m e = rw (le-leb (at + 4) (length t) begun, ← ew, ← eh, le-leb w most_side l, le-leb h most_side m) e
 
 -- the largest canvas
-pub small-area : (a b : ℕ) → a ≤ mostSide → b ≤ mostSide → a * b ≤ mostSize
-small-area a b h k = mul-le-mul h k
+pub small_area : (a b : ℕ) → a ≤ most_side → b ≤ most_side → a * b ≤ most_size
+small_area a b h k = mul-le-mul h k
 
 -- ---- a job
-module _ (t : List ℕ) (books size at n bytes : ℕ) (e : bytes ≡ bytesFor n) where
+module _ (t : List ℕ) (books size at n bytes : ℕ) (e : bytes ≡ bytes_for n) where
   abbrev blocks : ℕ
   blocks = size / 256
 
-  pub measured-ends : at ≤ length t → length t - at < 16 + bytes + 7 * blocks + size + 4 * blocks + 4 * blocks → job.Ends ≡ measuredIn t books size at n
-  unfolding measuredIn
-  measured-ends l m =
-      let s : length t < at + 16 + bytesFor n + 7 * blocks + size + 4 * blocks + 4 * blocks = omega arith in
-      rw (lt-leb (at + 16 + bytesFor n + 7 * blocks + size + 4 * blocks + 4 * blocks) (length t) s)
+  pub measured_ends : at ≤ length t → length t - at < 16 + bytes + 7 * blocks + size + 4 * blocks + 4 * blocks → job.Ends ≡ measured_in t books size at n
+  unfolding measured_in
+  measured_ends l m =
+      let s : length t < at + 16 + bytes_for n + 7 * blocks + size + 4 * blocks + 4 * blocks = omega arith in
+      rw (lt-leb (at + 16 + bytes_for n + 7 * blocks + size + 4 * blocks + 4 * blocks) (length t) s)
 
-  module _ (b k l r f : ℕ) (book : b ≡ get_or t at 0) (codebook : k ≡ get_or t (at + 1) 0) (lambda : l ≡ number_in (partIn t (at + 2) 8)) (radius : r ≡ get_or t (at + 10) 0) (flag : f ≡ get_or t (at + 11) 0) where
-    pub measured-whole : at ≤ length t → 16 + bytes + 7 * blocks + size + 4 * blocks + 4 * blocks ≤ length t - at
+  module _ (b k l r f : ℕ) (book : b ≡ get_or t at 0) (codebook : k ≡ get_or t (at + 1) 0) (lambda : l ≡ number_in (part_in t (at + 2) 8)) (radius : r ≡ get_or t (at + 10) 0) (flag : f ≡ get_or t (at + 11) 0) where
+    pub measured_whole : at ≤ length t → 16 + bytes + 7 * blocks + size + 4 * blocks + 4 * blocks ≤ length t - at
         → job.Whole (record {
-          book = bookAt b;
-          codebook = codebookAt books k;
+          book = book_at b;
+          codebook = codebook_at books k;
           lambda = l;
           radius = r;
           four = not (eqb f 0);
@@ -142,46 +142,46 @@ module _ (t : List ℕ) (books size at n bytes : ℕ) (e : bytes ≡ bytesFor n)
           vx = at + 16 + bytes + 7 * blocks + size;
           vy = at + 16 + bytes + 7 * blocks + size + 4 * blocks;
           next = at + 16 + bytes + 7 * blocks + size + 4 * blocks + 4 * blocks;
-        }) ≡ measuredIn t books size at n
-    unfolding measuredIn
-    measured-whole h m =
-        let s : at + 16 + bytesFor n + 7 * blocks + size + 4 * blocks + 4 * blocks ≤ length t = omega arith in
-        rw (le-leb (at + 16 + bytesFor n + 7 * blocks + size + 4 * blocks + 4 * blocks) (length t) s, book, codebook, lambda, radius, flag, e)
+        }) ≡ measured_in t books size at n
+    unfolding measured_in
+    measured_whole h m =
+        let s : at + 16 + bytes_for n + 7 * blocks + size + 4 * blocks + 4 * blocks ≤ length t = omega arith in
+        rw (le-leb (at + 16 + bytes_for n + 7 * blocks + size + 4 * blocks + 4 * blocks) (length t) s, book, codebook, lambda, radius, flag, e)
 
 module _ (t : List ℕ) (books size at : ℕ) where
-  pub job-short : length t < at + 16 → job.Ends ≡ jobOfList t books size at
-  unfolding jobOfList
-  job-short h = rw (lt-leb (at + 16) (length t) h)
+  pub job_short : length t < at + 16 → job.Ends ≡ job_of_list t books size at
+  unfolding job_of_list
+  job_short h = rw (lt-leb (at + 16) (length t) h)
 
-  pub job-measured : (n : ℕ) (r : JobRead) → at + 16 ≤ length t → n ≡ number_in (partIn t (at + 12) 4) → r ≡ measuredIn t books size at n → r ≡ jobOfList t books size at
-  unfolding jobOfList
-  job-measured n r h e q = rw (le-leb (at + 16) (length t) h, ← e) q
+  pub job_measured : (n : ℕ) (r : JobRead) → at + 16 ≤ length t → n ≡ number_in (part_in t (at + 12) 4) → r ≡ measured_in t books size at n → r ≡ job_of_list t books size at
+  unfolding job_of_list
+  job_measured n r h e q = rw (le-leb (at + 16) (length t) h, ← e) q
 
 -- ---- a scene that is read is not too large
-no-scene : (r : SceneRead) (s : Scene) → r ≡ scene.Whole s → r ≡ scene.Ends → ⊥
-no-scene r s e f = let z : ◌≡◌ {A = ℕ} 0 1 = cc in omega arith
+no_scene : (r : SceneRead) (s : Scene) → r ≡ scene.Whole s → r ≡ scene.Ends → ⊥
+no_scene r s e f = let z : ◌≡◌ {A = ℕ} 0 1 = cc in omega arith
 
-no-large : (r : SceneRead) (s : Scene) → r ≡ scene.Whole s → r ≡ scene.TooLarge → ⊥
-no-large r s e f = let z : ◌≡◌ {A = ℕ} 0 1 = cc in omega arith
+no_large : (r : SceneRead) (s : Scene) → r ≡ scene.Whole s → r ≡ scene.TooLarge → ⊥
+no_large r s e f = let z : ◌≡◌ {A = ℕ} 0 1 = cc in omega arith
 
-picked : (q : Bool) (u s : Scene) → u.size ≤ mostSize → pick q (scene.Whole u) scene.Ends ≡ scene.Whole s → s.size ≤ mostSize
+picked : (q : Bool) (u s : Scene) → u.size ≤ most_size → pick q (scene.Whole u) scene.Ends ≡ scene.Whole s → s.size ≤ most_size
 picked true u s h e =
     let same : u ≡ s = cc in
     rw (← same) h
-picked false u s h e = absurd (no-scene scene.Ends s e refl)
+picked false u s h e = absurd (no_scene scene.Ends s e refl)
 
 module _ (t : List ℕ) (at : ℕ) (s : Scene) where
-  sized-small : (w h : ℕ) → w ≤ mostSide → h ≤ mostSide → sizedIn t at w h ≡ scene.Whole s → s.size ≤ mostSize
-  unfolding sizedIn
-  sized-small w h l m e = picked (ltb (jobsAt at w h) (length t)) (scene_of t at w h) s (small-area (padded16 w) (padded16 h) (omega arith) (omega arith)) e
+  sized_small : (w h : ℕ) → w ≤ most_side → h ≤ most_side → sized_in t at w h ≡ scene.Whole s → s.size ≤ most_size
+  unfolding sized_in
+  sized_small w h l m e = picked (ltb (jobs_at at w h) (length t)) (scene_of t at w h) s (small_area (padded16 w) (padded16 h) (omega arith) (omega arith)) e
 
-  by_tests : (a b c : Bool) (w h : ℕ) → leb w mostSide ≡ b → leb h mostSide ≡ c
-      → pick a (pick b (pick c (sizedIn t at w h) scene.TooLarge) scene.TooLarge) scene.Ends ≡ scene.Whole s → s.size ≤ mostSize
-  by_tests false b c w h l m e = absurd (no-scene scene.Ends s e refl)
-  by_tests true false c w h l m e = absurd (no-large scene.TooLarge s e refl)
-  by_tests true true false w h l m e = absurd (no-large scene.TooLarge s e refl)
-  by_tests true true true w h l m e = sized-small w h (leb-true w mostSide l) (leb-true h mostSide m) e
+  by_tests : (a b c : Bool) (w h : ℕ) → leb w most_side ≡ b → leb h most_side ≡ c
+      → pick a (pick b (pick c (sized_in t at w h) scene.TooLarge) scene.TooLarge) scene.Ends ≡ scene.Whole s → s.size ≤ most_size
+  by_tests false b c w h l m e = absurd (no_scene scene.Ends s e refl)
+  by_tests true false c w h l m e = absurd (no_large scene.TooLarge s e refl)
+  by_tests true true false w h l m e = absurd (no_large scene.TooLarge s e refl)
+  by_tests true true true w h l m e = sized_small w h (leb-true w most_side l) (leb-true h most_side m) e
 
-  pub scene-small : sceneIn t at ≡ scene.Whole s → s.size ≤ mostSize
-  unfolding sceneIn
-  scene-small e = by_tests (leb (at + 4) (length t)) _ _ (number_in (partIn t at 2)) (number_in (partIn t (at + 2) 2)) refl refl e
+  pub scene_small : scene_in t at ≡ scene.Whole s → s.size ≤ most_size
+  unfolding scene_in
+  scene_small e = by_tests (leb (at + 4) (length t)) _ _ (number_in (part_in t at 2)) (number_in (part_in t (at + 2) 2)) refl refl e

@@ -6,22 +6,22 @@ use Rattle.plane_enc.specs.declared.svq1_enc_inter.WriteEnd.{WriteEnd}
 use Rattle.replay.specs.declared.inner.compare.Difference.{Difference}
 use Rattle.replay.specs.declared.inner.compare.Difference.TheVariants.{Same}
 use Rattle.replay.specs.declared.inner.tally.Tally.{Tally}
-use Rattle.replay.specs.Compare.{isSame, modesIn}
+use Rattle.replay.specs.Compare.{is_same, modes_in}
 
 abbrev pub none : Tally
 none = record { jobs = 0; blocks = 0; inter = 0; four = 0; intra = 0; skip = 0; bits = 0; error = 0; written = Same; read = Same }
 
 -- one job: the macroblocks that the writer did, of at most so many, by what it told of them, and its totals
-unfoldable pub talliedOf : List ℕ → ℕ → WriteEnd → Difference → Difference → Tally
-talliedOf s blocks w written read =
+unfoldable pub tallied_of : List ℕ → ℕ → WriteEnd → Difference → Difference → Tally
+tallied_of s blocks w written read =
     let done = min w.done blocks in
     record {
       jobs = 1;
       blocks = done;
-      inter = modesIn s 0 done;
-      four = modesIn s 1 done;
-      intra = modesIn s 2 done;
-      skip = modesIn s 3 done;
+      inter = modes_in s 0 done;
+      four = modes_in s 1 done;
+      intra = modes_in s 2 done;
+      skip = modes_in s 3 done;
       bits = w.bits;
       error = w.error;
       written = written;
@@ -39,6 +39,6 @@ added a b = record {
   skip = saturated (a.skip + b.skip);
   bits = saturated (a.bits + b.bits);
   error = saturated (a.error + b.error);
-  written = pick (isSame a.written) b.written a.written;
-  read = pick (isSame a.read) b.read a.read;
+  written = pick (is_same a.written) b.written a.written;
+  read = pick (is_same a.read) b.read a.read;
 }

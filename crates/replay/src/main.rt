@@ -1,6 +1,6 @@
 // Replays the fixed list: every job is written and read back, and all that is left is compared with what the original answered.
 ghost use Rattle.std.specs.Prelude.{◌≡◌, ◌≤◌, length};
-ghost use Rattle.replay.specs.Layout.{mostSize};
+ghost use Rattle.replay.specs.Layout.{most_size};
 
 mod inner;
 
@@ -29,7 +29,7 @@ fn stopped(at: usize) -> Replayed {
 }
 
 fn replay_next(file: &[u8], books: u8, s: Scene, at: usize) -> Replayed
-    requires { s.size ≤ mostSize }
+    requires { s.size ≤ most_size }
 {
     match read_job(file, books, s.size, at) {
         JobRead::Whole(j) => {
@@ -46,7 +46,7 @@ fn replay_next(file: &[u8], books: u8, s: Scene, at: usize) -> Replayed
 
 // The jobs of a scene.
 fn replay_jobs(file: &[u8], books: u8, s: Scene) -> Replayed
-    requires { s.size ≤ mostSize }
+    requires { s.size ≤ most_size }
 {
     let mut tally = no_tally();
     let mut at = s.first;
@@ -111,7 +111,7 @@ fn too_short(k: u64, at: usize) -> Replayed {
 
 // A scene small enough, and its line.
 fn replay_whole(file: &[u8], books: u8, k: u64, s: Scene) -> Replayed
-    requires { s.size ≤ mostSize }
+    requires { s.size ≤ most_size }
 {
     let r = replay_jobs(file, books, s);
     if r.whole {

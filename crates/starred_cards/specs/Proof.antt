@@ -3,150 +3,150 @@
 use Rattle.std.specs.Prelude.{◌≡◌, refl, true, List, [], ◌∷◌, ℕ, ◌≤◌, leb, length, replicate}
 use Rattle.std.proofs.Common.{ap, ◌∙◌, arith, le-leb}
 use Rattle.std.proofs.lemmas.List.{length-replicate}
-use Rattle.bits.specs.Basics.{All, sum, every, valuesFrom}
+use Rattle.bits.specs.Basics.{All, sum, every, values_from}
 use Rattle.book.specs.declared.svq1_vlc.Svq1Half.TheVariants.{Intra, Inter}
-use Rattle.vectors.specs.Vectors.{zeroMv, median, predicted, codable}
-use Rattle.mv_cache.specs.Neighbours.{Near, neighbourAt, nearOf}
-use Rattle.macroblock.specs.Macroblock.{Given, Motion, still, single, four, Choice, skipped, coded, half_of, referenceBlock, baseline, shown, vectorBits, motionBits, choiceBits}
-use Rattle.macroblock.specs.Choice.{Task, paddedSource, target_of, target, singleTried, fourTried, motionsTried, planningFor, tried, fitting, weightOf, beats, bestOf, chosen}
+use Rattle.vectors.specs.Vectors.{zero_mv, median, predicted, codable}
+use Rattle.mv_cache.specs.Neighbours.{Near, neighbour_at, near_of}
+use Rattle.macroblock.specs.Macroblock.{Given, Motion, still, single, four, Choice, skipped, coded, half_of, reference_block, baseline, shown, vector_bits, motion_bits, choice_bits}
+use Rattle.macroblock.specs.Choice.{Task, padded_source, target_of, target, single_tried, four_tried, motions_tried, planning_for, tried, fitting, weight_of, beats, best_of, chosen}
 use Rattle.macroblock.specs.Slices.{near, laid}
-use Rattle.tree.specs.TreeBits.{Node, planTree, nodeBits, emit, treeBits, treeShown}
-use Rattle.listing_job.specs.Job.{Job, eachUpTo, jobRead, jobIn}
-use Rattle.listing_text.specs.Listing.{noSlices, planeShowing, outputBytes, totalLine, macroblockLine, linesTo, textWith, textInto, planeText}
-use Rattle.visible_error.specs.Visible.{squareAt, visibleError, visibleTotal}
-use Rattle.starred_cards.specs.Cards.{flatGiven, flatTask, plane, firstLine, firstText, largestLine, largestText, Holds, cards}
-use Rattle.starred_cards.specs.Flat.{flat, flatPlanning, meanLeaf, oneLeaf, tree_is, leaf-at-32, leaf-at-largest}
-use Rattle.bits.specs.Bits.{msb, bits_of, cleared, afterBits, putBits}
-use Rattle.bits.specs.BitsLaws.{length-bitsOf}
+use Rattle.tree.specs.TreeBits.{Node, plan_tree, node_bits, emit, tree_bits, tree_shown}
+use Rattle.listing_job.specs.Job.{Job, each_up_to, job_read, job_in}
+use Rattle.listing_text.specs.Listing.{no_slices, plane_showing, output_bytes, total_line, macroblock_line, lines_to, text_with, text_into, plane_text}
+use Rattle.visible_error.specs.Visible.{square_at, visible_error, visible_total}
+use Rattle.starred_cards.specs.Cards.{flat_given, flat_task, plane, first_line, first_text, largest_line, largest_text, Holds, cards}
+use Rattle.starred_cards.specs.Flat.{flat, flat_planning, mean_leaf, one_leaf, tree_is, leaf_at_32, leaf_at_largest}
+use Rattle.bits.specs.Bits.{msb, bits_of, cleared, after_bits, put_bits}
+use Rattle.bits.specs.BitsLaws.{length_bits_of}
 use Rattle.code_tables.specs.Codes.{codes_of}
-use Rattle.house.specs.House.{logUnder, signedRank, rank, houseFrom, houseBook}
-use Rattle.codebook.specs.Codebook.{rasterOf}
-use Rattle.leaf.specs.Leaf.{sse, seeded, staged, samples, leafShown}
-use Rattle.leaf.specs.LeafBits.{stageBits, leafBits}
-use Rattle.codebook.specs.Mean.{rounded, clampMean, meanOf, saturate}
-use Rattle.compensation.specs.Compensation.{sampleAt, halfSample, movedBlock}
-use Rattle.mv_cache.specs.Grid.{owner, place_in, part, putFrom, putPart}
-use Rattle.motion.specs.Search.{inWindow, allowed, errorOf, consider, fullAt, rowTo, rows_to, fullSearch, aroundTo, searchBest, searched, searchOk, searchRefusal, searchAnswer}
+use Rattle.house.specs.House.{log_under, signed_rank, rank, house_from, house_book}
+use Rattle.codebook.specs.Codebook.{raster_of}
+use Rattle.leaf.specs.Leaf.{sse, seeded, staged, samples, leaf_shown}
+use Rattle.leaf.specs.LeafBits.{stage_bits, leaf_bits}
+use Rattle.codebook.specs.Mean.{rounded, clamp_mean, mean_of, saturate}
+use Rattle.compensation.specs.Compensation.{sample_at, half_sample, moved_block}
+use Rattle.mv_cache.specs.Grid.{owner, place_in, part, put_from, put_part}
+use Rattle.motion.specs.Search.{in_window, allowed, error_of, consider, full_at, row_to, rows_to, full_search, around_to, search_best, searched, search_ok, search_refusal, search_answer}
 use Rattle.compensation.specs.Error.{sad}
-use Rattle.plane.specs.Plane.{written, writePlane}
+use Rattle.plane.specs.Plane.{written, write_plane}
 use Rattle.plane.specs.Run.{run, after}
-use Rattle.text.specs.Text.{is_number, valueFrom, numberUpTo, pieces, allEnded, lines_of, fields_of, digitsBefore, decimal, joined, line_of}
-use Rattle.tree.specs.Blocks.{gather, paint, placeUnder, place, block_of, paintAt, rebuilt}
-use Rattle.tree.specs.Plan.{shownAt}
+use Rattle.text.specs.Text.{is_number, value_from, number_up_to, pieces, all_ended, lines_of, fields_of, digits_before, decimal, joined, line_of}
+use Rattle.tree.specs.Blocks.{gather, paint, place_under, place, block_of, paint_at, rebuilt}
+use Rattle.tree.specs.Plan.{shown_at}
 
 -- the plane of the first two cards, at any lambda
 abbrev job : ℕ → Job
-job lambda = record { width = 16; height = 16; lambda = lambda; radius = 8; allowFour = true; margin = 0 }
+job lambda = record { width = 16; height = 16; lambda = lambda; radius = 8; allow_four = true; margin = 0 }
 
 abbrev given : ℕ → Given
-given lambda = flatGiven (job lambda) 0
+given lambda = flat_given (job lambda) 0
 
 abbrev task : ℕ → Task
-task lambda = flatTask (job lambda) 100
+task lambda = flat_task (job lambda) 100
 
 -- no macroblock stands before the first
 abbrev around : ℕ → Near
-around lambda = near (given lambda) (noSlices (given lambda)) 0
+around lambda = near (given lambda) (no_slices (given lambda)) 0
 
 -- every search finds the zero vector
-motions-are : (lambda : ℕ) → motionsTried (given lambda) (task lambda) 0 (around lambda) ≡ single zeroMv ∷ still ∷ four zeroMv zeroMv zeroMv zeroMv ∷ []
-unfolding paddedSource target_of part valuesFrom singleTried fourTried motionsTried nearOf neighbourAt predicted median searched searchBest fullSearch rows_to rowTo aroundTo consider allowed codable inWindow fullAt errorOf sad movedBlock halfSample sampleAt gather
-motions-are lambda = refl
+motions_are : (lambda : ℕ) → motions_tried (given lambda) (task lambda) 0 (around lambda) ≡ single zero_mv ∷ still ∷ four zero_mv zero_mv zero_mv zero_mv ∷ []
+unfolding padded_source target_of part values_from single_tried four_tried motions_tried near_of neighbour_at predicted median searched search_best full_search rows_to row_to around_to consider allowed codable in_window full_at error_of sad moved_block half_sample sample_at gather
+motions_are lambda = refl
 
 target_is : (lambda : ℕ) → target (given lambda) (task lambda) 0 ≡ flat 256 100
-unfolding paddedSource target_of part valuesFrom
+unfolding padded_source target_of part values_from
 target_is lambda = refl
 
 abbrev Over0 : ℕ → Motion → Type 0
 Over0 lambda m = baseline (given lambda) 0 m ≡ flat 256 0
 
-baselines-are : (lambda : ℕ) → All (Over0 lambda) (single zeroMv ∷ still ∷ four zeroMv zeroMv zeroMv zeroMv ∷ [])
-unfolding baseline movedBlock valuesFrom halfSample sampleAt
-baselines-are lambda = (refl, (refl, (refl, tt)))
+baselines_are : (lambda : ℕ) → All (Over0 lambda) (single zero_mv ∷ still ∷ four zero_mv zero_mv zero_mv zero_mv ∷ [])
+unfolding baseline moved_block values_from half_sample sample_at
+baselines_are lambda = (refl, (refl, (refl, tt)))
 
-planning-is : (lambda : ℕ) (m : Motion) → Over0 lambda m → planningFor (given lambda) (task lambda) 0 m ≡ flatPlanning (half_of m) lambda
-unfolding planningFor
-planning-is lambda m e = rw (target_is lambda, e)
+planning_is : (lambda : ℕ) (m : Motion) → Over0 lambda m → planning_for (given lambda) (task lambda) 0 m ≡ flat_planning (half_of m) lambda
+unfolding planning_for
+planning_is lambda m e = rw (target_is lambda, e)
 
 -- what is tried: SKIP, and three times the one leaf
 abbrev tree : List Node
-tree = oneLeaf meanLeaf 62
+tree = one_leaf mean_leaf 62
 
 abbrev candidates : List Choice
-candidates = skipped ∷ coded (single zeroMv) tree ∷ coded still tree ∷ coded (four zeroMv zeroMv zeroMv zeroMv) tree ∷ []
+candidates = skipped ∷ coded (single zero_mv) tree ∷ coded still tree ∷ coded (four zero_mv zero_mv zero_mv zero_mv) tree ∷ []
 
-tried-are : (lambda : ℕ) → planTree (flatPlanning Intra lambda) ≡ tree → planTree (flatPlanning Inter lambda) ≡ tree
+tried_are : (lambda : ℕ) → plan_tree (flat_planning Intra lambda) ≡ tree → plan_tree (flat_planning Inter lambda) ≡ tree
     → tried (given lambda) (task lambda) 0 (around lambda) ≡ candidates
 unfolding tried
-tried-are lambda a b =
-    let over = baselines-are lambda in
-    let one = ap planTree (planning-is lambda (single zeroMv) over.0) ∙ b in
-    let two = ap planTree (planning-is lambda still over.1.0) ∙ a in
-    let three = ap planTree (planning-is lambda (four zeroMv zeroMv zeroMv zeroMv) over.1.1.0) ∙ b in
-    rw (motions-are lambda, one, two, three)
+tried_are lambda a b =
+    let over = baselines_are lambda in
+    let one = ap plan_tree (planning_is lambda (single zero_mv) over.0) ∙ b in
+    let two = ap plan_tree (planning_is lambda still over.1.0) ∙ a in
+    let three = ap plan_tree (planning_is lambda (four zero_mv zero_mv zero_mv zero_mv) over.1.1.0) ∙ b in
+    rw (motions_are lambda, one, two, three)
 
 -- INTRA wins at lambda 32; at the largest lambda all costs are equal and SKIP has the fewest bits
-chosen-at-32 : chosen (given 32) (task 32) 0 (around 32) 0 ≡ coded still tree
-unfolding chosen fitting bestOf beats weightOf codes_of msb houseBook houseFrom rank signedRank logUnder vectorBits motionBits choiceBits nodeBits emit treeBits leafBits stageBits shown treeShown rebuilt paintAt paint block_of gather place placeUnder shownAt leafShown staged samples seeded saturate baseline movedBlock valuesFrom halfSample sampleAt referenceBlock part sse paddedSource target_of nearOf neighbourAt predicted median
-chosen-at-32 = rw (tried-are 32 (tree_is Intra 32 (leaf-at-32 Intra)) (tree_is Inter 32 (leaf-at-32 Inter)))
+chosen_at_32 : chosen (given 32) (task 32) 0 (around 32) 0 ≡ coded still tree
+unfolding chosen fitting best_of beats weight_of codes_of msb house_book house_from rank signed_rank log_under vector_bits motion_bits choice_bits node_bits emit tree_bits leaf_bits stage_bits shown tree_shown rebuilt paint_at paint block_of gather place place_under shown_at leaf_shown staged samples seeded saturate baseline moved_block values_from half_sample sample_at reference_block part sse padded_source target_of near_of neighbour_at predicted median
+chosen_at_32 = rw (tried_are 32 (tree_is Intra 32 (leaf_at_32 Intra)) (tree_is Inter 32 (leaf_at_32 Inter)))
 
 abbrev largest : ℕ
 largest = 18446744073709551615
 
-chosen-at-largest : chosen (given largest) (task largest) 0 (around largest) 0 ≡ skipped
-unfolding chosen fitting bestOf beats weightOf codes_of msb houseBook houseFrom rank signedRank logUnder vectorBits motionBits choiceBits nodeBits emit treeBits leafBits stageBits shown treeShown rebuilt paintAt paint block_of gather place placeUnder shownAt leafShown staged samples seeded saturate baseline movedBlock valuesFrom halfSample sampleAt referenceBlock part sse paddedSource target_of nearOf neighbourAt predicted median
-chosen-at-largest = rw (tried-are largest (tree_is Intra largest (leaf-at-largest Intra)) (tree_is Inter largest (leaf-at-largest Inter)))
+chosen_at_largest : chosen (given largest) (task largest) 0 (around largest) 0 ≡ skipped
+unfolding chosen fitting best_of beats weight_of codes_of msb house_book house_from rank signed_rank log_under vector_bits motion_bits choice_bits node_bits emit tree_bits leaf_bits stage_bits shown tree_shown rebuilt paint_at paint block_of gather place place_under shown_at leaf_shown staged samples seeded saturate baseline moved_block values_from half_sample sample_at reference_block part sse padded_source target_of near_of neighbour_at predicted median
+chosen_at_largest = rw (tried_are largest (tree_is Intra largest (leaf_at_largest Intra)) (tree_is Inter largest (leaf_at_largest Inter)))
 
 -- what they weigh
-weight-at-32 : weightOf (given 32) (task 32) 0 (around 32) (coded still tree) ≡ record { bits = 22; err = 0 }
-unfolding weightOf codes_of msb houseBook houseFrom rank signedRank logUnder vectorBits motionBits choiceBits nodeBits emit treeBits leafBits stageBits shown treeShown rebuilt paintAt paint block_of gather place placeUnder shownAt leafShown staged samples seeded saturate baseline movedBlock valuesFrom halfSample sampleAt referenceBlock part sse paddedSource target_of
-weight-at-32 = refl
+weight_at_32 : weight_of (given 32) (task 32) 0 (around 32) (coded still tree) ≡ record { bits = 22; err = 0 }
+unfolding weight_of codes_of msb house_book house_from rank signed_rank log_under vector_bits motion_bits choice_bits node_bits emit tree_bits leaf_bits stage_bits shown tree_shown rebuilt paint_at paint block_of gather place place_under shown_at leaf_shown staged samples seeded saturate baseline moved_block values_from half_sample sample_at reference_block part sse padded_source target_of
+weight_at_32 = refl
 
-weight-at-largest : weightOf (given largest) (task largest) 0 (around largest) skipped ≡ record { bits = 1; err = 2560000 }
-unfolding weightOf codes_of msb houseBook houseFrom rank signedRank logUnder vectorBits motionBits choiceBits nodeBits emit treeBits leafBits stageBits shown treeShown rebuilt paintAt paint block_of gather place placeUnder shownAt leafShown staged samples seeded saturate baseline movedBlock valuesFrom halfSample sampleAt referenceBlock part sse paddedSource target_of
-weight-at-largest = refl
+weight_at_largest : weight_of (given largest) (task largest) 0 (around largest) skipped ≡ record { bits = 1; err = 2560000 }
+unfolding weight_of codes_of msb house_book house_from rank signed_rank log_under vector_bits motion_bits choice_bits node_bits emit tree_bits leaf_bits stage_bits shown tree_shown rebuilt paint_at paint block_of gather place place_under shown_at leaf_shown staged samples seeded saturate baseline moved_block values_from half_sample sample_at reference_block part sse padded_source target_of
+weight_at_largest = refl
 
 -- what they leave of the reconstruction, and its visible error
-recon-at-32 : (laid (given 32) 0 (coded still tree) (noSlices (given 32))).recon ≡ flat 256 100
-unfolding laid putPart putFrom owner place_in shown treeShown rebuilt paintAt paint block_of gather place placeUnder shownAt leafShown staged samples seeded saturate baseline movedBlock valuesFrom halfSample sampleAt referenceBlock part
-recon-at-32 = refl
+recon_at_32 : (laid (given 32) 0 (coded still tree) (no_slices (given 32))).recon ≡ flat 256 100
+unfolding laid put_part put_from owner place_in shown tree_shown rebuilt paint_at paint block_of gather place place_under shown_at leaf_shown staged samples seeded saturate baseline moved_block values_from half_sample sample_at reference_block part
+recon_at_32 = refl
 
-recon-at-largest : (laid (given largest) 0 skipped (noSlices (given largest))).recon ≡ flat 256 0
-unfolding laid putPart putFrom owner place_in shown treeShown rebuilt paintAt paint block_of gather place placeUnder shownAt leafShown staged samples seeded saturate baseline movedBlock valuesFrom halfSample sampleAt referenceBlock part
-recon-at-largest = refl
+recon_at_largest : (laid (given largest) 0 skipped (no_slices (given largest))).recon ≡ flat 256 0
+unfolding laid put_part put_from owner place_in shown tree_shown rebuilt paint_at paint block_of gather place place_under shown_at leaf_shown staged samples seeded saturate baseline moved_block values_from half_sample sample_at reference_block part
+recon_at_largest = refl
 
-errors-at-32 : (visibleError (planeShowing (given 32) (task 32) (flat 256 100)) 0 ≡ 0) × (visibleTotal (planeShowing (given 32) (task 32) (flat 256 100)) ≡ 0)
-unfolding visibleError visibleTotal squareAt sum
-errors-at-32 = (refl, refl)
+errors_at_32 : (visible_error (plane_showing (given 32) (task 32) (flat 256 100)) 0 ≡ 0) × (visible_total (plane_showing (given 32) (task 32) (flat 256 100)) ≡ 0)
+unfolding visible_error visible_total square_at sum
+errors_at_32 = (refl, refl)
 
-errors-at-largest : (visibleError (planeShowing (given largest) (task largest) (flat 256 0)) 0 ≡ 2560000) × (visibleTotal (planeShowing (given largest) (task largest) (flat 256 0)) ≡ 2560000)
-unfolding visibleError visibleTotal squareAt sum
-errors-at-largest = (refl, refl)
+errors_at_largest : (visible_error (plane_showing (given largest) (task largest) (flat 256 0)) 0 ≡ 2560000) × (visible_total (plane_showing (given largest) (task largest) (flat 256 0)) ≡ 2560000)
+unfolding visible_error visible_total square_at sum
+errors_at_largest = (refl, refl)
 
 -- what is listed for a plane of one macroblock: of the output only its length matters
-text-at-32 : (out : List ℕ) → leb 22 (length out) ≡ true → textInto (given 32) (task 32) out ≡ firstText
-unfolding textInto textWith linesTo macroblockLine totalLine line_of joined decimal digitsBefore writePlane run after written
-text-at-32 out h = rw (chosen-at-32, weight-at-32, h, recon-at-32, errors-at-32.0, errors-at-32.1)
+text_at_32 : (out : List ℕ) → leb 22 (length out) ≡ true → text_into (given 32) (task 32) out ≡ first_text
+unfolding text_into text_with lines_to macroblock_line total_line line_of joined decimal digits_before write_plane run after written
+text_at_32 out h = rw (chosen_at_32, weight_at_32, h, recon_at_32, errors_at_32.0, errors_at_32.1)
 
-text-at-largest : (out : List ℕ) → leb 1 (length out) ≡ true → textInto (given largest) (task largest) out ≡ largestText
-unfolding textInto textWith linesTo macroblockLine totalLine line_of joined decimal digitsBefore writePlane run after written
-text-at-largest out h = rw (chosen-at-largest, weight-at-largest, h, recon-at-largest, errors-at-largest.0, errors-at-largest.1)
+text_at_largest : (out : List ℕ) → leb 1 (length out) ≡ true → text_into (given largest) (task largest) out ≡ largest_text
+unfolding text_into text_with lines_to macroblock_line total_line line_of joined decimal digits_before write_plane run after written
+text_at_largest out h = rw (chosen_at_largest, weight_at_largest, h, recon_at_largest, errors_at_largest.0, errors_at_largest.1)
 
 -- the program's output is long enough
-room : (n : ℕ) → n ≤ 524288 → leb n (length (bits_of (replicate outputBytes 0))) ≡ true
+room : (n : ℕ) → n ≤ 524288 → leb n (length (bits_of (replicate output_bytes 0))) ≡ true
 room n h =
-    le-leb n (length (bits_of (replicate outputBytes 0)))
-    (omega (arith, length-bitsOf (replicate outputBytes 0), length-replicate {A = ℕ} outputBytes 0))
+    le-leb n (length (bits_of (replicate output_bytes 0)))
+    (omega (arith, length_bits_of (replicate output_bytes 0), length-replicate {A = ℕ} output_bytes 0))
 
-first-card : Holds (plane firstLine (job 32) 100 0 (0x21 ∷ 0x01 ∷ 0x94 ∷ []) firstText)
-unfolding jobIn jobRead eachUpTo lines_of fields_of pieces allEnded numberUpTo is_number valueFrom every writePlane run after written weightOf putBits afterBits cleared bits_of planeText codes_of msb houseBook houseFrom rank signedRank logUnder vectorBits motionBits choiceBits nodeBits emit treeBits leafBits stageBits shown treeShown rebuilt paintAt paint block_of gather place placeUnder shownAt leafShown staged samples seeded saturate baseline movedBlock valuesFrom halfSample sampleAt referenceBlock part sse paddedSource target_of
-first-card = (refl, rw chosen-at-32, text-at-32 (bits_of (replicate outputBytes 0)) (room 22 (omega arith)))
+first_card : Holds (plane first_line (job 32) 100 0 (0x21 ∷ 0x01 ∷ 0x94 ∷ []) first_text)
+unfolding job_in job_read each_up_to lines_of fields_of pieces all_ended number_up_to is_number value_from every write_plane run after written weight_of put_bits after_bits cleared bits_of plane_text codes_of msb house_book house_from rank signed_rank log_under vector_bits motion_bits choice_bits node_bits emit tree_bits leaf_bits stage_bits shown tree_shown rebuilt paint_at paint block_of gather place place_under shown_at leaf_shown staged samples seeded saturate baseline moved_block values_from half_sample sample_at reference_block part sse padded_source target_of
+first_card = (refl, rw chosen_at_32, text_at_32 (bits_of (replicate output_bytes 0)) (room 22 (omega arith)))
 
-largest-card : Holds (plane largestLine (job largest) 100 0 (0x80 ∷ []) largestText)
-unfolding jobIn jobRead eachUpTo lines_of fields_of pieces allEnded numberUpTo is_number valueFrom every writePlane run after written weightOf putBits afterBits cleared bits_of planeText codes_of msb houseBook houseFrom rank signedRank logUnder vectorBits motionBits choiceBits nodeBits emit treeBits leafBits stageBits shown treeShown rebuilt paintAt paint block_of gather place placeUnder shownAt leafShown staged samples seeded saturate baseline movedBlock valuesFrom halfSample sampleAt referenceBlock part sse paddedSource target_of
-largest-card = (refl, rw chosen-at-largest, text-at-largest (bits_of (replicate outputBytes 0)) (room 1 (omega arith)))
+largest_card : Holds (plane largest_line (job largest) 100 0 (0x80 ∷ []) largest_text)
+unfolding job_in job_read each_up_to lines_of fields_of pieces all_ended number_up_to is_number value_from every write_plane run after written weight_of put_bits after_bits cleared bits_of plane_text codes_of msb house_book house_from rank signed_rank log_under vector_bits motion_bits choice_bits node_bits emit tree_bits leaf_bits stage_bits shown tree_shown rebuilt paint_at paint block_of gather place place_under shown_at leaf_shown staged samples seeded saturate baseline moved_block values_from half_sample sample_at reference_block part sse padded_source target_of
+largest_card = (refl, rw chosen_at_largest, text_at_largest (bits_of (replicate output_bytes 0)) (room 1 (omega arith)))
 
 -- THE CARDS
 pub starred : All Holds cards
-unfolding meanOf rounded clampMean predicted median rasterOf valuesFrom searchAnswer searchRefusal searchOk searched searchBest fullSearch rows_to rowTo aroundTo consider allowed codable inWindow fullAt errorOf sad movedBlock halfSample sampleAt
-starred = (first-card, (largest-card, (refl, (refl, (refl, (refl, (refl, (refl, (refl, (refl, (refl, (refl, (refl, tt)))))))))))))
+unfolding mean_of rounded clamp_mean predicted median raster_of values_from search_answer search_refusal search_ok searched search_best full_search rows_to row_to around_to consider allowed codable in_window full_at error_of sad moved_block half_sample sample_at
+starred = (first_card, (largest_card, (refl, (refl, (refl, (refl, (refl, (refl, (refl, (refl, (refl, (refl, (refl, tt)))))))))))))

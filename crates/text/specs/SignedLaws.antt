@@ -9,11 +9,11 @@ use Rattle.std.proofs.Math.Dec.{eqb}
 use Rattle.std.proofs.Math.IntN.{pos, negsuc}
 use Rattle.std.specs.Int.Signed.{mag}
 use Rattle.bits.specs.Basics.{pick, every}
-use Rattle.text.specs.Text.{minus, isDigit, numberUpTo, aboveZero, belowZero, signedIn, decimal, signedDecimal}
+use Rattle.text.specs.Text.{minus, is_digit, number_up_to, above_zero, below_zero, signed_in, decimal, signed_decimal}
 use Rattle.text.specs.ReadingForms.{without}
-use Rattle.text.specs.TextLaws.{none-some, number-empty, number-le}
-use Rattle.text.specs.WritingFormsLaws.{decimal-digits, decimal-back, digits-without}
-use Rattle.text.specs.OneTextLaws.{number-decimal}
+use Rattle.text.specs.TextLaws.{none_some, number_empty, number_le}
+use Rattle.text.specs.WritingFormsLaws.{decimal_digits, decimal_back, digits_without}
+use Rattle.text.specs.OneTextLaws.{number_decimal}
 
 -- a number from -least to most
 abbrev pub Between : ℕ → ℕ → ℤ → Type 0
@@ -22,79 +22,79 @@ Between least most (negsuc n) = suc n ≤ least
 
 -- its text is read as it, and is the one that is
 pub record SignedText (least most : ℕ) (z : ℤ) : Type 0 where
-  pub back : signedIn least most (signedDecimal z) ≡ some z
-  pub one : (t : List ℕ) → signedIn least most t ≡ some z → t ≡ signedDecimal z
+  pub back : signed_in least most (signed_decimal z) ≡ some z
+  pub one : (t : List ℕ) → signed_in least most t ≡ some z → t ≡ signed_decimal z
 
 module _ (least most : ℕ) (l : least < 10 ^ 20) (m : most < 10 ^ 20) where
   -- a text with no minus is read as a number with no sign
-  plain : (t : List ℕ) → without minus t ≡ true → signedIn least most t ≡ aboveZero (numberUpTo most t)
-  unfolding signedIn every
-  plain [] h = sym (ap aboveZero (number-empty most [] refl))
+  plain : (t : List ℕ) → without minus t ≡ true → signed_in least most t ≡ above_zero (number_up_to most t)
+  unfolding signed_in every
+  plain [] h = sym (ap above_zero (number_empty most [] refl))
   plain (c ∷ t) h = go (eqb c minus) h
     where
       go : (b : Bool) → pick (not b) (every (λ c. not (eqb c minus)) t) false ≡ true
-          → pick b (belowZero (numberUpTo least t)) (aboveZero (numberUpTo most (c ∷ t))) ≡ aboveZero (numberUpTo most (c ∷ t))
+          → pick b (below_zero (number_up_to least t)) (above_zero (number_up_to most (c ∷ t))) ≡ above_zero (number_up_to most (c ∷ t))
       go true q = absurd (true≢false (sym q))
       go false q = refl
 
-  read_back : (z : ℤ) → Between least most z → signedIn least most (signedDecimal z) ≡ some z
-  unfolding signedIn signedDecimal
-  read_back (pos n) h = plain (decimal n) (digits-without minus (decimal n) refl (decimal-digits n)) ∙ ap aboveZero (decimal-back most n (omega arith) h)
-  read_back (negsuc n) h = ap belowZero (decimal-back least (suc n) (omega arith) h)
+  read_back : (z : ℤ) → Between least most z → signed_in least most (signed_decimal z) ≡ some z
+  unfolding signed_in signed_decimal
+  read_back (pos n) h = plain (decimal n) (digits_without minus (decimal n) refl (decimal_digits n)) ∙ ap above_zero (decimal_back most n (omega arith) h)
+  read_back (negsuc n) h = ap below_zero (decimal_back least (suc n) (omega arith) h)
 
-  above-one : (o : Option ℕ) (t : List ℕ) (z : ℤ) → numberUpTo most t ≡ o → aboveZero o ≡ some z → t ≡ signedDecimal z
-  unfolding signedDecimal
-  above-one none t z q e = none-some e
-  above-one (some n) t z q e =
-      let s : pos n ≡ z = cc in rw (← s) (number-decimal most n t q (omega (arith, number-le most n t q)))
+  above_one : (o : Option ℕ) (t : List ℕ) (z : ℤ) → number_up_to most t ≡ o → above_zero o ≡ some z → t ≡ signed_decimal z
+  unfolding signed_decimal
+  above_one none t z q e = none_some e
+  above_one (some n) t z q e =
+      let s : pos n ≡ z = cc in rw (← s) (number_decimal most n t q (omega (arith, number_le most n t q)))
 
-  below_one : (o : Option ℕ) (t : List ℕ) (z : ℤ) → numberUpTo least t ≡ o → belowZero o ≡ some z → minus ∷ t ≡ signedDecimal z
-  unfolding signedDecimal
-  below_one none t z q e = none-some e
-  below_one (some zero) t z q e = none-some e
+  below_one : (o : Option ℕ) (t : List ℕ) (z : ℤ) → number_up_to least t ≡ o → below_zero o ≡ some z → minus ∷ t ≡ signed_decimal z
+  unfolding signed_decimal
+  below_one none t z q e = none_some e
+  below_one (some zero) t z q e = none_some e
   below_one (some (suc n)) t z q e =
       let s : negsuc n ≡ z = cc in
-      rw (← s) (ap (λ (u : List ℕ). minus ∷ u) (number-decimal least (suc n) t q (omega (arith, number-le least (suc n) t q))))
+      rw (← s) (ap (λ (u : List ℕ). minus ∷ u) (number_decimal least (suc n) t q (omega (arith, number_le least (suc n) t q))))
 
-  read_one : (z : ℤ) (t : List ℕ) → signedIn least most t ≡ some z → t ≡ signedDecimal z
-  unfolding signedIn
-  read_one z [] q = none-some q
+  read_one : (z : ℤ) (t : List ℕ) → signed_in least most t ≡ some z → t ≡ signed_decimal z
+  unfolding signed_in
+  read_one z [] q = none_some q
   read_one z (c ∷ t) q = go (eqb c minus) refl q
     where
-      go : (b : Bool) → eqb c minus ≡ b → pick b (belowZero (numberUpTo least t)) (aboveZero (numberUpTo most (c ∷ t))) ≡ some z
-          → c ∷ t ≡ signedDecimal z
-      go true e h = rw (eqb-true c minus e) (below_one (numberUpTo least t) t z refl h)
-      go false e h = above-one (numberUpTo most (c ∷ t)) (c ∷ t) z refl h
+      go : (b : Bool) → eqb c minus ≡ b → pick b (below_zero (number_up_to least t)) (above_zero (number_up_to most (c ∷ t))) ≡ some z
+          → c ∷ t ≡ signed_decimal z
+      go true e h = rw (eqb-true c minus e) (below_one (number_up_to least t) t z refl h)
+      go false e h = above_one (number_up_to most (c ∷ t)) (c ∷ t) z refl h
 
-  pub signed-text : (z : ℤ) → Between least most z → SignedText least most z
-  signed-text z h = record { back = read_back z h; one = read_one z }
+  pub signed_text : (z : ℤ) → Between least most z → SignedText least most z
+  signed_text z h = record { back = read_back z h; one = read_one z }
 
 -- what is read lies between the bounds
-pub signed-within : (least most : ℕ) (t : List ℕ) (z : ℤ) → signedIn least most t ≡ some z → Between least most z
-unfolding signedIn
-signed-within least most [] z q = none-some q
-signed-within least most (c ∷ t) z q = go (eqb c minus) q
+pub signed_within : (least most : ℕ) (t : List ℕ) (z : ℤ) → signed_in least most t ≡ some z → Between least most z
+unfolding signed_in
+signed_within least most [] z q = none_some q
+signed_within least most (c ∷ t) z q = go (eqb c minus) q
   where
-    above : (o : Option ℕ) → numberUpTo most (c ∷ t) ≡ o → aboveZero o ≡ some z → Between least most z
-    above none p e = none-some e
-    above (some n) p e = let s : pos n ≡ z = cc in rw (← s) (number-le most n (c ∷ t) p)
+    above : (o : Option ℕ) → number_up_to most (c ∷ t) ≡ o → above_zero o ≡ some z → Between least most z
+    above none p e = none_some e
+    above (some n) p e = let s : pos n ≡ z = cc in rw (← s) (number_le most n (c ∷ t) p)
 
-    below : (o : Option ℕ) → numberUpTo least t ≡ o → belowZero o ≡ some z → Between least most z
-    below none p e = none-some e
-    below (some zero) p e = none-some e
-    below (some (suc n)) p e = let s : negsuc n ≡ z = cc in rw (← s) (number-le least (suc n) t p)
+    below : (o : Option ℕ) → number_up_to least t ≡ o → below_zero o ≡ some z → Between least most z
+    below none p e = none_some e
+    below (some zero) p e = none_some e
+    below (some (suc n)) p e = let s : negsuc n ≡ z = cc in rw (← s) (number_le least (suc n) t p)
 
-    go : (b : Bool) → pick b (belowZero (numberUpTo least t)) (aboveZero (numberUpTo most (c ∷ t))) ≡ some z → Between least most z
-    go true e = below (numberUpTo least t) refl e
-    go false e = above (numberUpTo most (c ∷ t)) refl e
+    go : (b : Bool) → pick b (below_zero (number_up_to least t)) (above_zero (number_up_to most (c ∷ t))) ≡ some z → Between least most z
+    go true e = below (number_up_to least t) refl e
+    go false e = above (number_up_to most (c ∷ t)) refl e
 
 -- a small number lies between any larger bounds
-pub small-between : (least most : ℕ) (z : ℤ) → mag z < least → mag z < most → Between least most z
-small-between least most (pos n) h k = omega arith
-small-between least most (negsuc n) h k = h
+pub small_between : (least most : ℕ) (z : ℤ) → mag z < least → mag z < most → Between least most z
+small_between least most (pos n) h k = omega arith
+small_between least most (negsuc n) h k = h
 
 -- it holds no separator that is neither a digit nor a minus
-pub signed-without : (s : ℕ) → isDigit s ≡ false → eqb minus s ≡ false → (z : ℤ) → without s (signedDecimal z) ≡ true
-unfolding signedDecimal every
-signed-without s d e (pos n) = digits-without s (decimal n) d (decimal-digits n)
-signed-without s d e (negsuc n) = rw e (digits-without s (decimal (suc n)) d (decimal-digits (suc n)))
+pub signed_without : (s : ℕ) → is_digit s ≡ false → eqb minus s ≡ false → (z : ℤ) → without s (signed_decimal z) ≡ true
+unfolding signed_decimal every
+signed_without s d e (pos n) = digits_without s (decimal n) d (decimal_digits n)
+signed_without s d e (negsuc n) = rw e (digits_without s (decimal (suc n)) d (decimal_digits (suc n)))

@@ -1,7 +1,7 @@
 // Text in lent byte slices: decimal numbers, fields and lines.
 ghost use Rattle.std.specs.Prelude.{◌≡◌, [], ◌∷◌, ◌++◌, nat_abs};
-ghost use Rattle.text.specs.Text.{numberUpTo, aboveZero, belowZero, decimal, signed64, signedDecimal, same as sameText};
-ghost use Rattle.text.specs.ReadingForms.{TextFound, digitOf, digitsFrom, number_of, NumberWithin, signedNumberOf};
+ghost use Rattle.text.specs.Text.{number_up_to, above_zero, below_zero, decimal, signed64, signed_decimal, same as sameText};
+ghost use Rattle.text.specs.ReadingForms.{TextFound, digit_of, digits_from, number_of, NumberWithin, signed_number_of};
 ghost use Rattle.text.specs.WritingForms.{TextPut, DigitsCounted, SignedCounted};
 
 use bits::inner::put_row;
@@ -60,7 +60,7 @@ pub fn same(t: &[u8], u: &[u8]) -> bool
 
 // A digit's number, and 10 for any other byte.
 fn digit(c: u8) -> u64
-    ensures { result ≡ digitOf c }
+    ensures { result ≡ digit_of c }
 {
     if c < b'0' {
         return 10;
@@ -73,7 +73,7 @@ fn digit(c: u8) -> u64
 
 // The number that a run of digits stands for, where it is at most `most`. The value passes no bound on the way.
 fn read_digits(t: &[u8], most: u64) -> NumberRead
-    ensures { number_of result ≡ digitsFrom most 0 t.now }
+    ensures { number_of result ≡ digits_from most 0 t.now }
 {
     let mut n = 0;
     let mut i = 0;
@@ -96,7 +96,7 @@ fn read_digits(t: &[u8], most: u64) -> NumberRead
 
 // A decimal number of at most `most` with no leading zeros.
 pub fn read_number(t: &[u8], most: u64) -> NumberRead
-    ensures { number_of result ≡ numberUpTo most t.now }
+    ensures { number_of result ≡ number_up_to most t.now }
 {
     if t.len() == 0 {
         return NumberRead::NoNumber;
@@ -113,7 +113,7 @@ pub fn read_number(t: &[u8], most: u64) -> NumberRead
 // A number that was read, as a signed one.
 fn above_zero(n: NumberRead) -> SignedRead
     requires { NumberWithin 9223372036854775807 n }
-    ensures { signedNumberOf result ≡ aboveZero (number_of n) }
+    ensures { signed_number_of result ≡ above_zero (number_of n) }
 {
     match n {
         NumberRead::Number(size) => SignedRead::Signed(size as i64),
@@ -124,7 +124,7 @@ fn above_zero(n: NumberRead) -> SignedRead
 // One that was read behind a minus.
 fn below_zero(n: NumberRead) -> SignedRead
     requires { NumberWithin 9223372036854775808 n }
-    ensures { signedNumberOf result ≡ belowZero (number_of n) }
+    ensures { signed_number_of result ≡ below_zero (number_of n) }
 {
     let NumberRead::Number(size) = n else {
         return SignedRead::NoSigned;
@@ -137,7 +137,7 @@ fn below_zero(n: NumberRead) -> SignedRead
 
 // A signed decimal number that 64 bits hold, negative ones with a minus, none with leading zeros.
 pub fn read_signed(t: &[u8]) -> SignedRead
-    ensures { signedNumberOf result ≡ signed64 t.now }
+    ensures { signed_number_of result ≡ signed64 t.now }
 {
     if t.len() == 0 {
         return SignedRead::NoSigned;
@@ -235,7 +235,7 @@ pub fn signed_count(z: i64) -> usize
 
 // A signed number written in decimal at a place, a negative one with a minus; the answer is as for a text.
 pub fn put_signed(out: &mut [u8], at: usize, z: i64) -> usize
-    ensures { TextPut out.old at (signedDecimal z) result out.new }
+    ensures { TextPut out.old at (signed_decimal z) result out.new }
 {
     if 0 <= z {
         return put_decimal(out, at, size_of(z));

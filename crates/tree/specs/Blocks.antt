@@ -5,8 +5,8 @@ use Rattle.bits.specs.Basics.{pick}
 use Rattle.book.specs.Level.{square, width, height}
 
 -- blocks are numbered level by level from the root 0
-abbrev pub blockCount : ℕ
-blockCount = 63
+abbrev pub block_count : ℕ
+block_count = 63
 
 -- the parts of block i
 abbrev pub left : ℕ → ℕ
@@ -40,23 +40,23 @@ abbrev pub step : ℕ → ℕ → ℕ
 step s d = pick (square (suc d)) (s * height d) (width d)
 
 -- where block i, n levels below the root, begins in a plane of stride s
-unfoldable pub placeUnder : ℕ → ℕ → ℕ → ℕ
-placeUnder s zero i = 0
-placeUnder s (suc n) i = placeUnder s n ((i - 1) / 2) + pick (eqb (i % 2) 0) (step s (4 - n)) 0
+unfoldable pub place_under : ℕ → ℕ → ℕ → ℕ
+place_under s zero i = 0
+place_under s (suc n) i = place_under s n ((i - 1) / 2) + pick (eqb (i % 2) 0) (step s (4 - n)) 0
 
 unfoldable pub place : ℕ → ℕ → ℕ
-place s i = placeUnder s (5 - level i) i
+place s i = place_under s (5 - level i) i
 
 -- the samples of block i, of level d, in raster order
 unfoldable pub block_of : ℕ → ℕ → ℕ → List ℕ → List ℕ
 block_of s d i m = gather s (height d) (width d) (place s i) m
 
 -- the plane m with the samples xs at block i
-unfoldable pub paintAt : ℕ → ℕ → ℕ → List ℕ → List ℕ → List ℕ
-paintAt s d i xs m = paint s (height d) (width d) (place s i) xs m
+unfoldable pub paint_at : ℕ → ℕ → ℕ → List ℕ → List ℕ → List ℕ
+paint_at s d i xs m = paint s (height d) (width d) (place s i) xs m
 
 -- what leaves and splits show, put into a plane leaf by leaf: the recursion of `plan_reconstruction`, at block i of level d
 unfoldable pub rebuilt : ℕ → (ℕ → Bool) → (ℕ → List ℕ) → ℕ → ℕ → List ℕ → List ℕ
-rebuilt s split shown zero i m = paintAt s zero i (shown i) m
+rebuilt s split shown zero i m = paint_at s zero i (shown i) m
 rebuilt s split shown (suc d) i m =
-    pick (split i) (rebuilt s split shown d (right i) (rebuilt s split shown d (left i) m)) (paintAt s (suc d) i (shown i) m)
+    pick (split i) (rebuilt s split shown d (right i) (rebuilt s split shown d (left i) m)) (paint_at s (suc d) i (shown i) m)

@@ -3,8 +3,8 @@ use Rattle.std.specs.Prelude.{ℕ, zero, suc, ◌+◌, ◌-◌, ◌*◌, ◌^◌
 use Rattle.bits.specs.Basics.{pick}
 use Rattle.book.specs.Book.{Tables}
 use Rattle.book.specs.Level.{width}
-use Rattle.leaf.specs.Leaf.{Leaf, Vectors, sse, leafShown, leafRule, termsAt}
-use Rattle.leaf.specs.LeafBits.{leafBits}
+use Rattle.leaf.specs.Leaf.{Leaf, Vectors, sse, leaf_shown, leaf_rule, terms_at}
+use Rattle.leaf.specs.LeafBits.{leaf_bits}
 use Rattle.leaf.specs.declared.svq1_enc_leaf.LeafTerms.{LeafTerms}
 use Rattle.tree.specs.Blocks.{left, right, level, first, block_of}
 
@@ -27,8 +27,8 @@ abbrev pub cost : ℕ → Weight → ℕ
 cost lambda w = saturated (total lambda w)
 
 -- a split: one flag bit and the two parts
-abbrev pub jointWeight : Weight → Weight → Weight
-jointWeight a b = record { bits = a.bits + b.bits + 1; err = a.err + b.err }
+abbrev pub joint_weight : Weight → Weight → Weight
+joint_weight a b = record { bits = a.bits + b.bits + 1; err = a.err + b.err }
 
 -- a leaf above L0: one flag bit and the leaf
 abbrev pub flagged : Weight → Weight
@@ -42,19 +42,19 @@ cheaper lambda a b = ltb (cost lambda a) (cost lambda b)
 unfoldable pub planned : (ℕ → Weight) → ℕ → ℕ → ℕ → Weight
 planned leaf lambda zero i = leaf i
 planned leaf lambda (suc d) i =
-    let parts = jointWeight (planned leaf lambda d (left i)) (planned leaf lambda d (right i)) in
+    let parts = joint_weight (planned leaf lambda d (left i)) (planned leaf lambda d (right i)) in
     pick (cheaper lambda parts (flagged (leaf i))) parts (flagged (leaf i))
 
 -- whether the plan splits block i of level d
 unfoldable pub splits : (ℕ → Weight) → ℕ → ℕ → ℕ → Bool
 splits leaf lambda zero i = false
 splits leaf lambda (suc d) i =
-    cheaper lambda (jointWeight (planned leaf lambda d (left i)) (planned leaf lambda d (right i))) (flagged (leaf i))
+    cheaper lambda (joint_weight (planned leaf lambda d (left i)) (planned leaf lambda d (right i))) (flagged (leaf i))
 
 -- what any pruning weighs: it starts at block i, and `cut` says of each block that it reaches whether it is split; L0 never is
 unfoldable pub pruned : (ℕ → Weight) → (ℕ → Bool) → ℕ → ℕ → Weight
 pruned leaf cut zero i = leaf i
-pruned leaf cut (suc d) i = pick (cut i) (jointWeight (pruned leaf cut d (left i)) (pruned leaf cut d (right i))) (flagged (leaf i))
+pruned leaf cut (suc d) i = pick (cut i) (joint_weight (pruned leaf cut d (left i)) (pruned leaf cut d (right i))) (flagged (leaf i))
 
 -- ---- the plan of a block
 -- what a plan is made from: a half's tables and its vectors by level, the terms of its leaves, which name the same half, and the block with its predictor
@@ -75,28 +75,28 @@ abbrev pub root : Planning → ℕ
 root g = first g.level
 
 -- the leaf choice of block i, what a leaf shows there, and what the choice weighs
-unfoldable pub leafAt : Planning → ℕ → Leaf
-leafAt g i =
-    leafRule (termsAt (level i) g.terms) (g.vectors (level i))
+unfoldable pub leaf_at : Planning → ℕ → Leaf
+leaf_at g i =
+    leaf_rule (terms_at (level i) g.terms) (g.vectors (level i))
     (block_of (stride g) (level i) i g.target) (block_of (stride g) (level i) i g.predictor)
 
-unfoldable pub shownAt : (ℕ → Vectors) → ℕ → List ℕ → ℕ → Leaf → List ℕ
-shownAt vectors s predictor i l = leafShown (vectors (level i)) (block_of s (level i) i predictor) l
+unfoldable pub shown_at : (ℕ → Vectors) → ℕ → List ℕ → ℕ → Leaf → List ℕ
+shown_at vectors s predictor i l = leaf_shown (vectors (level i)) (block_of s (level i) i predictor) l
 
-unfoldable pub weightAt : Planning → ℕ → Weight
-weightAt g i = record {
-  bits = length (leafBits g.tables (level i) (leafAt g i));
-  err = sse (block_of (stride g) (level i) i g.target) (shownAt g.vectors (stride g) g.predictor i (leafAt g i));
+unfoldable pub weight_at : Planning → ℕ → Weight
+weight_at g i = record {
+  bits = length (leaf_bits g.tables (level i) (leaf_at g i));
+  err = sse (block_of (stride g) (level i) i g.target) (shown_at g.vectors (stride g) g.predictor i (leaf_at g i));
 }
 
 -- the bits and the error that the plan states
-unfoldable pub planWeight : Planning → Weight
-planWeight g = planned (weightAt g) g.lambda g.level (root g)
+unfoldable pub plan_weight : Planning → Weight
+plan_weight g = planned (weight_at g) g.lambda g.level (root g)
 
 -- whether the plan splits block i
-unfoldable pub planSplits : Planning → ℕ → Bool
-planSplits g i = splits (weightAt g) g.lambda (level i) i
+unfoldable pub plan_splits : Planning → ℕ → Bool
+plan_splits g i = splits (weight_at g) g.lambda (level i) i
 
 -- what a pruning of the plan's tree over the same leaf choices costs
-unfoldable pub prunedCost : Planning → (ℕ → Bool) → ℕ
-prunedCost g cut = total g.lambda (pruned (weightAt g) cut g.level (root g))
+unfoldable pub pruned_cost : Planning → (ℕ → Bool) → ℕ
+pruned_cost g cut = total g.lambda (pruned (weight_at g) cut g.level (root g))

@@ -2,7 +2,7 @@
 use Rattle.std.specs.Prelude.{Bool, true, false, List, [], ◌∷◌, ◌++◌, ℕ, zero, suc, ◌+◌}
 use Rattle.book.specs.Book.{Tables}
 use Rattle.tree.specs.Blocks.{left, right}
-use Rattle.tree.specs.TreeBits.{Node, Off, Split, Ends, nodeBits}
+use Rattle.tree.specs.TreeBits.{Node, Off, Split, Ends, node_bits}
 
 -- a block that the tree has
 abbrev pub present : Node → Bool
@@ -18,15 +18,15 @@ enqueue (Ends l) i q = q
 
 module _ (T : Tables) (b : ℕ → Node) where
   -- the bits of a queue of blocks of level d, one behind the other, and the queue of the next level
-  unfoldable pub rowBits : ℕ → List ℕ → List ℕ
-  rowBits d [] = []
-  rowBits d (i ∷ q) = nodeBits T d (b i) ++ rowBits d q
+  unfoldable pub row_bits : ℕ → List ℕ → List ℕ
+  row_bits d [] = []
+  row_bits d (i ∷ q) = node_bits T d (b i) ++ row_bits d q
 
   unfoldable pub next : List ℕ → List ℕ
   next [] = []
   next (i ∷ q) = enqueue (b i) i (next q)
 
   -- DOCUMENT 01'S EMISSION: the queue of level d, then that of the level below
-  unfoldable pub queueBits : ℕ → List ℕ → List ℕ
-  queueBits zero q = rowBits zero q
-  queueBits (suc d) q = rowBits (suc d) q ++ queueBits d (next q)
+  unfoldable pub queue_bits : ℕ → List ℕ → List ℕ
+  queue_bits zero q = row_bits zero q
+  queue_bits (suc d) q = row_bits (suc d) q ++ queue_bits d (next q)

@@ -12,21 +12,21 @@ use Rattle.std.proofs.lemmas.List.{length-map}
 use Rattle.std.proofs.Math.Seq.{take-suc, length-take-le}
 use Rattle.bits.specs.Bits.{msb}
 use Rattle.bits.specs.BitNeeds.{Fits, Wrote}
-use Rattle.bits.specs.BitNeedsLaws.{wrote_none, wrote-more}
-use Rattle.book.specs.Book.{Tables, tables_of, meanTable, stageFamily, stageTable}
+use Rattle.bits.specs.BitNeedsLaws.{wrote_none, wrote_more}
+use Rattle.book.specs.Book.{Tables, tables_of, mean_table, stage_family, stage_table}
 use Rattle.book.specs.declared.svq1_vlc.Svq1Half.{Svq1Half}
 use Rattle.leaf.specs.Leaf.{Leaf}
-use Rattle.leaf.specs.LeafBits.{leafBits}
-use Rattle.leaf.specs.LentNeeds.{lentBits, CodeFits, Writable}
-use Rattle.leaf.specs.LentNeedsLaws.{book-bits, book-tables}
-use Rattle.leaf.specs.LeafForms.{leafOf}
+use Rattle.leaf.specs.LeafBits.{leaf_bits}
+use Rattle.leaf.specs.LentNeeds.{lent_bits, CodeFits, Writable}
+use Rattle.leaf.specs.LentNeedsLaws.{book_bits_lem, book_tables}
+use Rattle.leaf.specs.LeafForms.{leaf_of}
 use Rattle.leaf.specs.declared.svq1_enc_leaf.LeafCode.{LeafCode}
 use Rattle.leaf.specs.declared.svq1_enc_leaf.LeafCode.TheVariants as code
-use Rattle.tree.specs.Blocks.{blockCount, level}
-use Rattle.tree.specs.BlocksLaws.{level-le}
-use Rattle.tree.specs.TreeBits.{Node, Off, Split, Ends, isSplit, reached, nodeBits, emit, treeBits}
+use Rattle.tree.specs.Blocks.{block_count, level}
+use Rattle.tree.specs.BlocksLaws.{level_le}
+use Rattle.tree.specs.TreeBits.{Node, Off, Split, Ends, is_split, reached, node_bits, emit, tree_bits}
 use Rattle.tree.specs.NodeForms.{node_of, tree_of}
-use Rattle.tree.specs.WalkNeeds.{leafFlag, Sound, LeafRoom, NodeRoom, TreeRoom}
+use Rattle.tree.specs.WalkNeeds.{leaf_flag, Sound, LeafRoom, NodeRoom, TreeRoom}
 use Rattle.tree.specs.declared.svq1_enc_tree.TreeNode.TheVariants as node
 use Rattle.tree.specs.declared.svq1_enc_tree.Block.{Block}
 
@@ -35,9 +35,9 @@ use Rattle.tree.specs.declared.svq1_enc_tree.Block.{Block}
 abbrev pub nowhere : Block
 nowhere = record { node = node.Off; stages = [] }
 
-pub tree-at : (a : List Block) (i : ℕ) → get_or (tree_of a) i Off ≡ node_of (get_or a i nowhere)
+pub tree_at : (a : List Block) (i : ℕ) → get_or (tree_of a) i Off ≡ node_of (get_or a i nowhere)
 unfolding tree_of
-tree-at a i = get_or-map node_of a i nowhere
+tree_at a i = get_or-map node_of a i nowhere
 
 pub tree-length : (a : List Block) → length (tree_of a) ≡ length a
 unfolding tree_of
@@ -58,45 +58,45 @@ module _ (r : ℕ) (t : List Node) where
   pub reached-none : (i : ℕ) → (i ≡ r → ⊥) → i ≡ 0 → false ≡ reached r t i
   reached-none i n e = rw e (sym (ne_eqb 0 r (rw e at n)))
 
-  pub reached-up : (i : ℕ) → (i ≡ r → ⊥) → (i ≡ 0 → ⊥) → isSplit (get_or t ((i - 1) / 2) Off) ≡ reached r t i
-  reached-up zero n z = absurd (z refl)
-  reached-up (suc j) n z = let e : suc j - 1 ≡ j = omega arith in rw (e, ne_eqb (suc j) r n)
+  pub reached_up : (i : ℕ) → (i ≡ r → ⊥) → (i ≡ 0 → ⊥) → is_split (get_or t ((i - 1) / 2) Off) ≡ reached r t i
+  reached_up zero n z = absurd (z refl)
+  reached_up (suc j) n z = let e : suc j - 1 ≡ j = omega arith in rw (e, ne_eqb (suc j) r n)
 
-pub reached-front : (r : ℕ) (acc u : List Node) (i : ℕ) → i ≤ length acc → reached r (acc ++ u) i ≡ reached r acc i
-reached-front r acc u zero h = refl
-reached-front r acc u (suc j) h = rw (get_or-append acc u Off (j / 2) (omega arith))
+pub reached_front : (r : ℕ) (acc u : List Node) (i : ℕ) → i ≤ length acc → reached r (acc ++ u) i ≡ reached r acc i
+reached_front r acc u zero h = refl
+reached_front r acc u (suc j) h = rw (get_or-append acc u Off (j / 2) (omega arith))
 
 -- ---- a node's bits by its case
 module _ (T : Tables) (d : ℕ) where
-  pub off-bits : (x : Node) → x ≡ Off → nodeBits T d x ≡ []
-  unfolding nodeBits
-  off-bits x e = rw e
+  pub off_bits : (x : Node) → x ≡ Off → node_bits T d x ≡ []
+  unfolding node_bits
+  off_bits x e = rw e
 
-  pub split-bits : (x : Node) → x ≡ Split → nodeBits T d x ≡ 1 ∷ []
-  unfolding nodeBits
-  split-bits x e = rw e
+  pub split_bits : (x : Node) → x ≡ Split → node_bits T d x ≡ 1 ∷ []
+  unfolding node_bits
+  split_bits x e = rw e
 
-  pub leaf-bits : (x : Node) (l : Leaf) → x ≡ Ends l → nodeBits T d x ≡ leafFlag d ++ leafBits T d l
-  unfolding nodeBits leafFlag
-  leaf-bits x l e = ap (nodeBits T d) e ∙ go d
+  pub leaf_bits_lem : (x : Node) (l : Leaf) → x ≡ Ends l → node_bits T d x ≡ leaf_flag d ++ leaf_bits T d l
+  unfolding node_bits leaf_flag
+  leaf_bits_lem x l e = ap (node_bits T d) e ∙ go d
     where
-      go : (k : ℕ) → nodeBits T k (Ends l) ≡ leafFlag k ++ leafBits T k l
+      go : (k : ℕ) → node_bits T k (Ends l) ≡ leaf_flag k ++ leaf_bits T k l
       go zero = refl
       go (suc k) = refl
 
-pub flag-none : (d : ℕ) → d ≡ 0 → leafFlag d ≡ []
-unfolding leafFlag
-flag-none d e = rw e
+pub flag_none : (d : ℕ) → d ≡ 0 → leaf_flag d ≡ []
+unfolding leaf_flag
+flag_none d e = rw e
 
-pub flag-zero : (d : ℕ) → (d ≡ 0 → ⊥) → leafFlag d ≡ msb 1 0
-unfolding leafFlag msb
-flag-zero zero n = absurd (n refl)
-flag-zero (suc d) n = refl
+pub flag_zero : (d : ℕ) → (d ≡ 0 → ⊥) → leaf_flag d ≡ msb 1 0
+unfolding leaf_flag msb
+flag_zero zero n = absurd (n refl)
+flag_zero (suc d) n = refl
 
-pub flag-fits : (d : ℕ) → (d ≡ 0 → ⊥) → {bytes at : ℕ} → Fits bytes at (length (leafFlag d)) → Fits bytes at 1
-unfolding leafFlag
-flag-fits zero n f = absurd (n refl)
-flag-fits (suc d) n f = f
+pub flag_fits : (d : ℕ) → (d ≡ 0 → ⊥) → {bytes at : ℕ} → Fits bytes at (length (leaf_flag d)) → Fits bytes at 1
+unfolding leaf_flag
+flag_fits zero n f = absurd (n refl)
+flag_fits (suc d) n f = f
 
 pub split_one : msb 1 1 ≡ 1 ∷ []
 unfolding msb
@@ -111,45 +111,45 @@ fits-part m h f = record { bytes_fit = f.bytes_fit; bits_fit = omega (arith, f.b
 
 -- a leaf behind its flag, in a block that has room
 module _ (book : List ℕ) (half : Svq1Half) (d : ℕ) (x : Node) (bytes at : ℕ) (r : NodeRoom book half d x bytes at) where
-  pub split-room : x ≡ Split → Fits bytes at 1
-  split-room e = rw (split-bits (tables_of book half) d x e) at r.room
+  pub split_room : x ≡ Split → Fits bytes at 1
+  split_room e = rw (split_bits (tables_of book half) d x e) at r.room
 
   module _ (l : Leaf) (e : x ≡ Ends l) where
-    leaf-whole : Fits bytes at (length (leafFlag d) + length (leafBits (tables_of book half) d l))
-    leaf-whole = rw (leaf-bits (tables_of book half) d x l e, length-append (leafFlag d) (leafBits (tables_of book half) d l)) at r.room
+    leaf_whole : Fits bytes at (length (leaf_flag d) + length (leaf_bits (tables_of book half) d l))
+    leaf_whole = rw (leaf_bits_lem (tables_of book half) d x l e, length-append (leaf_flag d) (leaf_bits (tables_of book half) d l)) at r.room
 
-    pub flag-room : Fits bytes at (length (leafFlag d))
-    flag-room = fits-part (length (leafFlag d)) (omega arith) leaf-whole
+    pub flag_room : Fits bytes at (length (leaf_flag d))
+    flag_room = fits-part (length (leaf_flag d)) (omega arith) leaf_whole
 
-    pub leaf_room : {out mid : List ℕ} {k : ℕ} → length out ≡ bytes → Wrote out at (leafFlag d) k mid → (n : ℕ) → n ≡ length out → LeafRoom book half d l n k
+    pub leaf_room : {out mid : List ℕ} {k : ℕ} → length out ≡ bytes → Wrote out at (leaf_flag d) k mid → (n : ℕ) → n ≡ length out → LeafRoom book half d l n k
     leaf_room {out} {mid} {k} size w n same =
         record {
           passes = r.passes;
           deep = r.deep;
           sound = rw e at r.sound;
-          room = record { bytes_fit = omega (arith, leaf-whole.bytes_fit); bits_fit = omega (arith, w.behind, leaf-whole.bits_fit) };
+          room = record { bytes_fit = omega (arith, leaf_whole.bytes_fit); bits_fit = omega (arith, w.behind, leaf_whole.bits_fit) };
         }
 
 -- ---- a leaf by the tables of a book
-sound-fits : (h : Svq1Half) (d : ℕ) (c : LeafCode) (js : List ℕ) → Sound h d (leafOf c js) → CodeFits h c
-sound-fits h d code.Skip js a = tt
-sound-fits h d (code.Coded m n) js a = a.place
+sound_fits : (h : Svq1Half) (d : ℕ) (c : LeafCode) (js : List ℕ) → Sound h d (leaf_of c js) → CodeFits h c
+sound_fits h d code.Skip js a = tt
+sound_fits h d (code.Coded m n) js a = a.place
 
-module _ (book : List ℕ) (half : Svq1Half) (d : ℕ) (stage mean : List ℕ) (is-stage : stage ≡ stageTable d (stageFamily half book)) (is-mean : mean ≡ meanTable half book) where
-  lent-bits : (l : Leaf) → lentBits half stage mean l ≡ leafBits (tables_of book half) d l
-  lent-bits l = rw (is-stage, is-mean) (book-bits book half d l)
+module _ (book : List ℕ) (half : Svq1Half) (d : ℕ) (stage mean : List ℕ) (is-stage : stage ≡ stage_table d (stage_family half book)) (is-mean : mean ≡ mean_table half book) where
+  lent_bits_lem : (l : Leaf) → lent_bits half stage mean l ≡ leaf_bits (tables_of book half) d l
+  lent_bits_lem l = rw (is-stage, is-mean) (book_bits_lem book half d l)
 
-  pub leaf-lent : (c : LeafCode) (js : List ℕ) (bytes at : ℕ) → LeafRoom book half d (leafOf c js) bytes at → Writable half stage mean c js bytes at
-  leaf-lent c js bytes at r =
+  pub leaf_lent : (c : LeafCode) (js : List ℕ) (bytes at : ℕ) → LeafRoom book half d (leaf_of c js) bytes at → Writable half stage mean c js bytes at
+  leaf_lent c js bytes at r =
       record {
-        tables = rw (is-stage, is-mean) (book-tables book r.passes half d r.deep);
-        known = sound-fits half d c js r.sound;
-        room = rw (lent-bits (leafOf c js)) r.room;
+        tables = rw (is-stage, is-mean) (book_tables book r.passes half d r.deep);
+        known = sound_fits half d c js r.sound;
+        room = rw (lent_bits_lem (leaf_of c js)) r.room;
       }
 
-  pub leaf-wrote : {out left : List ℕ} {at next : ℕ} (l : Leaf) → Wrote out at (lentBits half stage mean l) next left
-      → Wrote out at (leafBits (tables_of book half) d l) next left
-  leaf-wrote l w = wrote_as (lentBits half stage mean l) (leafBits (tables_of book half) d l) (sym (lent-bits l)) w
+  pub leaf_wrote : {out left : List ℕ} {at next : ℕ} (l : Leaf) → Wrote out at (lent_bits half stage mean l) next left
+      → Wrote out at (leaf_bits (tables_of book half) d l) next left
+  leaf_wrote l w = wrote_as (lent_bits half stage mean l) (leaf_bits (tables_of book half) d l) (sym (lent_bits_lem l)) w
 
 -- ---- writing block by block
 emit-append : (T : Tables) (j : ℕ) (xs ys : List Node) → emit T j (xs ++ ys) ≡ emit T j xs ++ emit T (j + length xs) ys
@@ -157,31 +157,31 @@ unfolding emit
 emit-append T j [] ys = rw add-zero
 emit-append T j (x ∷ xs) ys =
     let e : suc j + length xs ≡ j + suc (length xs) = omega arith in
-    rw (append_assoc, ← e) (ap (λ (l : List ℕ). nodeBits T (level j) x ++ l) (emit-append T (suc j) xs ys))
+    rw (append_assoc, ← e) (ap (λ (l : List ℕ). node_bits T (level j) x ++ l) (emit-append T (suc j) xs ys))
 
 -- the first i blocks are written
 pub record Emitting (T : Tables) (t : List Node) (old : List ℕ) (at : ℕ) (new : List ℕ) (k i : ℕ) : Type 0 where
-  pub upto : i ≤ blockCount
+  pub upto : i ≤ block_count
   pub same : length new ≡ length old
   pub done : Wrote old at (emit T 0 (take i t)) k new
 
-module _ (book : List ℕ) (half : Svq1Half) (t : List Node) (len : length t ≡ blockCount) (old : List ℕ) (at : ℕ) (r : TreeRoom book half t (length old) at) where
+module _ (book : List ℕ) (half : Svq1Half) (t : List Node) (len : length t ≡ block_count) (old : List ℕ) (at : ℕ) (r : TreeRoom book half t (length old) at) where
   abbrev T : Tables
   T = tables_of book half
 
   abbrev bits_at : ℕ → List ℕ
-  bits_at i = nodeBits T (level i) (get_or t i Off)
+  bits_at i = node_bits T (level i) (get_or t i Off)
 
-  more-bits : (i : ℕ) → i < blockCount → emit T 0 (take (i + 1) t) ≡ emit T 0 (take i t) ++ bits_at i
+  more_bits : (i : ℕ) → i < block_count → emit T 0 (take (i + 1) t) ≡ emit T 0 (take i t) ++ bits_at i
   unfolding emit
-  more-bits i h =
+  more_bits i h =
       let l : length (take i t) ≡ i = length-take-le i t (omega arith) in
       let in_tree : i < length t = omega arith in
       rw (add-one, take-suc t i Off in_tree, emit-append T 0 (take i t) (get_or t i Off ∷ []), l, zero-add i, append-nil (bits_at i))
 
   -- the bits of the first i blocks are no more than all
-  few_bits : (i : ℕ) → i ≤ blockCount → length (emit T 0 (take i t)) ≤ length (treeBits T t)
-  unfolding treeBits
+  few_bits : (i : ℕ) → i ≤ block_count → length (emit T 0 (take i t)) ≤ length (tree_bits T t)
+  unfolding tree_bits
   few_bits i h =
       omega (
         arith,
@@ -194,28 +194,28 @@ module _ (book : List ℕ) (half : Svq1Half) (t : List Node) (len : length t ≡
   unfolding emit
   emit-begins = record { upto = omega arith; same = refl; done = wrote_none old at }
 
-  module _ (new : List ℕ) (k i : ℕ) (e : Emitting T t old at new k i) (h : i < blockCount) (d : ℕ) (deep : d ≡ level i) (x : Node) (here : x ≡ get_or t i Off) where
-    pub node-room : NodeRoom book half d x (length new) k
-    node-room =
+  module _ (new : List ℕ) (k i : ℕ) (e : Emitting T t old at new k i) (h : i < block_count) (d : ℕ) (deep : d ≡ level i) (x : Node) (here : x ≡ get_or t i Off) where
+    pub node_room : NodeRoom book half d x (length new) k
+    node_room =
         rw (here, deep)
         (record {
           passes = r.passes;
-          deep = level-le i;
+          deep = level_le i;
           sound = r.sound i;
           room = record {
             bytes_fit = omega (arith, r.room.bytes_fit, e.same);
-            bits_fit = omega (arith, r.room.bits_fit, e.same, e.done.behind, few_bits (i + 1) (omega arith), ap length (more-bits i h), length-append (emit T 0 (take i t)) (bits_at i));
+            bits_fit = omega (arith, r.room.bits_fit, e.same, e.done.behind, few_bits (i + 1) (omega arith), ap length (more_bits i h), length-append (emit T 0 (take i t)) (bits_at i));
           };
         })
 
-    pub emit-turn : (new' : List ℕ) (k' : ℕ) → length new' ≡ length new → Wrote new k (nodeBits T d x) k' new' → Emitting T t old at new' k' (i + 1)
-    emit-turn new' k' size w =
+    pub emit_turn : (new' : List ℕ) (k' : ℕ) → length new' ≡ length new → Wrote new k (node_bits T d x) k' new' → Emitting T t old at new' k' (i + 1)
+    emit_turn new' k' size w =
         record {
           upto = omega arith;
           same = size ∙ e.same;
-          done = rw (more-bits i h) (wrote-more (omega (arith, r.room.bits_fit)) e.done (rw (here, deep) at w));
+          done = rw (more_bits i h) (wrote_more (omega (arith, r.room.bits_fit)) e.done (rw (here, deep) at w));
         }
 
-  pub emit-ends : (new : List ℕ) (k i : ℕ) → Emitting T t old at new k i → blockCount ≤ i → Wrote old at (treeBits T t) k new
-  unfolding treeBits
-  emit-ends new k i e h = rw (take_all i t (omega arith)) at e.done
+  pub emit_ends : (new : List ℕ) (k i : ℕ) → Emitting T t old at new k i → block_count ≤ i → Wrote old at (tree_bits T t) k new
+  unfolding tree_bits
+  emit_ends new k i e h = rw (take_all i t (omega arith)) at e.done

@@ -11,59 +11,59 @@ use Rattle.std.proofs.Math.Seq.{append_snoc, drop-cons}
 use Rattle.std.proofs.lemmas.List.{set_at}
 use Rattle.bits.specs.Basics.{pick}
 use Rattle.bits.specs.Bits.{bits_of, val_of}
-use Rattle.bits.specs.BitsLaws.{length-bitsOf}
+use Rattle.bits.specs.BitsLaws.{length_bits_of}
 use Rattle.code_tables.specs.Codes.{Got, got, bad, then}
-use Rattle.book.specs.Book.{Tables, tables_of, meanTable, stageFamily, stageTable}
+use Rattle.book.specs.Book.{Tables, tables_of, mean_table, stage_family, stage_table}
 use Rattle.book.specs.declared.svq1_vlc.Svq1Half.{Svq1Half}
 use Rattle.leaf.specs.Leaf.{Leaf}
-use Rattle.leaf.specs.LentNeeds.{lentTables, LeafRead}
-use Rattle.leaf.specs.LentReadLaws.{book-read}
-use Rattle.leaf.specs.LeafForms.{leafOf}
+use Rattle.leaf.specs.LentNeeds.{lent_tables, LeafRead}
+use Rattle.leaf.specs.LentReadLaws.{book_read_lem}
+use Rattle.leaf.specs.LeafForms.{leaf_of}
 use Rattle.leaf.specs.declared.svq1_plane.inner.ReadLeaf.{ReadLeaf}
-use Rattle.leaf.specs.LeafBits.{readLeaf}
-use Rattle.tree.specs.Blocks.{blockCount, level, first}
-use Rattle.tree.specs.TreeBits.{Node, Off, Split, Ends, reached, asNode, read_node, readIf, readFrom, readTree}
+use Rattle.leaf.specs.LeafBits.{read_leaf}
+use Rattle.tree.specs.Blocks.{block_count, level, first}
+use Rattle.tree.specs.TreeBits.{Node, Off, Split, Ends, reached, as_node, read_node, read_if, read_from, read_tree}
 use Rattle.tree.specs.NodeForms.{node_of, tree_of}
-use Rattle.tree.specs.WalkNeeds.{nodeGot, LeafHere, NodeHere, TreeHere}
-use Rattle.tree.specs.WalkNeedsLaws.{tree_set, reached-front}
+use Rattle.tree.specs.WalkNeeds.{node_got, LeafHere, NodeHere, TreeHere}
+use Rattle.tree.specs.WalkNeedsLaws.{tree_set, reached_front}
 use Rattle.tree.specs.declared.svq1_enc_tree.TreeNode.TheVariants as node
 use Rattle.tree.specs.declared.svq1_enc_tree.Block.{Block}
 use Rattle.tree.specs.declared.svq1_enc_tree.inner.walk.ReadNode.{ReadNode}
 
 -- ---- one block
-node_done : (bits : List ℕ) (g : ReadNode) → g.refused ≡ 0 → got (node_of g.block) (drop g.next bits) ≡ nodeGot bits g
+node_done : (bits : List ℕ) (g : ReadNode) → g.refused ≡ 0 → got (node_of g.block) (drop g.next bits) ≡ node_got bits g
 node_done bits g z = sym (rw (eq-eqb g.refused 0 z))
 
-node-bad : (bits : List ℕ) (g : ReadNode) → (g.refused ≡ 0 → ⊥) → bad g.refused ≡ nodeGot bits g
-node-bad bits g z = sym (rw (ne_eqb g.refused 0 z))
+node_bad : (bits : List ℕ) (g : ReadNode) → (g.refused ≡ 0 → ⊥) → bad g.refused ≡ node_got bits g
+node_bad bits g z = sym (rw (ne_eqb g.refused 0 z))
 
 -- a leaf by the tables of a book
-as-node : (b : Bool) (l : Leaf) (rest : List ℕ) (n : ℕ) → pick b (got (Ends l) rest) (bad n) ≡ asNode (pick b (got l rest) (bad n))
-as-node true l rest n = refl
-as-node false l rest n = refl
+as_node_lem : (b : Bool) (l : Leaf) (rest : List ℕ) (n : ℕ) → pick b (got (Ends l) rest) (bad n) ≡ as_node (pick b (got l rest) (bad n))
+as_node_lem true l rest n = refl
+as_node_lem false l rest n = refl
 
-pub leaf-here : (book : List ℕ) (half : Svq1Half) (d : ℕ) (stage mean s : List ℕ) (at : ℕ) (g : ReadLeaf) → stage ≡ stageTable d (stageFamily half book) → mean ≡ meanTable half book
-    → LeafRead (bits_of s) (readLeaf (lentTables half stage mean) d (drop at (bits_of s))) g
+pub leaf_here : (book : List ℕ) (half : Svq1Half) (d : ℕ) (stage mean s : List ℕ) (at : ℕ) (g : ReadLeaf) → stage ≡ stage_table d (stage_family half book) → mean ≡ mean_table half book
+    → LeafRead (bits_of s) (read_leaf (lent_tables half stage mean) d (drop at (bits_of s))) g
     → LeafHere (tables_of book half) d s at (record { refused = g.refused; next = g.next; block = record { node = node.Leaf g.code; stages = g.stages } })
-leaf-here book half d stage mean s at g is-stage is-mean l =
-    let e : readLeaf (lentTables half stage mean) d (drop at (bits_of s)) ≡ readLeaf (tables_of book half) d (drop at (bits_of s)) =
-    rw (is-stage, is-mean) (book-read book half d (drop at (bits_of s))) in
+leaf_here book half d stage mean s at g is-stage is-mean l =
+    let e : read_leaf (lent_tables half stage mean) d (drop at (bits_of s)) ≡ read_leaf (tables_of book half) d (drop at (bits_of s)) =
+    rw (is-stage, is-mean) (book_read_lem book half d (drop at (bits_of s))) in
     record {
-      is = as-node (eqb g.refused 0) (leafOf g.code g.stages) (drop g.next (bits_of s)) g.refused
-          ∙ ap asNode (l.leaf ∙ e);
-      within = rw length-bitsOf at l.within;
+      is = as_node_lem (eqb g.refused 0) (leaf_of g.code g.stages) (drop g.next (bits_of s)) g.refused
+          ∙ ap as_node (l.leaf ∙ e);
+      within = rw length_bits_of at l.within;
     }
 
 -- a flag stands before a block above L0
 module _ (T : Tables) (d k : ℕ) (bits : List ℕ) where
-  pub flag-none : d ≡ 0 → asNode (readLeaf T d (drop k bits)) ≡ read_node T d (drop k bits)
+  pub flag_none : d ≡ 0 → as_node (read_leaf T d (drop k bits)) ≡ read_node T d (drop k bits)
   unfolding read_node
-  flag-none z = rw z
+  flag_none z = rw z
 
   module _ (n : d ≡ 0 → ⊥) where
-    pub flag-short : length bits ≤ k → bad 24 ≡ read_node T d (drop k bits)
+    pub flag_short : length bits ≤ k → bad 24 ≡ read_node T d (drop k bits)
     unfolding read_node
-    flag-short h = sym (rw (drop_of_length-le bits {i = k} h) (go d n))
+    flag_short h = sym (rw (drop_of_length-le bits {i = k} h) (go d n))
       where
         go : (e : ℕ) → (e ≡ 0 → ⊥) → read_node T e [] ≡ bad 24
         go zero z = absurd (z refl)
@@ -73,21 +73,21 @@ module _ (T : Tables) (d k : ℕ) (bits : List ℕ) where
       abbrev flag : ℕ
       flag = get_or bits k 0
 
-      flag-value : val_of (take 1 (drop k bits)) ≡ flag
+      flag_value : val_of (take 1 (drop k bits)) ≡ flag
       unfolding val_of
-      flag-value = rw (drop-cons bits k 0 h) (omega arith)
+      flag_value = rw (drop-cons bits k 0 h) (omega arith)
 
-      pub flag-leaf : val_of (take 1 (drop k bits)) ≡ 0 → asNode (readLeaf T d (drop (k + 1) bits)) ≡ read_node T d (drop k bits)
+      pub flag_leaf : val_of (take 1 (drop k bits)) ≡ 0 → as_node (read_leaf T d (drop (k + 1) bits)) ≡ read_node T d (drop k bits)
       unfolding read_node
-      flag-leaf z = rw (add-one, drop-cons bits k 0 h, sym flag-value ∙ z) (go d n)
+      flag_leaf z = rw (add-one, drop-cons bits k 0 h, sym flag_value ∙ z) (go d n)
         where
-          go : (e : ℕ) → (e ≡ 0 → ⊥) → asNode (readLeaf T e (drop (suc k) bits)) ≡ read_node T e (0 ∷ drop (suc k) bits)
+          go : (e : ℕ) → (e ≡ 0 → ⊥) → as_node (read_leaf T e (drop (suc k) bits)) ≡ read_node T e (0 ∷ drop (suc k) bits)
           go zero w = absurd (w refl)
           go (suc e) w = refl
 
-      pub flag-split : (val_of (take 1 (drop k bits)) ≡ 0 → ⊥) → got Split (drop (k + 1) bits) ≡ read_node T d (drop k bits)
+      pub flag_split : (val_of (take 1 (drop k bits)) ≡ 0 → ⊥) → got Split (drop (k + 1) bits) ≡ read_node T d (drop k bits)
       unfolding read_node
-      flag-split z = rw (add-one, drop-cons bits k 0 h) (go d flag n (λ e. z (flag-value ∙ e)))
+      flag_split z = rw (add-one, drop-cons bits k 0 h) (go d flag n (λ e. z (flag_value ∙ e)))
         where
           go : (e f : ℕ) → (e ≡ 0 → ⊥) → (f ≡ 0 → ⊥) → got Split (drop (suc k) bits) ≡ read_node T e (f ∷ drop (suc k) bits)
           go zero f w v = absurd (w refl)
@@ -98,27 +98,27 @@ module _ (T : Tables) (d k : ℕ) (bits : List ℕ) where
 -- i blocks have been read: they are the first of t, and reading on from bit k gives the whole
 pub record Reading (T : Tables) (r : ℕ) (s : List ℕ) (whole : Got (List Node)) (t : List Block) (k i : ℕ) : Type 0 where
   pub read : List Node
-  pub upto : i ≤ blockCount
+  pub upto : i ≤ block_count
   pub count : length read ≡ i
-  pub front : tree_of t ≡ read ++ replicate (blockCount - i) Off
-  pub on : readFrom T r (blockCount - i) read (drop k (bits_of s)) ≡ whole
+  pub front : tree_of t ≡ read ++ replicate (block_count - i) Off
+  pub on : read_from T r (block_count - i) read (drop k (bits_of s)) ≡ whole
   pub within : k ≤ 8 * length s
 
-module _ (T : Tables) (r : ℕ) (s : List ℕ) (whole : Got (List Node)) (t : List Block) (k i : ℕ) (g : Reading T r s whole t k i) (h : i < blockCount) where
+module _ (T : Tables) (r : ℕ) (s : List ℕ) (whole : Got (List Node)) (t : List Block) (k i : ℕ) (g : Reading T r s whole t k i) (h : i < block_count) where
   abbrev more : Node → List ℕ → Got (List Node)
-  more x rest = readFrom T r (blockCount - (i + 1)) (g.read ++ (x ∷ [])) rest
+  more x rest = read_from T r (block_count - (i + 1)) (g.read ++ (x ∷ [])) rest
 
-  one_less : blockCount - i ≡ suc (blockCount - (i + 1))
+  one_less : block_count - i ≡ suc (block_count - (i + 1))
   one_less = omega arith
 
-  one_on : then (readIf T (reached r (tree_of t) i) (level i) (drop k (bits_of s))) more ≡ whole
-  unfolding readFrom
+  one_on : then (read_if T (reached r (tree_of t) i) (level i) (drop k (bits_of s))) more ≡ whole
+  unfolding read_from
   one_on =
       let f : reached r (tree_of t) i ≡ reached r g.read i =
-      ap (λ (l : List Node). reached r l i) g.front ∙ reached-front r g.read (replicate (blockCount - i) Off) i (omega (arith, g.count)) in
-      ap (λ (b : Bool). then (readIf T b (level i) (drop k (bits_of s))) more) f
-      ∙ ap (λ (n : ℕ). then (readIf T (reached r g.read n) (level n) (drop k (bits_of s))) more) (sym g.count)
-      ∙ ap (λ (n : ℕ). readFrom T r n g.read (drop k (bits_of s))) (sym one_less)
+      ap (λ (l : List Node). reached r l i) g.front ∙ reached_front r g.read (replicate (block_count - i) Off) i (omega (arith, g.count)) in
+      ap (λ (b : Bool). then (read_if T b (level i) (drop k (bits_of s))) more) f
+      ∙ ap (λ (n : ℕ). then (read_if T (reached r g.read n) (level n) (drop k (bits_of s))) more) (sym g.count)
+      ∙ ap (λ (n : ℕ). read_from T r n g.read (drop k (bits_of s))) (sym one_less)
       ∙ g.on
 
   longer : (x : Node) → length (g.read ++ (x ∷ [])) ≡ i + 1
@@ -130,14 +130,14 @@ module _ (T : Tables) (r : ℕ) (s : List ℕ) (whole : Got (List Node)) (t : Li
         read = g.read ++ (Off ∷ []);
         upto = omega arith;
         count = longer Off;
-        front = g.front ∙ ap (λ (n : ℕ). g.read ++ replicate n Off) one_less ∙ sym (append_snoc g.read Off (replicate (blockCount - (i + 1)) Off));
+        front = g.front ∙ ap (λ (n : ℕ). g.read ++ replicate n Off) one_less ∙ sym (append_snoc g.read Off (replicate (block_count - (i + 1)) Off));
         on = rw f at one_on;
         within = g.within;
       }
 
   module _ (d : ℕ) (deep : d ≡ level i) (n : ReadNode) (f : reached r (tree_of t) i ≡ true) (e : NodeHere T d s k n) where
-    on-from : then (nodeGot (bits_of s) n) more ≡ whole
-    on-from = ap (λ (x : Got Node). then x more) (e.is ∙ ap (λ (y : ℕ). read_node T y (drop k (bits_of s))) deep) ∙ rw f at one_on
+    on_from : then (node_got (bits_of s) n) more ≡ whole
+    on_from = ap (λ (x : Got Node). then x more) (e.is ∙ ap (λ (y : ℕ). read_node T y (drop k (bits_of s))) deep) ∙ rw f at one_on
 
     pub taken : n.refused ≡ 0 → Reading T r s whole (set t i n.block) n.next (i + 1)
     taken z =
@@ -147,13 +147,13 @@ module _ (T : Tables) (r : ℕ) (s : List ℕ) (whole : Got (List Node)) (t : Li
           upto = omega arith;
           count = longer x;
           front = tree_set t i n.block ∙ rw (g.front, one_less)
-              (set_at g.read Off (replicate (blockCount - (i + 1)) Off) x i g.count ∙ sym (append_snoc g.read x (replicate (blockCount - (i + 1)) Off)));
-          on = ap (λ (y : Got Node). then y more) (node_done (bits_of s) n z) ∙ on-from;
+              (set_at g.read Off (replicate (block_count - (i + 1)) Off) x i g.count ∙ sym (append_snoc g.read x (replicate (block_count - (i + 1)) Off)));
+          on = ap (λ (y : Got Node). then y more) (node_done (bits_of s) n z) ∙ on_from;
           within = e.within;
         }
 
     pub refused : (n.refused ≡ 0 → ⊥) → bad n.refused ≡ whole
-    refused z = ap (λ (y : Got Node). then y more) (node-bad (bits_of s) n z) ∙ on-from
+    refused z = ap (λ (y : Got Node). then y more) (node_bad (bits_of s) n z) ∙ on_from
 
 pub moved : (T : Tables) (r : ℕ) (s : List ℕ) (whole : Got (List Node)) (t t' : List Block) (k k' i : ℕ) → t' ≡ t → k' ≡ k
     → Reading T r s whole t k i → Reading T r s whole t' k' i
@@ -161,28 +161,28 @@ moved T r s whole t t' k k' i et ek g = rw (et, ek) g
 
 module _ (T : Tables) (d : ℕ) (s : List ℕ) (at : ℕ) (r : ℕ) (root : r ≡ first d) where
   abbrev whole : Got (List Node)
-  whole = readTree T d (drop at (bits_of s))
+  whole = read_tree T d (drop at (bits_of s))
 
-  pub read-begins : (t : List Block) → tree_of t ≡ replicate blockCount Off → at ≤ 8 * length s → Reading T r s whole t at 0
-  unfolding readTree
-  read-begins t e h =
+  pub read_begins : (t : List Block) → tree_of t ≡ replicate block_count Off → at ≤ 8 * length s → Reading T r s whole t at 0
+  unfolding read_tree
+  read_begins t e h =
       record {
         read = [];
         upto = omega arith;
         count = refl;
         front = e;
-        on = ap (λ (n : ℕ). readFrom T n blockCount [] (drop at (bits_of s))) root;
+        on = ap (λ (n : ℕ). read_from T n block_count [] (drop at (bits_of s))) root;
         within = h;
       }
 
-  pub read-ends : (t : List Block) (k i : ℕ) → Reading T r s whole t k i → blockCount ≤ i → TreeHere T d s at (record { refused = 0; next = k; blocks = t })
-  unfolding readFrom
-  read-ends t k i g h =
-      let z : blockCount - i ≡ 0 = omega arith in
+  pub read_ends : (t : List Block) (k i : ℕ) → Reading T r s whole t k i → block_count ≤ i → TreeHere T d s at (record { refused = 0; next = k; blocks = t })
+  unfolding read_from
+  read_ends t k i g h =
+      let z : block_count - i ≡ 0 = omega arith in
       record {
         is = ap (λ (l : List Node). got l (drop k (bits_of s))) (g.front ∙ ap (λ (n : ℕ). g.read ++ replicate n Off) z ∙ append-nil g.read) ∙ rw z at g.on;
         within = g.within;
       }
 
-  pub read-refused : (t : List Block) (k n : ℕ) → (n ≡ 0 → ⊥) → k ≤ 8 * length s → bad n ≡ whole → TreeHere T d s at (record { refused = n; next = k; blocks = t })
-  read-refused t k n z h e = record { is = rw (ne_eqb n 0 z) e; within = h }
+  pub read_refused : (t : List Block) (k n : ℕ) → (n ≡ 0 → ⊥) → k ≤ 8 * length s → bad n ≡ whole → TreeHere T d s at (record { refused = n; next = k; blocks = t })
+  read_refused t k n z h e = record { is = rw (ne_eqb n 0 z) e; within = h }

@@ -2,8 +2,8 @@
 pub mod inner;
 
 ghost use Rattle.std.specs.Prelude.{◌≡◌, replicate};
-ghost use Rattle.tree.specs.Blocks.{blockCount};
-ghost use Rattle.tree.specs.NodeForms.{offBlock};
+ghost use Rattle.tree.specs.Blocks.{block_count};
+ghost use Rattle.tree.specs.NodeForms.{off_block};
 
 use leaf::svq1_enc_leaf::LeafCode;
 
@@ -24,7 +24,7 @@ pub struct Block {
 
 // No tree: every block is off.
 pub fn no_blocks() -> [Block; 63]
-    ensures { result ≡ replicate blockCount offBlock }
+    ensures { result ≡ replicate block_count off_block }
 {
     [Block {
         node: TreeNode::Off,

@@ -7,32 +7,32 @@ use Rattle.vectors.specs.declared.svq1_motion_predictor.Svq1Mv.{Svq1Mv}
 use Rattle.vectors.specs.declared.svq1_motion_predictor.Neighbour.{Neighbour}
 use Rattle.vectors.specs.declared.svq1_motion_predictor.Neighbour.TheVariants.{Absent, Present}
 
-abbrev pub zeroMv : Svq1Mv
-zeroMv = record { x = pos 0; y = pos 0 }
+abbrev pub zero_mv : Svq1Mv
+zero_mv = record { x = pos 0; y = pos 0 }
 
-abbrev pub minZ : ℤ → ℤ → ℤ
-minZ a b = pick (lt_z a b) a b
+abbrev pub min_z : ℤ → ℤ → ℤ
+min_z a b = pick (lt_z a b) a b
 
-abbrev pub maxZ : ℤ → ℤ → ℤ
-maxZ a b = pick (lt_z a b) b a
+abbrev pub max_z : ℤ → ℤ → ℤ
+max_z a b = pick (lt_z a b) b a
 
 -- the middle one of three numbers
 unfoldable pub median : ℤ → ℤ → ℤ → ℤ
-median a b c = maxZ (minZ a b) (minZ (maxZ a b) c)
+median a b c = max_z (min_z a b) (min_z (max_z a b) c)
 
-abbrev pub medianMv : Svq1Mv → Svq1Mv → Svq1Mv → Svq1Mv
-medianMv a b c = record { x = median a.x b.x c.x; y = median a.y b.y c.y }
+abbrev pub median_mv : Svq1Mv → Svq1Mv → Svq1Mv → Svq1Mv
+median_mv a b c = record { x = median a.x b.x c.x; y = median a.y b.y c.y }
 
 -- from left, top and top right. No neighbour: zero. One: that vector. Else the median by component, zero for a missing one
 unfoldable pub predicted : Neighbour → Neighbour → Neighbour → Svq1Mv
-predicted Absent Absent Absent = zeroMv
+predicted Absent Absent Absent = zero_mv
 predicted (Present a) Absent Absent = a
 predicted Absent (Present b) Absent = b
 predicted Absent Absent (Present c) = c
-predicted (Present a) (Present b) Absent = medianMv a b zeroMv
-predicted (Present a) Absent (Present c) = medianMv a zeroMv c
-predicted Absent (Present b) (Present c) = medianMv zeroMv b c
-predicted (Present a) (Present b) (Present c) = medianMv a b c
+predicted (Present a) (Present b) Absent = median_mv a b zero_mv
+predicted (Present a) Absent (Present c) = median_mv a zero_mv c
+predicted Absent (Present b) (Present c) = median_mv zero_mv b c
+predicted (Present a) (Present b) (Present c) = median_mv a b c
 
 -- clipped to -32..31
 abbrev pub clipped : ℤ → ℤ
@@ -40,12 +40,12 @@ clipped (pos n) = pos (min 31 n)
 clipped (negsuc n) = negsuc (min 31 n)
 
 -- the vector of a predictor and a difference (`final_motion_vector`)
-abbrev pub finalMv : Svq1Mv → ℤ → ℤ → Svq1Mv
-finalMv p dx dy = record { x = clipped (p.x +ℤ dx); y = clipped (p.y +ℤ dy) }
+abbrev pub final_mv : Svq1Mv → ℤ → ℤ → Svq1Mv
+final_mv p dx dy = record { x = clipped (p.x +ℤ dx); y = clipped (p.y +ℤ dy) }
 
 -- a vector's difference from its predictor
-abbrev pub differenceMv : Svq1Mv → Svq1Mv → Svq1Mv
-differenceMv p v = record { x = v.x -ℤ p.x; y = v.y -ℤ p.y }
+abbrev pub difference_mv : Svq1Mv → Svq1Mv → Svq1Mv
+difference_mv p v = record { x = v.x -ℤ p.x; y = v.y -ℤ p.y }
 
 -- in -32..31
 abbrev pub in_range : ℤ → Bool
@@ -59,5 +59,5 @@ codable p v = in_range v && in_range (v -ℤ p)
 abbrev pub place_of : ℤ → ℕ
 place_of d = natural (d +ℤ pos 32)
 
-abbrev pub differenceAt : ℕ → ℤ
-differenceAt k = sub_ℕ k 32
+abbrev pub difference_at : ℕ → ℤ
+difference_at k = sub_ℕ k 32

@@ -2,7 +2,7 @@
 pub mod inner;
 
 ghost use Rattle.std.specs.Prelude.{◌≡◌, ◌+ℤ◌};
-ghost use Rattle.vectors.specs.Vectors.{zeroMv, minZ, maxZ, median, medianMv, predicted, clipped, finalMv};
+ghost use Rattle.vectors.specs.Vectors.{zero_mv, min_z, max_z, median, median_mv, predicted, clipped, final_mv};
 
 // A motion vector, in half samples.
 #[derive(Drop)]
@@ -30,19 +30,19 @@ pub enum Neighbour {
 
 // The vector that SKIP and INTRA macroblocks store.
 pub fn zero_vector() -> Svq1Mv
-    ensures { result ≡ zeroMv }
+    ensures { result ≡ zero_mv }
 {
     Svq1Mv::ZERO
 }
 
 fn lesser(a: i32, b: i32) -> i32
-    ensures { result ≡ minZ a b }
+    ensures { result ≡ min_z a b }
 {
     if a < b { a } else { b }
 }
 
 fn greater(a: i32, b: i32) -> i32
-    ensures { result ≡ maxZ a b }
+    ensures { result ≡ max_z a b }
 {
     if a < b { b } else { a }
 }
@@ -55,7 +55,7 @@ pub fn median3(a: i32, b: i32, c: i32) -> i32
 }
 
 fn median_vector(a: Svq1Mv, b: Svq1Mv, c: Svq1Mv) -> Svq1Mv
-    ensures { result ≡ medianMv a b c }
+    ensures { result ≡ median_mv a b c }
 {
     Svq1Mv {
         x: median3(a.x, b.x, c.x),
@@ -119,7 +119,7 @@ fn clip_sum(a: i32, b: i32) -> i32
 
 // The vector of a predictor and a difference.
 pub fn final_motion_vector(predictor: Svq1Mv, dx: i32, dy: i32) -> Svq1Mv
-    ensures { result ≡ finalMv predictor dx dy }
+    ensures { result ≡ final_mv predictor dx dy }
 {
     Svq1Mv {
         x: clip_sum(predictor.x, dx),

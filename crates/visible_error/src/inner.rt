@@ -1,8 +1,8 @@
 // Functions that only the crates of this repository call. Each has a `requires`: the caller, proved too, meets it.
 ghost use Rattle.std.specs.Prelude.{◌≡◌, ◌+◌, ◌*◌, ◌<◌, ◌≤◌};
 ghost use Rattle.bits.specs.Basics.{sum};
-ghost use Rattle.visible_error.specs.Visible.{squareAt, insideFrom, visibleError, visibleTotal};
-ghost use Rattle.visible_error.specs.VisibleNeeds.{shownBy, shownBlocks, Showable};
+ghost use Rattle.visible_error.specs.Visible.{square_at, inside_from, visible_error, visible_total};
+ghost use Rattle.visible_error.specs.VisibleNeeds.{shown_by, shown_blocks, Showable};
 
 use canvas::svq1_plane::inner::blocks_along;
 use canvas::svq1_plane::{MB_DIM, Svq1PlaneCanvas};
@@ -11,7 +11,7 @@ use leaf_samples::svq1_enc_leaf::inner::distance_of;
 // How many of a macroblock's columns or rows from `from` on lie inside a side.
 fn cut(side: usize, from: usize) -> usize
     requires { from ≤ side }
-    ensures { result ≡ insideFrom side from }
+    ensures { result ≡ inside_from side from }
 {
     let left = side - from;
     if left < MB_DIM { left } else { MB_DIM }
@@ -26,8 +26,8 @@ fn row_error(
     y: usize,
     n: usize,
 ) -> u32
-    requires { Showable (shownBy canvas source.now recon.now) × (n ≤ 16) × (x + n ≤ canvas.width) × (y < canvas.height) }
-    ensures { (result ≡ sum (λ i. squareAt (shownBy canvas source.now recon.now) (x + i) y) n) × (result ≤ 65025 * n) }
+    requires { Showable (shown_by canvas source.now recon.now) × (n ≤ 16) × (x + n ≤ canvas.width) × (y < canvas.height) }
+    ensures { (result ≡ sum (λ i. square_at (shown_by canvas source.now recon.now) (x + i) y) n) × (result ≤ 65025 * n) }
 {
     let a = y * canvas.width + x;
     let b = y * canvas.stride + x;
@@ -44,8 +44,8 @@ fn rows_error(
     n: usize,
     m: usize,
 ) -> u32
-    requires { Showable (shownBy canvas source.now recon.now) × (n ≤ 16) × (m ≤ 16) × (x + n ≤ canvas.width) × (y + m ≤ canvas.height) }
-    ensures { (result ≡ sum (λ j. sum (λ i. squareAt (shownBy canvas source.now recon.now) (x + i) (y + j)) n) m) × (result ≤ 16646400) }
+    requires { Showable (shown_by canvas source.now recon.now) × (n ≤ 16) × (m ≤ 16) × (x + n ≤ canvas.width) × (y + m ≤ canvas.height) }
+    ensures { (result ≡ sum (λ j. sum (λ i. square_at (shown_by canvas source.now recon.now) (x + i) (y + j)) n) m) × (result ≤ 16646400) }
 {
     let mut sum: u32 = 0;
     let mut j = 0;
@@ -58,8 +58,8 @@ fn rows_error(
 
 // The squared error of macroblock k over its visible samples.
 pub fn visible_block(canvas: Svq1PlaneCanvas, source: &[u8], recon: &[u8], k: usize) -> u32
-    requires { Showable (shownBy canvas source.now recon.now) × (k < shownBlocks (shownBy canvas source.now recon.now)) }
-    ensures { (result ≡ visibleError (shownBy canvas source.now recon.now) k) × (result ≤ 16646400) }
+    requires { Showable (shown_by canvas source.now recon.now) × (k < shown_blocks (shown_by canvas source.now recon.now)) }
+    ensures { (result ≡ visible_error (shown_by canvas source.now recon.now) k) × (result ≤ 16646400) }
 {
     let cols = blocks_along(canvas.width);
     let x = MB_DIM * (k % cols);
@@ -71,8 +71,8 @@ pub fn visible_block(canvas: Svq1PlaneCanvas, source: &[u8], recon: &[u8], k: us
 
 // The same of all macroblocks.
 pub fn visible_total(canvas: Svq1PlaneCanvas, source: &[u8], recon: &[u8]) -> u64
-    requires { Showable (shownBy canvas source.now recon.now) }
-    ensures { result ≡ visibleTotal (shownBy canvas source.now recon.now) }
+    requires { Showable (shown_by canvas source.now recon.now) }
+    ensures { result ≡ visible_total (shown_by canvas source.now recon.now) }
 {
     let count = blocks_along(canvas.height) * blocks_along(canvas.width);
     let mut sum: u64 = 0;

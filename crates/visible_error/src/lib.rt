@@ -2,8 +2,8 @@
 pub mod inner;
 
 ghost use Rattle.std.specs.Prelude.{◌≡◌};
-ghost use Rattle.visible_error.specs.Visible.{visibleAnswer};
-ghost use Rattle.visible_error.specs.VisibleNeeds.{shownBy};
+ghost use Rattle.visible_error.specs.Visible.{visible_answer};
+ghost use Rattle.visible_error.specs.VisibleNeeds.{shown_by};
 
 use canvas::svq1_plane::{Svq1PlaneCanvas, source_refusal};
 use inner::visible_total;
@@ -17,7 +17,7 @@ pub struct VisibleError {
 
 // The squared error of a reconstruction in its canvas against the plane's source, over the samples inside width and height alone.
 pub fn visible_error(canvas: Svq1PlaneCanvas, source: &[u8], recon: &[u8]) -> VisibleError
-    ensures { result ≡ visibleAnswer (shownBy canvas source.now recon.now) }
+    ensures { result ≡ visible_answer (shown_by canvas source.now recon.now) }
 {
     let refused = source_refusal(canvas, source.len(), recon);
     if refused != 0 {

@@ -4,13 +4,13 @@ use lib.ListN.{length}
 use borrow.Author.Tests.{eq-eqb, ne_eqb}
 use borrow.Author.Rules.{rules}
 use Rattle.bits.specs.Basics.{or_else, unless}
-use Rattle.book.specs.Book.{bookBytes, codeTableSizes, eachPrefixFree, codesRefusal, bookRefusal}
+use Rattle.book.specs.Book.{book_bytes, code_table_sizes, each_prefix_free, codes_refusal, book_refusal}
 use Rattle.book_check.proofs.book_refusal.Statement.{statement}
 use Rattle.book_check.proofs.book_refusal.Tie as tie
 
 returns : tie.Need-returns
-unfolding bookRefusal
-returns c = sym (rw (ne_eqb (length c.before.before.args.book.now) bookBytes c.if1.true))
+unfolding book_refusal
+returns c = sym (rw (ne_eqb (length c.before.before.args.book.now) book_bytes c.if1.true))
 
 good-table-requires : tie.Need-good-table-requires
 good-table-requires c κs = search rules
@@ -18,9 +18,9 @@ good-table-requires c κs = search rules
 -- what is left of the definition once the size is right
 left : (c : tie.After-good-table) →
     let b = c.before.before.before.args.book.now in
-    bookRefusal b ≡ or_else (unless c.good-table.result 6) (unless (eachPrefixFree codeTableSizes b) 7)
-unfolding bookRefusal codesRefusal
-left c = rw (eq-eqb (length c.before.before.before.args.book.now) bookBytes c.before.if1.false, ← c.good-table.ensures)
+    book_refusal b ≡ or_else (unless c.good-table.result 6) (unless (each_prefix_free code_table_sizes b) 7)
+unfolding book_refusal codes_refusal
+left c = rw (eq-eqb (length c.before.before.before.args.book.now) book_bytes c.before.if1.false, ← c.good-table.ensures)
 
 each-prefix-free-requires : tie.Need-each-prefix-free-requires
 each-prefix-free-requires c κs =

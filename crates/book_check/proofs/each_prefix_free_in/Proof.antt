@@ -6,24 +6,24 @@ use mathlib.Core.List.{List, ◌++◌}
 use native.Mathlib.Omega.{arith}
 use lib.ListN.{length, take, drop, length-drop}
 use lib.Seq.{length-take-le}
-use Rattle.bits.specs.BasicsLaws.{front-size}
-use Rattle.code_tables.specs.Codes.{codes_of, prefixFree}
-use Rattle.code_tables.specs.CodesLaws.{good-take, good-drop}
-use Rattle.book.specs.Book.{codeTableSizes, eachPrefixFree}
-use Rattle.book.specs.BookLaws.{sizesSum, total-step, each_step, each-end, size-le}
+use Rattle.bits.specs.BasicsLaws.{front_size}
+use Rattle.code_tables.specs.Codes.{codes_of, prefix_free}
+use Rattle.code_tables.specs.CodesLaws.{good_take, good_drop}
+use Rattle.book.specs.Book.{code_table_sizes, each_prefix_free}
+use Rattle.book.specs.BookLaws.{sizes_sum, total-step, each_step, each_end, size_le}
 use Rattle.book_check.proofs.each_prefix_free_in.Statement.{statement}
 use Rattle.book_check.proofs.each_prefix_free_in.Tie as tie
 
 abbrev invariant-loop : tie.invariant-loop
 invariant-loop book lows₀ highs₀ i₀ before₀ lows highs i before =
-    (i ≤ 16) × (before + sizesSum (drop i codeTableSizes) ≡ 932) × (eachPrefixFree codeTableSizes book ≡ eachPrefixFree (drop i codeTableSizes) (drop (3 * before) book))
+    (i ≤ 16) × (before + sizes_sum (drop i code_table_sizes) ≡ 932) × (each_prefix_free code_table_sizes book ≡ each_prefix_free (drop i code_table_sizes) (drop (3 * before) book))
     × (length lows ≡ length lows₀) × (length highs ≡ length highs₀)
 
 abbrev decreases-loop : tie.decreases-loop
 decreases-loop book lows₀ highs₀ i₀ before₀ lows highs i before = 16 - i
 
 loop-holds : tie.Need-loop-init invariant-loop decreases-loop
-unfolding sizesSum
+unfolding sizes_sum
 loop-holds c = (omega arith, refl, refl, refl, refl)
 
 code-table-size-requires : tie.Need-code-table-size-requires invariant-loop decreases-loop
@@ -35,10 +35,10 @@ mul-from c = omega arith
 -- the tables from here on have the entries that are left
 room : (c : tie.After-code-table-size invariant-loop decreases-loop) →
     let u = c.before.before in
-    u.loop.before + (c.code-table-size.result + sizesSum (drop (u.loop.i + 1) codeTableSizes)) ≡ 932
+    u.loop.before + (c.code-table-size.result + sizes_sum (drop (u.loop.i + 1) code_table_sizes)) ≡ 932
 room c =
     let u = c.before.before in
-    ap (λ (n : ℕ). u.loop.before + n) (rw c.code-table-size.ensures (sym (total-step codeTableSizes u.loop.i (omega arith)))) ∙ u.loop.invariant.1
+    ap (λ (n : ℕ). u.loop.before + n) (rw c.code-table-size.ensures (sym (total-step code_table_sizes u.loop.i (omega arith)))) ∙ u.loop.invariant.1
 
 -- there is room for the ranges of the table's codes
 ranges : (c : tie.After-code-table-size invariant-loop decreases-loop) →
@@ -47,7 +47,7 @@ ranges : (c : tie.After-code-table-size invariant-loop decreases-loop) →
 ranges c =
     let u = c.before.before in
     let s = u.before.before.before.before in
-    let n : c.code-table-size.result ≤ 512 = rw c.code-table-size.ensures (size-le u.loop.i (omega arith)) in
+    let n : c.code-table-size.result ≤ 512 = rw c.code-table-size.ensures (size_le u.loop.i (omega arith)) in
     (omega (arith, u.loop.invariant.3, s.requires.2), omega (arith, u.loop.invariant.4, s.requires.3), n)
 
 -- a turn's step of the definition
@@ -55,8 +55,8 @@ step : (c : tie.After-prefix-free invariant-loop decreases-loop) →
     let q = c.before.before.before.before in
     let u = q.before.before in
     let b = u.before.before.before.before.args.book.now in
-    eachPrefixFree codeTableSizes b
-    ≡ (c.prefix-free.result && eachPrefixFree (drop (u.loop.i + 1) codeTableSizes) (drop (3 * (u.loop.before + q.code-table-size.result)) b))
+    each_prefix_free code_table_sizes b
+    ≡ (c.prefix-free.result && each_prefix_free (drop (u.loop.i + 1) code_table_sizes) (drop (3 * (u.loop.before + q.code-table-size.result)) b))
 step c =
     let q = c.before.before.before.before in
     let u = q.before.before in
@@ -64,8 +64,8 @@ step c =
     let p : ℕ = u.loop.before in
     let n : ℕ = q.code-table-size.result in
     let k : 3 * p + 3 * n - 3 * p ≡ 3 * n = omega arith in
-    let e : c.prefix-free.result ≡ prefixFree (codes_of (take (3 * n) (drop (3 * p) b))) = rw k at c.prefix-free.ensures in
-    u.loop.invariant.2 ∙ each_step codeTableSizes b u.loop.i p (omega arith) ∙ rw (← q.code-table-size.ensures, ← e)
+    let e : c.prefix-free.result ≡ prefix_free (codes_of (take (3 * n) (drop (3 * p) b))) = rw k at c.prefix-free.ensures in
+    u.loop.invariant.2 ∙ each_step code_table_sizes b u.loop.i p (omega arith) ∙ rw (← q.code-table-size.ensures, ← e)
 
 -- the lent slices keep their lengths
 sizes : (c : tie.After-prefix-free invariant-loop decreases-loop) →
@@ -80,8 +80,8 @@ sizes c =
     let u = q.before.before in
     let n : ℕ = q.code-table-size.result in
     let r = ranges q in (
-      front-size c.prefix-free.new.1.0 u.loop.lows n (c.prefix-free.auto.1.0 ∙ length-take-le n u.loop.lows r.0) r.0 ∙ u.loop.invariant.3,
-      front-size c.prefix-free.new.1.1.0 u.loop.highs n (c.prefix-free.auto.1.1.0 ∙ length-take-le n u.loop.highs r.1) r.1 ∙ u.loop.invariant.4,
+      front_size c.prefix-free.new.1.0 u.loop.lows n (c.prefix-free.auto.1.0 ∙ length-take-le n u.loop.lows r.0) r.0 ∙ u.loop.invariant.3,
+      front_size c.prefix-free.new.1.1.0 u.loop.highs n (c.prefix-free.auto.1.1.0 ∙ length-take-le n u.loop.highs r.1) r.1 ∙ u.loop.invariant.4,
     )
 
 mul-to : tie.Need-overflow-mul-to invariant-loop decreases-loop
@@ -124,7 +124,7 @@ prefix-free-requires c κs =
     let whole : 3 * n ≤ length (drop (3 * p) b) = omega (arith, room q, length-drop (3 * p) b, s.requires.0) in
     let t : length (take (3 * n) (drop (3 * p) b)) / 3 ≡ n = omega (arith, length-take-le (3 * n) (drop (3 * p) b) whole) in
     rw (k, t, length-take-le n u.loop.lows r.0, length-take-le n u.loop.highs r.1)
-    (good-take (drop (3 * p) b) n (good-drop b p s.requires.1), refl, refl, omega (arith, r.2))
+    (good_take (drop (3 * p) b) n (good_drop b p s.requires.1), refl, refl, omega (arith, r.2))
 
 add-before : tie.Need-overflow-add-before invariant-loop decreases-loop
 add-before c = omega (arith, room c.before.before.before.before.before.before.before.before.before)
@@ -156,7 +156,7 @@ same-length-4 : tie.Need-same-length-4 invariant-loop decreases-loop
 same-length-4 c = c.before.loop.invariant.4
 
 returns-2 : tie.Need-returns-2 invariant-loop decreases-loop
-returns-2 c = sym (c.before.loop.invariant.2 ∙ each-end codeTableSizes _ c.before.loop.i c.loop-test.false)
+returns-2 c = sym (c.before.loop.invariant.2 ∙ each_end code_table_sizes _ c.before.loop.i c.loop-test.false)
 
 pub each-prefix-free-in-spec : {M : Type 1} → statement M
 each-prefix-free-in-spec =

@@ -5,13 +5,13 @@ use native.Mathlib.Omega.{arith}
 use lib.Dec.{eqb}
 use lib.ListN.{length, drop}
 use borrow.Author.Tests.{eq-eqb, ne_eqb}
-use Rattle.book_file.specs.BookFileForms.{allMet}
-use Rattle.book_file.specs.BookFileFormsLaws.{every-step, every-end}
+use Rattle.book_file.specs.BookFileForms.{all_met}
+use Rattle.book_file.specs.BookFileFormsLaws.{every-step, every_end}
 use Rattle.book_file.proofs.all_met.Statement.{statement}
 use Rattle.book_file.proofs.all_met.Tie as tie
 
 abbrev invariant-loop : tie.invariant-loop
-invariant-loop met i₀ i = (i ≤ length met) × (allMet met ≡ allMet (drop i met))
+invariant-loop met i₀ i = (i ≤ length met) × (all_met met ≡ all_met (drop i met))
 
 abbrev decreases-loop : tie.decreases-loop
 decreases-loop met i₀ i = length met - i
@@ -41,7 +41,7 @@ loop-again c =
 returns-2 : tie.Need-returns-2 invariant-loop decreases-loop
 returns-2 c =
     let u = c.before in
-    sym (u.loop.invariant.1 ∙ every-end (λ m. eqb m 1) u.before.args.met.now u.loop.i (omega arith))
+    sym (u.loop.invariant.1 ∙ every_end (λ m. eqb m 1) u.before.args.met.now u.loop.i (omega arith))
 
 pub all-met-spec : {M : Type 1} → statement M
 all-met-spec =

@@ -7,10 +7,10 @@ use borrow.Author.Rules.{rules}
 use lib.ListN.{take}
 use lib.Seq.{length-take-le}
 use Rattle.text.specs.Text.{fields_of}
-use Rattle.book_file.specs.BookFile.{line_at, lineNumber}
-use Rattle.book_file.specs.BookFileForms.{fileCodeAt}
-use Rattle.bits.specs.BasicsLaws.{partFrom}
-use Rattle.book_file.specs.BookFileFormsLaws.{code-short, code-long, code-two}
+use Rattle.book_file.specs.BookFile.{line_at, line_number}
+use Rattle.book_file.specs.BookFileForms.{file_code_at}
+use Rattle.bits.specs.BasicsLaws.{part_from}
+use Rattle.book_file.specs.BookFileFormsLaws.{code_short, code_long, code_two}
 use Rattle.book_file.proofs.read_code.Statement.{statement}
 use Rattle.book_file.proofs.read_code.Tie as tie
 
@@ -20,7 +20,7 @@ find-requires c κs = search rules
 returns : tie.Need-returns
 returns c =
     let a = c.before.before.before.args in
-    sym (code-short (some a.e) a.t.now c.before.find.result c.before.find.ensures.count (omega arith))
+    sym (code_short (some a.e) a.t.now c.before.find.result c.before.find.ensures.count (omega arith))
 
 add-next : tie.Need-overflow-add-next
 add-next c = search rules
@@ -41,7 +41,7 @@ returns-2 : tie.Need-returns-2
 returns-2 c =
     let f = c.before.before.before.before in
     let a = f.before.before.args in
-    sym (code-long (some a.e) a.t.now f.find.result c.before.find2.result f.find.ensures.count (omega arith) c.before.find2.ensures.count c.if2.true)
+    sym (code_long (some a.e) a.t.now f.find.result c.before.find2.result f.find.ensures.count (omega arith) c.before.find2.ensures.count c.if2.true)
 
 slice-aggregate-read-number : tie.Need-slice-aggregate-read-number
 slice-aggregate-read-number c =
@@ -62,12 +62,12 @@ two : (c : tie.Else2) →
     let f = c.before.before.before.before in
     let a = f.before.before.args in
     let t = a.t.now in
-    fileCodeAt (some a.e) (fields_of t)
-    ≡ line_at (some a.e) (lineNumber (take f.find.result t)) (lineNumber (partFrom (f.find.result + 1) t))
+    file_code_at (some a.e) (fields_of t)
+    ≡ line_at (some a.e) (line_number (take f.find.result t)) (line_number (part_from (f.find.result + 1) t))
 two c =
     let f = c.before.before.before.before in
     let a = f.before.before.args in
-    code-two (some a.e) a.t.now f.find.result c.before.find2.result f.find.ensures.count (omega arith) c.before.find2.ensures.count c.if2.false
+    code_two (some a.e) a.t.now f.find.result c.before.find2.result f.find.ensures.count (omega arith) c.before.find2.ensures.count c.if2.false
 
 returns-3 : tie.Need-returns-3
 returns-3 c = sym (two c.before.before.before.before ∙ rw (← c.before.before.read_number.ensures, c.enum_told.given.1))

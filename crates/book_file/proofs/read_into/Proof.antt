@@ -3,9 +3,9 @@ use mathlib.Core.Path.{◌≡◌, sym, ap, ◌∙◌}
 use mathlib.Core.Option.{some}
 use native.Mathlib.Omega.{arith}
 use borrow.Author.Rules.{rules}
-use Rattle.book_file.specs.BookFile.{fileLines}
-use Rattle.book_file.specs.BookFileForms.{BookHeld, begun, heldTold, scanned}
-use Rattle.book_file.specs.CallLaws.{file-stopped, file-missing, file-moved, file-whole}
+use Rattle.book_file.specs.BookFile.{file_lines}
+use Rattle.book_file.specs.BookFileForms.{BookHeld, begun, held_told, scanned}
+use Rattle.book_file.specs.CallLaws.{file_stopped, file_missing, file_moved, file_whole}
 use Rattle.book_file.specs.declared.LinesRead.{LinesRead}
 use Rattle.book_file.proofs.read_into.Statement.{statement}
 use Rattle.book_file.proofs.read_into.Tie as tie
@@ -34,10 +34,10 @@ entry d = d.before.before.before.before.before.before.before.before.before.befor
 
 whole : (d : tie.After-known-told) →
     let s = entry d in
-    scanned 0 (fileLines s.args.file.now) (begun s.args.book.now s.args.met.now) ≡ some (left d)
+    scanned 0 (file_lines s.args.file.now) (begun s.args.book.now s.args.met.now) ≡ some (left d)
 whole d =
     let r = d.before.before.before.before.before.before.before.read-lines in
-    sym r.ensures ∙ ap (λ (a : LinesRead). heldTold a r.new.1.0 r.new.1.1.0) d.before.ordered.given.1
+    sym r.ensures ∙ ap (λ (a : LinesRead). held_told a r.new.1.0 r.new.1.1.0) d.before.ordered.given.1
 
 returns : tie.Need-returns
 returns c =
@@ -45,8 +45,8 @@ returns c =
     let r = c.before.before.before.before.before.before.read-lines in
     record {
       refusal =
-          sym (file-stopped s.args.file.now s.args.book.now s.args.met.now s.requires.1
-          (sym r.ensures ∙ ap (λ (a : LinesRead). heldTold a r.new.1.0 r.new.1.1.0) c.enum_told.given.1));
+          sym (file_stopped s.args.file.now s.args.book.now s.args.met.now s.requires.1
+          (sym r.ensures ∙ ap (λ (a : LinesRead). held_told a r.new.1.0 r.new.1.1.0) c.enum_told.given.1));
       held = λ q. absurd (omega arith);
     }
 
@@ -67,7 +67,7 @@ returns-2 c =
     let d = c.before.before.before.before.before.before in
     let s = entry d in
     let both =
-    file-whole s.args.file.now s.args.book.now s.args.met.now s.pre.1 (left d) (whole d) s.pre.0
+    file_whole s.args.file.now s.args.book.now s.args.met.now s.pre.1 (left d) (whole d) s.pre.0
     (sym c.before.before.before.before.all-met.ensures ∙ c.before.before.before.if1.true) c.before.before.if2.true in
     record { refusal = c.book-refusal.ensures ∙ both.refusal; held = λ q. both.held (sym c.book-refusal.ensures ∙ q) }
 
@@ -83,7 +83,7 @@ returns-3 c =
     let s = entry d in
     record {
       refusal =
-          sym (file-moved s.args.file.now s.args.book.now s.args.met.now s.pre.1 (left d) (whole d)
+          sym (file_moved s.args.file.now s.args.book.now s.args.met.now s.pre.1 (left d) (whole d)
           (sym c.before.before.all-met.ensures ∙ c.before.if1.true) c.if2.false);
       held = λ q. absurd (omega arith);
     }
@@ -100,7 +100,7 @@ returns-4 c =
     let s = entry d in
     record {
       refusal =
-          sym (file-missing s.args.file.now s.args.book.now s.args.met.now s.pre.1 (left d) (whole d)
+          sym (file_missing s.args.file.now s.args.book.now s.args.met.now s.pre.1 (left d) (whole d)
           (sym c.before.all-met.ensures ∙ c.if1.false));
       held = λ q. absurd (omega arith);
     }

@@ -6,10 +6,10 @@ use borrow.Author.Rules.{rules}
 use lib.ListN.{take}
 use lib.Seq.{length-take-le}
 use Rattle.text.specs.Text.{fields_of}
-use Rattle.book_file.specs.BookFile.{lineRead}
-use Rattle.book_file.specs.BookFileForms.{placeAt}
-use Rattle.bits.specs.BasicsLaws.{partFrom}
-use Rattle.book_file.specs.BookFileFormsLaws.{line-short, line_first, place_short, place-first, place_none}
+use Rattle.book_file.specs.BookFile.{line_read}
+use Rattle.book_file.specs.BookFileForms.{place_at}
+use Rattle.bits.specs.BasicsLaws.{part_from}
+use Rattle.book_file.specs.BookFileFormsLaws.{line_short, line_first, place_short, place-first, place_none}
 use Rattle.book_file.proofs.read_line.Statement.{statement}
 use Rattle.book_file.proofs.read_line.Tie as tie
 
@@ -19,7 +19,7 @@ find-requires c κs = search rules
 returns : tie.Need-returns
 returns c =
     let a = c.before.before.before.args in
-    sym (line-short a.t.now c.before.find.result c.before.find.ensures.count (omega arith))
+    sym (line_short a.t.now c.before.find.result c.before.find.ensures.count (omega arith))
 
 add-next : tie.Need-overflow-add-next
 add-next c = search rules
@@ -40,7 +40,7 @@ find-requires-2 c κs = search rules
 named : (c : tie.Else1) →
     let f = c.before in
     let t = f.before.before.args.t.now in
-    lineRead (fields_of t) ≡ placeAt (take f.find.result t) (fields_of (partFrom (f.find.result + 1) t))
+    line_read (fields_of t) ≡ place_at (take f.find.result t) (fields_of (part_from (f.find.result + 1) t))
 named c =
     let f = c.before in
     line_first f.before.before.args.t.now f.find.result f.find.ensures.count (omega arith)

@@ -10,20 +10,20 @@ use borrow.Author.Tests.{eq-eqb, ne_eqb}
 use lib.Dec.{eqb}
 use lib.ListN.{length, take, drop, get_or, length-set}
 use Rattle.bits.specs.Basics.{pick}
-use Rattle.bits.specs.BasicsLaws.{partFrom, length_part}
+use Rattle.bits.specs.BasicsLaws.{part_from, length_part}
 use lib.Seq.{length-take-le}
 use Rattle.text.specs.Text.{fields_of}
-use Rattle.book_file.specs.BookFile.{Line, lineRead, fileLines}
-use Rattle.book_file.specs.BookFileForms.{BookHeld, begun, lineTold, scanLines, scanned, kept}
-use Rattle.book_file.specs.BookFileFormsLaws.{LineFits, line-fits, file-end, file-open, file-bad, file-line, scan_step, kept-is}
+use Rattle.book_file.specs.BookFile.{Line, line_read, file_lines}
+use Rattle.book_file.specs.BookFileForms.{BookHeld, begun, line_told, scan_lines, scanned, kept}
+use Rattle.book_file.specs.BookFileFormsLaws.{LineFits, line_fits, file_end, file_open, file_bad, file_line, scan_step, kept_is}
 use Rattle.book_file.proofs.read_lines.Statement.{statement}
 use Rattle.book_file.proofs.read_lines.Tie as tie
 
 abbrev invariant-loop : tie.invariant-loop
 invariant-loop file book₀ met₀ at₀ next₀ ordered₀ book met at next ordered =
     (at ≤ length file) × (next ≤ at) × (length book ≡ length book₀) × (length met ≡ length met₀)
-    × (scanned next (fileLines (drop at file)) (record { book = book; met = met; ordered = ordered })
-    ≡ scanned 0 (fileLines file) (begun book₀ met₀))
+    × (scanned next (file_lines (drop at file)) (record { book = book; met = met; ordered = ordered })
+    ≡ scanned 0 (file_lines file) (begun book₀ met₀))
 
 abbrev decreases-loop : tie.decreases-loop
 decreases-loop file book₀ met₀ at₀ next₀ ordered₀ book met at next ordered = length file - at
@@ -45,27 +45,27 @@ abbrev state : tie.At-loop invariant-loop decreases-loop → BookHeld
 state u = record { book = u.loop.book; met = u.loop.met; ordered = u.loop.ordered }
 
 abbrev all : tie.At-loop invariant-loop decreases-loop → Option BookHeld
-all u = scanned 0 (fileLines (file u)) (begun u.before.before.before.before.args.book.now u.before.before.before.before.args.met.now)
+all u = scanned 0 (file_lines (file u)) (begun u.before.before.before.before.args.book.now u.before.before.before.before.args.met.now)
 
-told : (d : tie.After-known-told invariant-loop decreases-loop) → lineRead (fields_of (take (bytes d) (partFrom (head d).loop.at (file (head d))))) ≡ some (line d)
-told d = sym d.before.before.before.read-line.ensures ∙ ap lineTold d.before.e.given.1
+told : (d : tie.After-known-told invariant-loop decreases-loop) → line_read (fields_of (take (bytes d) (part_from (head d).loop.at (file (head d))))) ≡ some (line d)
+told d = sym d.before.before.before.read-line.ensures ∙ ap line_told d.before.e.given.1
 
 fits : (d : tie.After-known-told invariant-loop decreases-loop) → LineFits (line d)
-fits d = line-fits (fields_of (take (bytes d) (partFrom (head d).loop.at (file (head d))))) (line d) (told d)
+fits d = line_fits (fields_of (take (bytes d) (part_from (head d).loop.at (file (head d))))) (line d) (told d)
 
 -- what the line's turn makes of the whole
 more : (d : tie.After-known-told invariant-loop decreases-loop) →
     all (head d)
     ≡ pick (eqb (get_or (head d).loop.met (line d).entry 0) 0)
-    (scanned (suc (head d).loop.next) (fileLines (drop ((head d).loop.at + (bytes d + 1)) (file (head d)))) (kept (head d).loop.next (line d) (state (head d))))
+    (scanned (suc (head d).loop.next) (file_lines (drop ((head d).loop.at + (bytes d + 1)) (file (head d)))) (kept (head d).loop.next (line d) (state (head d))))
     none
 more d =
     let u = head d in
     let f = d.before.before.before.before.before.before in
-    let rest : bytes d < length (partFrom u.loop.at (file u)) = omega (arith, d.before.before.before.before.before.if1.false, f.find.ensures.within) in
+    let rest : bytes d < length (part_from u.loop.at (file u)) = omega (arith, d.before.before.before.before.before.if1.false, f.find.ensures.within) in
     sym u.loop.inv.4
-    ∙ ap (λ (o : Option (List Line)). scanned u.loop.next o (state u)) (file-line (file u) u.loop.at (bytes d) f.find.ensures.count rest (line d) (told d))
-    ∙ scan_step u.loop.next (line d) (fileLines (drop (u.loop.at + (bytes d + 1)) (file u))) (state u)
+    ∙ ap (λ (o : Option (List Line)). scanned u.loop.next o (state u)) (file_line (file u) u.loop.at (bytes d) f.find.ensures.count rest (line d) (told d))
+    ∙ scan_step u.loop.next (line d) (file_lines (drop (u.loop.at + (bytes d + 1)) (file u))) (state u)
 
 loop-holds : tie.Need-loop-init invariant-loop decreases-loop
 loop-holds c = (omega arith, omega arith, refl, refl, refl)
@@ -91,7 +91,7 @@ same-length-2 c = c.before.before.before.before.loop.invariant.3
 returns : tie.Need-returns invariant-loop decreases-loop
 returns c =
     let u = c.before.before.before.before in
-    sym (sym u.loop.invariant.4 ∙ rw (file-open (file u) u.loop.at c.before.find.result c.before.before.before.loop-test.true c.before.find.ensures.count (omega arith)))
+    sym (sym u.loop.invariant.4 ∙ rw (file_open (file u) u.loop.at c.before.find.result c.before.before.before.loop-test.true c.before.find.ensures.count (omega arith)))
 
 slice-aggregate-read-line : tie.Need-slice-aggregate-read-line invariant-loop decreases-loop
 slice-aggregate-read-line c = sym (length-take-le c.before.before.find.result _ c.before.before.find.ensures.within)
@@ -115,8 +115,8 @@ returns-2 : tie.Need-returns-2 invariant-loop decreases-loop
 returns-2 c =
     let u = c.before.before.before.before.before.before.before.before in
     let f = c.before.before.before.before.before in
-    let rest : f.find.result < length (partFrom u.loop.at (file u)) = omega (arith, c.before.before.before.before.if1.false, f.find.ensures.within) in
-    sym (sym u.loop.invariant.4 ∙ rw (file-bad (file u) u.loop.at f.find.result f.find.ensures.count rest (sym c.before.before.read-line.ensures ∙ ap lineTold c.enum_told.given.1)))
+    let rest : f.find.result < length (part_from u.loop.at (file u)) = omega (arith, c.before.before.before.before.if1.false, f.find.ensures.within) in
+    sym (sym u.loop.invariant.4 ∙ rw (file_bad (file u) u.loop.at f.find.result f.find.ensures.count rest (sym c.before.before.read-line.ensures ∙ ap line_told c.enum_told.given.1)))
 
 slice-read-if2 : tie.Need-slice-read-if2 invariant-loop decreases-loop
 slice-read-if2 c = omega (arith, (fits c.before).entry-below, (head c.before).loop.inv.3, (head c.before).before.before.before.before.pre)
@@ -157,8 +157,8 @@ loop-again c =
     let d = c.before.before.before.before.before.before.before in
     let u = head d in
     let f = d.before.before.before.before.before.before in
-    let rest : length (partFrom u.loop.at (file u)) ≡ length (file u) - u.loop.at = omega (arith, length_part u.loop.at (file u)) in
-    let same = kept-is u.loop.next (line d) (state u) c.before.before.before.put-entry.new.0 c.both.result c.before.before.before.put-entry.ensures c.both.ensures in (
+    let rest : length (part_from u.loop.at (file u)) ≡ length (file u) - u.loop.at = omega (arith, length_part u.loop.at (file u)) in
+    let same = kept_is u.loop.next (line d) (state u) c.before.before.before.put-entry.new.0 c.both.result c.before.before.before.put-entry.ensures c.both.ensures in (
       omega (arith, d.before.before.before.before.before.if1.false, f.find.ensures.within, rest, u.loop.inv.0),
       omega (arith, u.loop.inv.1),
       c.before.before.before.put-entry.auto.0 ∙ u.loop.inv.2,
@@ -173,10 +173,10 @@ same-length-8 : tie.Need-same-length-8 invariant-loop decreases-loop
 same-length-8 c = c.before.loop.invariant.3
 
 returns-4 : tie.Need-returns-4 invariant-loop decreases-loop
-unfolding scanLines
+unfolding scan_lines
 returns-4 c =
     let u = c.before in
-    sym (sym u.loop.invariant.4 ∙ rw (file-end (file u) u.loop.at (omega arith)))
+    sym (sym u.loop.invariant.4 ∙ rw (file_end (file u) u.loop.at (omega arith)))
 
 pub read-lines-spec : {M : Type 1} → statement M
 read-lines-spec =

@@ -5,17 +5,17 @@ use native.Mathlib.Omega.{arith}
 use borrow.Author.Rules.{rules}
 use Rattle.bits.specs.Basics.{sum}
 use Rattle.bits.specs.SumLaws.{sum_more}
-use Rattle.book.specs.Book.{bookEntries}
-use Rattle.book_file.specs.FileLength.{digitsAt, frameBytes, fileLength}
-use Rattle.book_file.specs.FileLengthLaws.{file-length}
+use Rattle.book.specs.Book.{book_entries}
+use Rattle.book_file.specs.FileLength.{digits_at, frame_bytes, file_length}
+use Rattle.book_file.specs.FileLengthLaws.{file_length_lem}
 use Rattle.book_file_writer.proofs.file_length.Statement.{statement}
 use Rattle.book_file_writer.proofs.file_length.Tie as tie
 
 abbrev invariant-loop : tie.invariant-loop
-invariant-loop book n₀ e₀ n e = (e ≤ bookEntries) × (n ≤ frameBytes + 40 * e) × (n ≡ frameBytes + sum (digitsAt book) e)
+invariant-loop book n₀ e₀ n e = (e ≤ book_entries) × (n ≤ frame_bytes + 40 * e) × (n ≡ frame_bytes + sum (digits_at book) e)
 
 abbrev decreases-loop : tie.decreases-loop
-decreases-loop book n₀ e₀ n e = bookEntries - e
+decreases-loop book n₀ e₀ n e = book_entries - e
 
 loop-holds : tie.Need-loop-init invariant-loop decreases-loop
 unfolding sum
@@ -56,16 +56,16 @@ loop-again c =
     let book = u.before.before.args.book.now in
     let of-long = rw long.entry-len.ensures at value.before.digit-count.ensures.count in
     let of-value = rw value.entry-val.ensures at c.digit-count2.ensures.count in
-    let more = sum_more (digitsAt book) u.loop.e (sum (digitsAt book) u.loop.e) (digitsAt book u.loop.e) refl refl in
+    let more = sum_more (digits_at book) u.loop.e (sum (digits_at book) u.loop.e) (digits_at book u.loop.e) refl refl in
     (omega arith, omega arith, omega (arith, u.loop.invariant.2, of-long, of-value, more))
 
 returns : tie.Need-returns invariant-loop decreases-loop
-unfolding fileLength
+unfolding file_length
 returns c =
     let u = c.before in
     let book = u.before.before.args.book.now in
-    let e : u.loop.e ≡ bookEntries = omega arith in
-    omega (arith, u.loop.invariant.2, ap (sum (digitsAt book)) e, file-length book)
+    let e : u.loop.e ≡ book_entries = omega arith in
+    omega (arith, u.loop.invariant.2, ap (sum (digits_at book)) e, file_length_lem book)
 
 pub file-length-spec : {M : Type 1} → statement M
 file-length-spec =

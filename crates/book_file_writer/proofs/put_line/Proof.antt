@@ -3,8 +3,8 @@ use Prim.Native.Nat.{ℕ}
 use mathlib.Core.Path.{◌≡◌}
 use mathlib.Core.List.{List, [], ◌∷◌, ◌++◌, append_assoc}
 use borrow.Author.Rules.{rules}
-use Rattle.text.specs.Text.{comma, lineFeed, decimal, joined, line_of}
-use Rattle.text.specs.PutLaws.{in-room, put-behind}
+use Rattle.text.specs.Text.{comma, line_feed, decimal, joined, line_of}
+use Rattle.text.specs.PutLaws.{in_room_lem, put_behind}
 use Rattle.book_file_writer.proofs.put_line.Statement.{statement}
 use Rattle.book_file_writer.proofs.put_line.Tie as tie
 
@@ -29,10 +29,10 @@ put-field-requires-3 c κs = search rules
 same_length : tie.Need-same-length
 same_length c = search rules
 
-line-fields : (a b c d : List ℕ)
-    → (((a ++ (comma ∷ [])) ++ (b ++ (comma ∷ []))) ++ (c ++ (comma ∷ []))) ++ (d ++ (lineFeed ∷ [])) ≡ line_of (a ∷ b ∷ c ∷ d ∷ [])
+line_fields : (a b c d : List ℕ)
+    → (((a ++ (comma ∷ [])) ++ (b ++ (comma ∷ []))) ++ (c ++ (comma ∷ []))) ++ (d ++ (line_feed ∷ [])) ≡ line_of (a ∷ b ∷ c ∷ d ∷ [])
 unfolding line_of joined
-line-fields a b c d = simp append_assoc
+line_fields a b c d = simp append_assoc
 
 returns : tie.Need-returns
 returns c =
@@ -42,10 +42,10 @@ returns c =
     let separator = position.before.before.before.before in
     let name = separator.before.before.before.before.before in
     let a = name.before.before.before.before.args in
-    rw (← line-fields a.name.now (decimal a.position) (decimal a.long) (decimal a.value))
-    (put-behind
-    (put-behind (put-behind (put-behind (in-room name.put-text.ensures) (in-room separator.put-text2.ensures)) (in-room position.put-field.ensures)) (in-room long.put-field2.ensures))
-    (in-room value.put-field3.ensures))
+    rw (← line_fields a.name.now (decimal a.position) (decimal a.long) (decimal a.value))
+    (put_behind
+    (put_behind (put_behind (put_behind (in_room_lem name.put-text.ensures) (in_room_lem separator.put-text2.ensures)) (in_room_lem position.put-field.ensures)) (in_room_lem long.put-field2.ensures))
+    (in_room_lem value.put-field3.ensures))
 
 pub put-line-spec : {M : Type 1} → statement M
 put-line-spec =

@@ -7,8 +7,8 @@ use native.Mathlib.Omega.{arith}
 use borrow.Author.Rules.{rules}
 use lib.ListN.{length}
 use Rattle.text.specs.WritingForms.{PutInRoom}
-use Rattle.text.specs.PutLaws.{put-nothing, put-behind}
-use Rattle.book_file.specs.BookFile.{Table, tableLine, tableLines}
+use Rattle.text.specs.PutLaws.{put_nothing, put_behind}
+use Rattle.book_file.specs.BookFile.{Table, table_line, table_lines}
 use Rattle.book_file_writer.proofs.put_table.Statement.{statement}
 use Rattle.book_file_writer.proofs.put_table.Tie as tie
 
@@ -17,14 +17,14 @@ table name from size = record { name = name; from = from; size = size }
 
 abbrev invariant-loop : tie.invariant-loop
 invariant-loop out₀ at book name from size next₀ p₀ out next p =
-    (p ≤ size) × (length out ≡ length out₀) × PutInRoom out₀ at (tableLines book (table name from size) p) next out
+    (p ≤ size) × (length out ≡ length out₀) × PutInRoom out₀ at (table_lines book (table name from size) p) next out
 
 abbrev decreases-loop : tie.decreases-loop
 decreases-loop out₀ at book name from size next₀ p₀ out next p = size - p
 
 loop-holds : tie.Need-loop-init invariant-loop decreases-loop
-unfolding tableLines
-loop-holds c = (omega arith, refl, put-nothing _ _)
+unfolding table_lines
+loop-holds c = (omega arith, refl, put_nothing _ _)
 
 add-e : tie.Need-overflow-add-e invariant-loop decreases-loop
 add-e c = search rules
@@ -48,7 +48,7 @@ loop-less : tie.Need-loop-smaller invariant-loop decreases-loop
 loop-less c = search rules
 
 loop-again : tie.Need-loop-preserved invariant-loop decreases-loop
-unfolding tableLine tableLines
+unfolding table_line table_lines
 loop-again c =
     let w = c.before.before in
     let value = w.before.before in
@@ -56,7 +56,7 @@ loop-again c =
     let u = long.before.before in (
       omega arith,
       w.put-line.auto.0 ∙ u.loop.invariant.1,
-      rw add-one (put-behind u.loop.invariant.2 (rw (long.entry-len.ensures, value.entry-val.ensures) at w.put-line.ensures)),
+      rw add-one (put_behind u.loop.invariant.2 (rw (long.entry-len.ensures, value.entry-val.ensures) at w.put-line.ensures)),
     )
 
 same_length : tie.Need-same-length invariant-loop decreases-loop

@@ -1,8 +1,8 @@
 -- `book_file_writer::put_tables` meets its contract: the six tables one behind the other are the file. Assumes nothing.
 use native.Mathlib.Omega.{arith}
 use borrow.Author.Rules.{rules}
-use Rattle.text.specs.PutLaws.{put-nothing, put-behind}
-use Rattle.book_file.specs.BookFile.{tablesText, bookFile}
+use Rattle.text.specs.PutLaws.{put_nothing, put_behind}
+use Rattle.book_file.specs.BookFile.{tables_text, book_file}
 use Rattle.book_file_writer.proofs.put_tables.Statement.{statement}
 use Rattle.book_file_writer.proofs.put_tables.Tie as tie
 
@@ -46,7 +46,7 @@ same_length : tie.Need-same-length
 same_length c = omega (arith, c.before.before.before.before.before.before.before.before.before.before)
 
 returns : tie.Need-returns
-unfolding bookFile tablesText
+unfolding book_file tables_text
 returns c =
     let interstage = c.before.before in
     let intrastage = interstage.before.before.before.before.before in
@@ -54,11 +54,11 @@ returns c =
     let intramean = intermean.before.before.before.before.before in
     let vector = intramean.before.before.before.before.before in
     let mode = vector.before.before.before.before.before in
-    put-behind mode.put-table.ensures
-    (put-behind vector.put-table2.ensures
-    (put-behind intramean.put-table3.ensures
-    (put-behind intermean.put-table4.ensures
-    (put-behind intrastage.put-table5.ensures (put-behind interstage.put-table6.ensures (put-nothing _ _))))))
+    put_behind mode.put-table.ensures
+    (put_behind vector.put-table2.ensures
+    (put_behind intramean.put-table3.ensures
+    (put_behind intermean.put-table4.ensures
+    (put_behind intrastage.put-table5.ensures (put_behind interstage.put-table6.ensures (put_nothing _ _))))))
 
 pub put-tables-spec : {M : Type 1} → statement M
 put-tables-spec =

@@ -1,7 +1,7 @@
 // Parts of a line, put at a place of a lent slice. The answer is the place behind what was put; a text or a number that has no room is left out.
 ghost use Rattle.std.specs.Prelude.{◌≡◌, ◌≤◌, ◌<◌};
 ghost use Rattle.text.specs.WritingForms.{TextPut};
-ghost use Rattle.cards.specs.Numbers.{hexDigit, hexByte};
+ghost use Rattle.cards.specs.Numbers.{hex_digit, hex_byte};
 
 use libc::STDOUT_FILENO;
 use text::{put_decimal, put_signed, put_text};
@@ -39,7 +39,7 @@ pub fn put_vector(line: &mut [u8], at: usize, before: &[u8], v: Svq1Mv) -> usize
 
 fn hex_digit(n: u8) -> u8
     requires { n < 16 }
-    ensures { result ≡ hexDigit n }
+    ensures { result ≡ hex_digit n }
 {
     if n < 10 {
         return 48 + n;
@@ -49,7 +49,7 @@ fn hex_digit(n: u8) -> u8
 
 // A byte as two hexadecimal digits.
 fn put_hex(line: &mut [u8], at: usize, b: u8) -> usize
-    ensures { TextPut line.old at (hexByte b) result line.new }
+    ensures { TextPut line.old at (hex_byte b) result line.new }
 {
     let digits = [hex_digit(b / 16), hex_digit(b % 16)];
     put_text(line, at, &digits)

@@ -2,7 +2,7 @@
 // worked out by hand. The first block differs from 100 by 5 and -5: stage 0 takes its error from 200 to 8, stage 1 from 8 to 0. The second differs by
 // 3 + 8, 3 - 8, -3 + 8 and -3 - 8: stage 0 takes its error from 584 only to 520, stage 1 would take it to 8. The third is 101, which its mean meets.
 ghost use Rattle.std.specs.Prelude.{◌≡◌, ◌≤◌, length};
-ghost use Rattle.book.specs.Book.{codebookBytes};
+ghost use Rattle.book.specs.Book.{codebook_bytes};
 
 use super::super::inner::line::{print_line, put_number, put_numbers};
 use bits::inner::put_row;
@@ -13,7 +13,7 @@ use text::put_text;
 
 // In L0's inter page, which begins at 22,272 and has sixteen vectors of eight bytes a stage: vector 3 of stage 0, and vectors 5 and 9 of stage 1.
 fn lay_vectors(codebook: &mut [u8])
-    requires { length codebook.old ≡ codebookBytes }
+    requires { length codebook.old ≡ codebook_bytes }
 {
     let fours = [4, 4, 4, 4, 252, 252, 252, 252];
     let ones = [1, 1, 1, 1, 255, 255, 255, 255];

@@ -1,13 +1,13 @@
 // The mode of a macroblock, read off the bits.
 ghost use Rattle.std.specs.Prelude.{◌≡◌};
-ghost use Rattle.cards.specs.Numbers.{modeRead};
+ghost use Rattle.cards.specs.Numbers.{mode_read};
 
 use code_tables::svq1_vlc::{CodeAnswer, read_code};
 use text::put_text;
 
 // The position in the book's first table, that of the modes, of the code that stands at a bit; 4 where there is none.
 fn mode_position(book: &[u8], out: &[u8], at: usize) -> usize
-    ensures { result ≡ modeRead book.now out.now at }
+    ensures { result ≡ mode_read book.now out.now at }
 {
     if book.len() < 12 {
         return 4;

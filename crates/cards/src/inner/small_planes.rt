@@ -1,8 +1,8 @@
 // The cards of a plane of 16 x 16 samples of 100 over a reference of 0.
 ghost use Rattle.std.specs.Prelude.{◌≤◌};
-ghost use Rattle.plane_enc.specs.WriterNeeds.{writeEndOf as writeEnd};
-ghost use Rattle.plane_dec.specs.ReaderNeeds.{readEndOf as readEnd};
-ghost use Rattle.cards.specs.Planes.{smallGiven, smallTask, smallSlices, freshSlices, CardWrote, ReadOff};
+ghost use Rattle.plane_enc.specs.WriterNeeds.{write_end_of as writeEnd};
+ghost use Rattle.plane_dec.specs.ReaderNeeds.{read_end_of as readEnd};
+ghost use Rattle.cards.specs.Planes.{small_given, small_task, small_slices, fresh_slices, CardWrote, ReadOff};
 
 use super::super::inner::line::{print_line, put_number};
 use super::super::inner::mode::put_mode;
@@ -27,7 +27,7 @@ const CANVAS: Svq1PlaneCanvas = Svq1PlaneCanvas {
 
 // The plane written into `out` from bit `start` on.
 fn write_plane(book: &[u8], codebook: &[u8], lambda: u64, out: &mut [u8], start: usize) -> WriteEnd
-    ensures { CardWrote (smallGiven book.now codebook.now) (smallTask lambda) out.old start freshSlices (writeEnd result) out.new }
+    ensures { CardWrote (small_given book.now codebook.now) (small_task lambda) out.old start fresh_slices (writeEnd result) out.new }
 {
     let source = [SOURCE; 256];
     let reference = [REFERENCE; 256];
@@ -97,7 +97,7 @@ pub fn print_planes(line: &mut [u8], book: &[u8], codebook: &[u8]) -> usize
 
 // The plane of some bytes, read into `recon`.
 fn read_plane(book: &[u8], codebook: &[u8], bytes: &[u8], recon: &mut [u8]) -> ReadEnd
-    ensures { ReadOff (smallGiven book.now codebook.now) bytes.now (smallSlices recon.old) (readEnd result) recon.new }
+    ensures { ReadOff (small_given book.now codebook.now) bytes.now (small_slices recon.old) (readEnd result) recon.new }
 {
     let reference = [REFERENCE; 256];
     let mut vx = [0u8; 4];

@@ -1,19 +1,19 @@
 // Counts and sums over samples.
 ghost use Rattle.std.specs.Prelude.{◌≡◌, ◌≤◌, length};
 ghost use Rattle.codebook.specs.Mean.{residual};
-ghost use Rattle.cards.specs.Numbers.{oneIf, countIn};
+ghost use Rattle.cards.specs.Numbers.{one_if, count_in};
 
 use leaf_search::svq1_enc_leaf::inner::sum_of;
 
 fn one_if(a: u8, b: u8) -> usize
-    ensures { (result ≡ oneIf a b) × (result ≤ 1) }
+    ensures { (result ≡ one_if a b) × (result ≤ 1) }
 {
     if a == b { 1 } else { 0 }
 }
 
 // How many samples are v.
 pub fn count_of(s: &[u8], v: u8) -> usize
-    ensures { result ≡ countIn v s.now }
+    ensures { result ≡ count_in v s.now }
 {
     let mut n = 0;
     let mut i = 0;

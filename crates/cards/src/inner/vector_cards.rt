@@ -1,8 +1,8 @@
 // The cards of motion vectors: predictors and searches.
 ghost use Rattle.std.specs.Prelude.{◌≡◌, ◌≤◌};
-ghost use Rattle.motion.specs.Search.{searchAnswer};
-ghost use Rattle.motion.specs.SearchCall.{searchedAnswer};
-ghost use Rattle.cards.specs.Planes.{cardSearch};
+ghost use Rattle.motion.specs.Search.{search_answer};
+ghost use Rattle.motion.specs.SearchCall.{searched_answer};
+ghost use Rattle.cards.specs.Planes.{card_search};
 
 use super::super::inner::line::{print_line, put_number, put_vector};
 use motion::svq1_enc_inter::{Searched, search_motion_vector};
@@ -58,7 +58,7 @@ fn put_searched(line: &mut [u8], at: usize, found: Searched) -> usize {
 
 // The search of a block of 16 x 16 samples in a plane of 32 x 32, all 100.
 fn search_flat(x: usize, y: usize, predictor: Svq1Mv) -> Searched
-    ensures { searchedAnswer result ≡ searchAnswer (cardSearch x y predictor) }
+    ensures { searched_answer result ≡ search_answer (card_search x y predictor) }
 {
     let reference = [100u8; 1024];
     let target = [100u8; 256];

@@ -1,9 +1,9 @@
 // The cards of the largest width: planes of height 1, all samples 100, as the reference is.
 ghost use Rattle.std.specs.Prelude.{true, ◌≤◌};
-ghost use Rattle.macroblock.specs.MacroblockNeeds.{givenBy};
-ghost use Rattle.macroblock_choice.specs.ChosenNeeds.{taskBy};
-ghost use Rattle.plane_enc.specs.WriterNeeds.{writeEndOf};
-ghost use Rattle.cards.specs.Planes.{wideSlices, CardWrote};
+ghost use Rattle.macroblock.specs.MacroblockNeeds.{given_by};
+ghost use Rattle.macroblock_choice.specs.ChosenNeeds.{task_by};
+ghost use Rattle.plane_enc.specs.WriterNeeds.{write_end_of};
+ghost use Rattle.cards.specs.Planes.{wide_slices, CardWrote};
 
 use super::super::inner::line::print_line;
 use super::super::inner::plane_text::{LAMBDA, RADIUS, put_asked, put_flat, put_written};
@@ -23,7 +23,7 @@ fn write_plane(
     out: &mut [u8],
     recon: &mut [u8],
 ) -> WriteEnd
-    ensures { CardWrote (givenBy canvas reference.now book.now codebook.now) (taskBy source.now (record { lambda = 32; radius = 8; four = true; margin = 0 })) out.old 0 (wideSlices recon.old) (writeEndOf result) out.new }
+    ensures { CardWrote (given_by canvas reference.now book.now codebook.now) (task_by source.now (record { lambda = 32; radius = 8; four = true; margin = 0 })) out.old 0 (wide_slices recon.old) (write_end_of result) out.new }
 {
     let mut vx = [0u8; 260];
     let mut vy = [0u8; 260];

@@ -3,15 +3,15 @@ use mathlib.Core.Path.{refl}
 use native.Mathlib.Omega.{arith}
 use Rattle.bits.specs.Basics.{Bytes}
 use Rattle.macroblock.specs.Macroblock.{Given}
-use Rattle.macroblock_choice.specs.ChosenNeeds.{taskBy}
+use Rattle.macroblock_choice.specs.ChosenNeeds.{task_by}
 use Rattle.macroblock.specs.Choice.{Task}
-use Rattle.macroblock.specs.MacroblockNeeds.{givenBy}
-use Rattle.claim.specs.RoundTrip.{tripBy}
+use Rattle.macroblock.specs.MacroblockNeeds.{given_by}
+use Rattle.claim.specs.RoundTrip.{trip_by}
 use Rattle.claim.specs.RoundTripLaws.{tripped}
 use borrow.Author.Rules.{rules}
 use Rattle.claim.proofs.round_trip_inter_plane.Statement.{statement}
 use Rattle.claim.proofs.round_trip_inter_plane.Tie as tie
-use Rattle.macroblock.specs.Slices.{slicesBy, lent_by}
+use Rattle.macroblock.specs.Slices.{slices_by, lent_by}
 
 encode-inter-plane-stated-requires : tie.Need-encode-inter-plane-stated-requires
 encode-inter-plane-stated-requires c κs = search rules
@@ -48,15 +48,15 @@ returns c =
     let read = c.before.before.before.before.before.before in
     let wrote = read.before.before.before.before.before.before.before.before.before.before.before.before.before.before.before in
     let a = wrote.before.before.before.before.before.before.before.before.before.before.before.before.before.before.before.before.before.before.args in
-    let g : Given = givenBy a.canvas a.reference.now a.book.now a.codebook.now in
-    let t : Task = taskBy a.source.now a.settings in
+    let g : Given = given_by a.canvas a.reference.now a.book.now a.codebook.now in
+    let t : Task = task_by a.source.now a.settings in
     let source : Bytes a.source.now = λ k. omega (arith, wrote.before.before.before.before.before.before.before.before.before.before.before.before.before.before.before.before.before.shared-slice-known.given k) in
     let reference : Bytes a.reference.now = λ k. omega (arith, wrote.before.before.before.before.before.before.before.before.before.before.before.before.before.before.before.before.shared-slice-known2.given k) in
     let w = wrote.encode-inter-plane-stated in
     let r = read.decode-inter-plane in
-    tripped g t a.start (tripBy (lent_by a.out.now (slicesBy a.recon.now a.vx.now a.vy.now)) a.stated.now (slicesBy a.back.now a.backx.now a.backy.now)) _ _
-    (tripBy (lent_by _ (slicesBy w.new.1.1.1.1.1.1.1.1.0 w.new.1.1.1.1.1.1.1.1.1.0 w.new.1.1.1.1.1.1.1.1.1.1.0)) _
-    (slicesBy r.new.1.1.1.1.1.1.0 r.new.1.1.1.1.1.1.1.0 r.new.1.1.1.1.1.1.1.1.0))
+    tripped g t a.start (trip_by (lent_by a.out.now (slices_by a.recon.now a.vx.now a.vy.now)) a.stated.now (slices_by a.back.now a.backx.now a.backy.now)) _ _
+    (trip_by (lent_by _ (slices_by w.new.1.1.1.1.1.1.1.1.0 w.new.1.1.1.1.1.1.1.1.1.0 w.new.1.1.1.1.1.1.1.1.1.1.0)) _
+    (slices_by r.new.1.1.1.1.1.1.0 r.new.1.1.1.1.1.1.1.0 r.new.1.1.1.1.1.1.1.1.0))
     refl (record { source = source; reference = reference }) w.ensures r.ensures
 
 pub round-trip-inter-plane-spec : {M : Type 1} → statement M

@@ -1,9 +1,9 @@
 // Functions that only the crates of this repository call: the codebook's copy in raster order, each byte raised by 128, and where a level's
 // page begins in it.
 ghost use Rattle.std.specs.Prelude.{◌≡◌, ◌+◌, ◌*◌, ◌%◌, ◌<◌, ◌≤◌, length, get_or};
-ghost use Rattle.book.specs.Book.{codebookBytes};
-ghost use Rattle.codebook.specs.CodebookForms.{raisedCodebook, pageStart};
-ghost use Rattle.codebook.specs.RaiseNeeds.{LevelVectors, VectorFilling, RaisedTo, fourRaised};
+ghost use Rattle.book.specs.Book.{codebook_bytes};
+ghost use Rattle.codebook.specs.CodebookForms.{raised_codebook, page_start};
+ghost use Rattle.codebook.specs.RaiseNeeds.{LevelVectors, VectorFilling, RaisedTo, four_raised};
 
 use super::super::svq1_codebook::{RASTER_NUMBERS, raster_order};
 use book::svq1_vlc::Svq1Half;
@@ -27,7 +27,7 @@ fn raised(codebook: &[u8], i: usize) -> u8
 // stored at once.
 fn raise_four(codebook: &[u8], out: &mut [u8], from: usize, to: usize)
     requires { (from + 4 ≤ length codebook.now) × (to + 4 ≤ length out.old) }
-    ensures { out.new ≡ fourRaised codebook.now out.old from to }
+    ensures { out.new ≡ four_raised codebook.now out.old from to }
 {
     let a = raised(codebook, from);
     let b = raised(codebook, from + 1);
@@ -49,7 +49,7 @@ fn raise_vector(
     s: usize,
     at: usize,
 )
-    requires { (length codebook.now ≡ codebookBytes) × VectorFilling codebook.now order.now n s at 0 out.old }
+    requires { (length codebook.now ≡ codebook_bytes) × VectorFilling codebook.now order.now n s at 0 out.old }
     ensures { RaisedTo codebook.now (at + n) out.new }
 {
     let mut b = 0;
@@ -70,7 +70,7 @@ fn raise_level(
     s: usize,
     from: usize,
 )
-    requires { (length codebook.now ≡ codebookBytes) × LevelVectors order.now n s from × RaisedTo codebook.now from out.old }
+    requires { (length codebook.now ≡ codebook_bytes) × LevelVectors order.now n s from × RaisedTo codebook.now from out.old }
     ensures { RaisedTo codebook.now (from + 192 * n) out.new }
 {
     let mut k = 0;
@@ -83,8 +83,8 @@ fn raise_level(
 // The codebook in raster order, each byte plus 128, into `out`: L3, L2, L1, L0, each by the bytes of a vector, where its numbers begin in the table
 // and where its pages begin.
 pub fn raise_codebook(codebook: &[u8], out: &mut [u8])
-    requires { (length codebook.now ≡ codebookBytes) × (length out.old ≡ codebookBytes) }
-    ensures { out.new ≡ raisedCodebook codebook.now }
+    requires { (length codebook.now ≡ codebook_bytes) × (length out.old ≡ codebook_bytes) }
+    ensures { out.new ≡ raised_codebook codebook.now }
 {
     let order = raster_order();
     raise_level(codebook, out, &order, 64, 56, 0);
@@ -95,7 +95,7 @@ pub fn raise_codebook(codebook: &[u8], out: &mut [u8])
 
 // Where a level's search looks for vectors in the raised codebook: its half's page; 0 for L4 and L5, which have none.
 pub fn page_start(half: Svq1Half, d: usize) -> usize
-    ensures { result ≡ pageStart half d }
+    ensures { result ≡ page_start half d }
 {
     match half {
         Svq1Half::Intra => match d {

@@ -2,7 +2,7 @@
 ghost use Rattle.std.specs.Prelude.{◌≡◌, ◌+◌, ◌*◌, ◌<◌, ◌≤◌, length};
 ghost use Rattle.bits.specs.Basics.{gap as gap_of};
 ghost use Rattle.compensation.specs.Compensation.{mean2 as meanOf2, mean4 as meanOf4};
-ghost use Rattle.compensation.specs.RowForms.{against, againstTwo, againstFour, cells, ReadIn, Summed};
+ghost use Rattle.compensation.specs.RowForms.{against, against_two, against_four, cells, ReadIn, Summed};
 
 // What summing a vector's absolute error against the best found so far answers: the sum of the rows taken, and their number.
 #[derive(Drop)]
@@ -58,7 +58,7 @@ fn sad(t: &[u8], a: &[u8], n: usize) -> u32
 
 fn sum_two(t: &[u8], a: &[u8], b: &[u8], n: usize) -> u16
     requires { (n ≤ 16) × (length t.now ≡ n) × (length a.now ≡ n) × (length b.now ≡ n) }
-    ensures { (result ≡ againstTwo t.now a.now b.now n) × (result ≤ 255 * n) }
+    ensures { (result ≡ against_two t.now a.now b.now n) × (result ≤ 255 * n) }
 {
     let mut sum: u16 = 0;
     let mut i = 0;
@@ -71,7 +71,7 @@ fn sum_two(t: &[u8], a: &[u8], b: &[u8], n: usize) -> u16
 
 fn sum_four(t: &[u8], a: &[u8], b: &[u8], c: &[u8], d: &[u8], n: usize) -> u16
     requires { (n ≤ 16) × (length t.now ≡ n) × (length a.now ≡ n) × (length b.now ≡ n) × (length c.now ≡ n) × (length d.now ≡ n) }
-    ensures { (result ≡ againstFour t.now a.now b.now c.now d.now n) × (result ≤ 255 * n) }
+    ensures { (result ≡ against_four t.now a.now b.now c.now d.now n) × (result ≤ 255 * n) }
 {
     let mut sum: u16 = 0;
     let mut i = 0;

@@ -1,9 +1,9 @@
 // Samples and blocks moved by a vector in half samples.
 ghost use Rattle.std.specs.Prelude.{◌≡◌, ◌<◌, ◌≤◌, ◌*◌, ◌+◌, length, get_or};
-ghost use Rattle.compensation.specs.Compensation.{clampTo, sampleAt, halfSample, movedBlock, mean2 as meanOf2, mean4 as meanOf4};
+ghost use Rattle.compensation.specs.Compensation.{clamp_to, sample_at, half_sample, moved_block, mean2 as meanOf2, mean4 as meanOf4};
 ghost use Rattle.mv_cache.specs.Grid.{row_set};
 ghost use Rattle.compensation.specs.RowForms.{cell};
-ghost use Rattle.compensation.specs.MovedForms.{movedPart, Parts, Placed, down, downHalf, downMv, upEnd, Lifted, InCanvas, cellPart, insideUp};
+ghost use Rattle.compensation.specs.MovedForms.{moved_part, Parts, Placed, down, down_half, down_mv, up_end, Lifted, InCanvas, cell_part, inside_up};
 
 use super::super::svq1_enc_inter::inner::{mean2, mean4};
 use mv_cache::svq1_mv_cache::inner::copy_row;
@@ -12,7 +12,7 @@ use vectors::svq1_motion_predictor::Svq1Mv;
 // A place raised by 2^31, clamped to 0 .. size - 1.
 fn clamped(n: usize, size: usize) -> usize
     requires { 0 < size }
-    ensures { (result ≡ clampTo size (downHalf n)) × (result < size) }
+    ensures { (result ≡ clamp_to size (down_half n)) × (result < size) }
 {
     if n < 2147483648 {
         return 0;
@@ -26,7 +26,7 @@ fn clamped(n: usize, size: usize) -> usize
 // The sample at a place, both numbers raised by 2^31; reads clamp to the canvas.
 fn sample_clamped(reference: &[u8], stride: usize, rows: usize, x: usize, y: usize) -> u8
     requires { (0 < stride) × (0 < rows) × (length reference.now ≡ stride * rows) }
-    ensures { result ≡ sampleAt (record { samples = reference.now; stride = stride; rows = rows }) (downHalf x) (downHalf y) }
+    ensures { result ≡ sample_at (record { samples = reference.now; stride = stride; rows = rows }) (down_half x) (down_half y) }
 {
     let cx = clamped(x, stride);
     let cy = clamped(y, rows);
@@ -35,8 +35,8 @@ fn sample_clamped(reference: &[u8], stride: usize, rows: usize, x: usize, y: usi
 
 // The sample at a place in half samples, both numbers raised by 2^32.
 pub fn sample_halfpel(reference: &[u8], stride: usize, rows: usize, hx: usize, hy: usize) -> u8
-    requires { (0 < stride) × (0 < rows) × (length reference.now ≡ stride * rows) × (hx < upEnd) × (hy < upEnd) }
-    ensures { result ≡ halfSample (record { samples = reference.now; stride = stride; rows = rows }) (down hx) (down hy) }
+    requires { (0 < stride) × (0 < rows) × (length reference.now ≡ stride * rows) × (hx < up_end) × (hy < up_end) }
+    ensures { result ≡ half_sample (record { samples = reference.now; stride = stride; rows = rows }) (down hx) (down hy) }
 {
     let x = hx / 2;
     let y = hy / 2;
@@ -78,7 +78,7 @@ fn part_clamped(
     q: usize,
 )
     requires { Placed (record { samples = reference.now; stride = stride; rows = rows }) x y × Parts s cols q × (ux ≤ 6442450944) × (uy ≤ 6442450944) }
-    ensures { out.new ≡ movedPart (record { samples = reference.now; stride = stride; rows = rows }) x y (downMv ux uy) s cols q out.old }
+    ensures { out.new ≡ moved_part (record { samples = reference.now; stride = stride; rows = rows }) x y (down_mv ux uy) s cols q out.old }
 {
     let n = s * s;
     let mut j = 0;
@@ -168,7 +168,7 @@ fn part_inside(
     q: usize,
 )
     requires { InCanvas (record { samples = reference.now; stride = stride; rows = rows }) s ox oy x0 y0 × Parts s cols q }
-    ensures { out.new ≡ cellPart (record { samples = reference.now; stride = stride; rows = rows }) ox oy x0 y0 s cols q out.old }
+    ensures { out.new ≡ cell_part (record { samples = reference.now; stride = stride; rows = rows }) ox oy x0 y0 s cols q out.old }
 {
     let mut i = 0;
     while i < s {
@@ -181,8 +181,8 @@ fn part_inside(
 
 // On one axis, whether a part of side s that is read from the half-sample place h, raised by 2^32, lies in the canvas.
 fn inside(h: usize, s: usize, size: usize) -> bool
-    requires { (h < upEnd) × (s ≤ 16) }
-    ensures { result ≡ insideUp h s size }
+    requires { (h < up_end) × (s ≤ 16) }
+    ensures { result ≡ inside_up h s size }
 {
     if h < 4294967296 {
         return false;
@@ -204,7 +204,7 @@ fn mc_part(
     q: usize,
 )
     requires { Placed (record { samples = reference.now; stride = stride; rows = rows }) x y × Parts s cols q }
-    ensures { out.new ≡ movedPart (record { samples = reference.now; stride = stride; rows = rows }) x y v s cols q out.old }
+    ensures { out.new ≡ moved_part (record { samples = reference.now; stride = stride; rows = rows }) x y v s cols q out.old }
 {
     let ux = lift(v.x);
     let uy = lift(v.y);
@@ -242,7 +242,7 @@ pub fn mc_macroblock(
     v: Svq1Mv,
 )
     requires { Placed (record { samples = reference.now; stride = stride; rows = rows }) x y × (length out.old ≡ 256) }
-    ensures { out.new ≡ movedBlock (record { samples = reference.now; stride = stride; rows = rows }) 16 x y v }
+    ensures { out.new ≡ moved_block (record { samples = reference.now; stride = stride; rows = rows }) 16 x y v }
 {
     mc_part(out, reference, stride, rows, x, y, v, 16, 1, 0);
 }
@@ -259,7 +259,7 @@ pub fn mc_quarter(
     q: usize,
 )
     requires { Placed (record { samples = reference.now; stride = stride; rows = rows }) x y × (q < 4) }
-    ensures { out.new ≡ movedPart (record { samples = reference.now; stride = stride; rows = rows }) x y v 8 2 q out.old }
+    ensures { out.new ≡ moved_part (record { samples = reference.now; stride = stride; rows = rows }) x y v 8 2 q out.old }
 {
     mc_part(out, reference, stride, rows, x, y, v, 8, 2, q);
 }

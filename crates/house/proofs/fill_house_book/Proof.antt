@@ -3,16 +3,16 @@ use mathlib.Core.Path.{sym, ap, ◌∙◌}
 use native.Mathlib.Omega.{arith}
 use lib.ListN.{length}
 use borrow.Author.Rules.{rules}
-use Rattle.bits.specs.FillLaws.{sets-all}
-use Rattle.book.specs.Book.{bookBytes}
-use Rattle.house.specs.House.{houseBook}
-use Rattle.house.specs.HouseLaws.{length-house-book}
-use Rattle.house.specs.FillLaws.{fill-refused, fill_done}
+use Rattle.bits.specs.FillLaws.{sets_all}
+use Rattle.book.specs.Book.{book_bytes}
+use Rattle.house.specs.House.{house_book}
+use Rattle.house.specs.HouseLaws.{length_house_book}
+use Rattle.house.specs.FillLaws.{fill_refused, fill_done}
 use Rattle.house.proofs.fill_house_book.Statement.{statement}
 use Rattle.house.proofs.fill_house_book.Tie as tie
 
 returns : tie.Need-returns
-returns c = record { filled = fill-refused bookBytes houseBook _ c.if1.true; holds = λ e. absurd (omega arith) }
+returns c = record { filled = fill_refused book_bytes house_book _ c.if1.true; holds = λ e. absurd (omega arith) }
 
 house-book-requires : tie.Need-house-book-requires
 house-book-requires c κs = search rules
@@ -23,7 +23,7 @@ slice-aggregate-put-row c = search rules
 put-row-requires : tie.Need-put-row-requires
 put-row-requires c κs =
     let h = c.before.before in
-    omega (arith, h.before.if1.false, ap length h.house-book.ensures.bytes ∙ length-house-book)
+    omega (arith, h.before.if1.false, ap length h.house-book.ensures.bytes ∙ length_house_book)
 
 same_length : tie.Need-same-length
 same_length c = search rules
@@ -34,8 +34,8 @@ returns-2 c =
     let h = p.before.before.before in
     let n = h.before.if1.false in
     let b = h.house-book.ensures in
-    let e = p.put-row.ensures ∙ sets-all _ _ (n ∙ sym (ap length b.bytes ∙ length-house-book)) in
-    record { filled = fill_done bookBytes houseBook _ _ n (e ∙ b.bytes); holds = λ z. rw e b }
+    let e = p.put-row.ensures ∙ sets_all _ _ (n ∙ sym (ap length b.bytes ∙ length_house_book)) in
+    record { filled = fill_done book_bytes house_book _ _ n (e ∙ b.bytes); holds = λ z. rw e b }
 
 pub fill-house-book-spec : {M : Type 1} → statement M
 fill-house-book-spec =

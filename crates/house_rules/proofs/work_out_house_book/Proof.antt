@@ -5,26 +5,26 @@ use native.Mathlib.Omega.{arith}
 use borrow.Author.Rules.{rules}
 use lib.ListN.{length}
 use lib.Seq.{sets}
-use Rattle.bits.specs.FillLaws.{sets-all}
-use Rattle.book.specs.Book.{bookEntries, bookBytes}
-use Rattle.house.specs.House.{houseEntry, houseFrom, houseBook}
-use Rattle.house.specs.HouseLaws.{length-house-book, house-book}
-use Rattle.house.specs.FillLaws.{fill-refused, fill_done}
-use Rattle.house_rules.specs.RulesLaws.{entry-put}
+use Rattle.bits.specs.FillLaws.{sets_all}
+use Rattle.book.specs.Book.{book_entries, book_bytes}
+use Rattle.house.specs.House.{house_entry, house_from, house_book}
+use Rattle.house.specs.HouseLaws.{length_house_book, house_book_lem}
+use Rattle.house.specs.FillLaws.{fill_refused, fill_done}
+use Rattle.house_rules.specs.RulesLaws.{entry_put}
 use Rattle.house_rules.proofs.work_out_house_book.Statement.{statement}
 use Rattle.house_rules.proofs.work_out_house_book.Tie as tie
 
 abbrev invariant-loop : tie.invariant-loop
-invariant-loop out₀ e₀ out e = (e ≤ bookEntries) × (length out ≡ length out₀) × (out ≡ sets out₀ 0 (houseFrom e 0))
+invariant-loop out₀ e₀ out e = (e ≤ book_entries) × (length out ≡ length out₀) × (out ≡ sets out₀ 0 (house_from e 0))
 
 abbrev decreases-loop : tie.decreases-loop
-decreases-loop out₀ e₀ out e = bookEntries - e
+decreases-loop out₀ e₀ out e = book_entries - e
 
 returns : tie.Need-returns invariant-loop decreases-loop
-returns c = record { filled = fill-refused bookBytes houseBook _ c.if1.true; holds = λ e. absurd (omega arith) }
+returns c = record { filled = fill_refused book_bytes house_book _ c.if1.true; holds = λ e. absurd (omega arith) }
 
 loop-holds : tie.Need-loop-init invariant-loop decreases-loop
-unfolding houseFrom
+unfolding house_from
 loop-holds c = (omega arith, refl, refl)
 
 house-entry-requires : tie.Need-house-entry-requires invariant-loop decreases-loop
@@ -54,21 +54,21 @@ loop-again c =
     let h = p.before.before.before in
     let u = h.before.before in
     let o = u.before.before.before.args.out.now in
-    let put : p.put-row.new.0 ≡ sets u.loop.out (3 * u.loop.e) (houseEntry u.loop.e) = rw h.house-entry.ensures at p.put-row.ensures in
-    (omega arith, p.put-row.auto.0 ∙ u.loop.invariant.1, put ∙ rw u.loop.invariant.2 (entry-put o u.loop.e))
+    let put : p.put-row.new.0 ≡ sets u.loop.out (3 * u.loop.e) (house_entry u.loop.e) = rw h.house-entry.ensures at p.put-row.ensures in
+    (omega arith, p.put-row.auto.0 ∙ u.loop.invariant.1, put ∙ rw u.loop.invariant.2 (entry_put o u.loop.e))
 
 same_length : tie.Need-same-length invariant-loop decreases-loop
 same_length c = search rules
 
 returns-2 : tie.Need-returns-2 invariant-loop decreases-loop
-unfolding houseBook
+unfolding house_book
 returns-2 c =
     let u = c.before in
     let o = u.before.before.before.args.out.now in
-    let size : length o ≡ bookBytes = u.before.if1.false in
-    let all : u.loop.e ≡ bookEntries = omega arith in
-    let whole : u.loop.out ≡ houseBook = u.loop.invariant.2 ∙ rw all (sets-all o (houseFrom bookEntries 0) (size ∙ sym length-house-book)) in
-    record { filled = fill_done bookBytes houseBook o u.loop.out size whole; holds = λ z. rw whole house-book }
+    let size : length o ≡ book_bytes = u.before.if1.false in
+    let all : u.loop.e ≡ book_entries = omega arith in
+    let whole : u.loop.out ≡ house_book = u.loop.invariant.2 ∙ rw all (sets_all o (house_from book_entries 0) (size ∙ sym length_house_book)) in
+    record { filled = fill_done book_bytes house_book o u.loop.out size whole; holds = λ z. rw whole house_book_lem }
 
 pub work-out-house-book-spec : {M : Type 1} → statement M
 work-out-house-book-spec =

@@ -7,19 +7,19 @@ use lib.ListN.{length, take}
 use lib.Seq.{take_all}
 use mir.Syntax.{w64}
 use mir.ValLaws.{to_z-of_z}
-use Rattle.house_text.specs.HouseText.{numberLines}
+use Rattle.house_text.specs.HouseText.{number_lines}
 use Rattle.house_text.specs.HouseTextLaws.{length_more}
 use Rattle.house_text.proofs.numbers_length.Statement.{statement}
 use Rattle.house_text.proofs.numbers_length.Tie as tie
 
 abbrev invariant-loop : tie.invariant-loop
-invariant-loop codebook n₀ i₀ n i = (i ≤ length codebook) × (n ≤ 22 * i) × (n ≡ length (numberLines (take i codebook)))
+invariant-loop codebook n₀ i₀ n i = (i ≤ length codebook) × (n ≤ 22 * i) × (n ≡ length (number_lines (take i codebook)))
 
 abbrev decreases-loop : tie.decreases-loop
 decreases-loop codebook n₀ i₀ n i = length codebook - i
 
 loop-holds : tie.Need-loop-init invariant-loop decreases-loop
-unfolding numberLines
+unfolding number_lines
 loop-holds c = (omega arith, omega arith, refl)
 
 shared-slice-read-number-of : tie.Need-shared-slice-read-number-of invariant-loop decreases-loop

@@ -3,8 +3,8 @@ use mathlib.Core.Path.{◌∙◌}
 use borrow.Author.Rules.{rules}
 use mir.Syntax.{w64}
 use mir.ValLaws.{to_z-of_z}
-use Rattle.text.specs.PutLaws.{in-room, put-behind}
-use Rattle.house_text.specs.HouseText.{numberLine}
+use Rattle.text.specs.PutLaws.{in_room_lem, put_behind}
+use Rattle.house_text.specs.HouseText.{number_line}
 use Rattle.house_text.proofs.put_number.Statement.{statement}
 use Rattle.house_text.proofs.put_number.Tie as tie
 
@@ -24,14 +24,14 @@ same_length : tie.Need-same-length
 same_length c = search rules
 
 returns : tie.Need-returns
-unfolding numberLine
+unfolding number_line
 returns c =
     let feed = c.before.before in
     let digits = feed.before.before.before.before.before in
     let number = digits.before in
     let z = number.number_of_lem.result in
     let e = to_z-of_z w64 z (record { sfits = number.number_of_lem.type-inv }) in
-    put-behind (in-room (rw (e ∙ number.number_of_lem.ensures) at digits.put-signed.ensures)) (in-room feed.put-text.ensures)
+    put_behind (in_room_lem (rw (e ∙ number.number_of_lem.ensures) at digits.put-signed.ensures)) (in_room_lem feed.put-text.ensures)
 
 pub put-number-spec : {M : Type 1} → statement M
 put-number-spec =

@@ -6,22 +6,22 @@ use borrow.Author.Rules.{rules}
 use lib.ListN.{length, take}
 use lib.Seq.{take_all}
 use Rattle.text.specs.WritingForms.{PutInRoom}
-use Rattle.text.specs.PutLaws.{put-nothing, put-behind}
-use Rattle.house_text.specs.HouseText.{numberLines}
+use Rattle.text.specs.PutLaws.{put_nothing, put_behind}
+use Rattle.house_text.specs.HouseText.{number_lines}
 use Rattle.house_text.specs.HouseTextLaws.{lines_more}
 use Rattle.house_text.proofs.put_numbers.Statement.{statement}
 use Rattle.house_text.proofs.put_numbers.Tie as tie
 
 abbrev invariant-loop : tie.invariant-loop
 invariant-loop out₀ at codebook next₀ i₀ out next i =
-    (i ≤ length codebook) × (length out ≡ length out₀) × PutInRoom out₀ at (numberLines (take i codebook)) next out
+    (i ≤ length codebook) × (length out ≡ length out₀) × PutInRoom out₀ at (number_lines (take i codebook)) next out
 
 abbrev decreases-loop : tie.decreases-loop
 decreases-loop out₀ at codebook next₀ i₀ out next i = length codebook - i
 
 loop-holds : tie.Need-loop-init invariant-loop decreases-loop
-unfolding numberLines
-loop-holds c = (omega arith, refl, put-nothing _ _)
+unfolding number_lines
+loop-holds c = (omega arith, refl, put_nothing _ _)
 
 shared-slice-read-put-number : tie.Need-shared-slice-read-put-number invariant-loop decreases-loop
 shared-slice-read-put-number c = search rules
@@ -42,7 +42,7 @@ loop-again c =
     let codebook = u.before.before.before.args.codebook.now in (
       omega arith,
       p.put-number.auto.0 ∙ u.loop.invariant.1,
-      rw (lines_more codebook u.loop.i (omega arith)) (put-behind u.loop.invariant.2 p.put-number.ensures),
+      rw (lines_more codebook u.loop.i (omega arith)) (put_behind u.loop.invariant.2 p.put-number.ensures),
     )
 
 same_length : tie.Need-same-length invariant-loop decreases-loop

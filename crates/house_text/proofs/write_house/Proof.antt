@@ -1,10 +1,10 @@
 -- `house_text::write_house` meets its contract: both tables are the house's, which pass. Assumes nothing.
 use mathlib.Core.Path.{refl}
 use borrow.Author.Rules.{rules}
-use Rattle.book.specs.Book.{bookBytes, codebookBytes}
-use Rattle.house.specs.House.{houseBook, houseCodebook}
-use Rattle.house.specs.FillLaws.{fill-whole}
-use Rattle.house_text.specs.HouseTextLaws.{house-written}
+use Rattle.book.specs.Book.{book_bytes, codebook_bytes}
+use Rattle.house.specs.House.{house_book, house_codebook}
+use Rattle.house.specs.FillLaws.{fill_whole}
+use Rattle.house_text.specs.HouseTextLaws.{house_written}
 use Rattle.house_text.proofs.write_house.Statement.{statement}
 use Rattle.house_text.proofs.write_house.Tie as tie
 
@@ -37,8 +37,8 @@ returns c =
     let w = c.before.before in
     let f = w.before.before.before.before.before in
     let b = f.before.before.before in
-    house-written _ _ _ _ _ (fill-whole bookBytes houseBook _ _ _ refl b.work-out-house-book.ensures.filled)
-    (fill-whole codebookBytes houseCodebook _ _ _ refl f.fill-house-codebook.ensures.filled) w.write-tables.ensures
+    house_written _ _ _ _ _ (fill_whole book_bytes house_book _ _ _ refl b.work-out-house-book.ensures.filled)
+    (fill_whole codebook_bytes house_codebook _ _ _ refl f.fill-house-codebook.ensures.filled) w.write-tables.ensures
 
 pub write-house-spec : {M : Type 1} → statement M
 write-house-spec =

@@ -5,9 +5,9 @@ use native.Mathlib.Omega.{arith}
 use borrow.Author.Rules.{rules}
 use lib.ListN.{length}
 use lib.Seq.{length-take-le}
-use Rattle.book.specs.Book.{dataRefusal}
-use Rattle.book.specs.BookLaws.{data-passes}
-use Rattle.house_text.specs.HouseTextLaws.{print-refused, print-short, file-short, file-then-numbers}
+use Rattle.book.specs.Book.{data_refusal}
+use Rattle.book.specs.BookLaws.{data_passes}
+use Rattle.house_text.specs.HouseTextLaws.{print_refused, print_short, file_short, file_then_numbers}
 use Rattle.house_text.proofs.write_tables.Statement.{statement}
 use Rattle.house_text.proofs.write_tables.Tie as tie
 
@@ -17,21 +17,21 @@ data-refusal-requires c κs = search rules
 returns : tie.Need-returns
 returns c =
     let r = c.before.data-refusal in
-    print-refused _ _ _ r.result r.ensures c.if1.true
+    print_refused _ _ _ r.result r.ensures c.if1.true
 
 -- the tables that pass
 passing : (c : tie.Else1)
-    → let a = c.before.before.before.before.before.args in dataRefusal a.book.now a.codebook.now ≡ 0
+    → let a = c.before.before.before.before.before.args in data_refusal a.book.now a.codebook.now ≡ 0
 passing c = sym c.before.data-refusal.ensures ∙ c.if1.false
 
 numbers-length-requires : tie.Need-numbers-length-requires
-numbers-length-requires c κs = (data-passes _ _ (passing c)).0
+numbers-length-requires c κs = (data_passes _ _ (passing c)).0
 
 returns-2 : tie.Need-returns-2
 returns-2 c =
     let n = c.before in
     let a = n.before.before.before.before.before.before.args in
-    print-short a.book.now a.codebook.now a.out.now (passing n.before) (omega (arith, n.numbers-length.ensures, c.if2.true))
+    print_short a.book.now a.codebook.now a.out.now (passing n.before) (omega (arith, n.numbers-length.ensures, c.if2.true))
 
 sub-room : tie.Need-overflow-sub-room
 sub-room c = search rules
@@ -54,7 +54,7 @@ returns-3 c =
     let s = w.before.before in
     let n = s.before in
     let a = n.before.before.before.before.before.before.args in
-    file-short a.book.now a.codebook.now a.out.now (passing n.before) (length a.out.now - n.numbers-length.result) (omega (arith, n.numbers-length.ensures, s.if2.false))
+    file_short a.book.now a.codebook.now a.out.now (passing n.before) (length a.out.now - n.numbers-length.result) (omega (arith, n.numbers-length.ensures, s.if2.false))
     w.write-book-file.result w.write-book-file.new.1.0 w.write-book-file.ensures c.if3.true
 
 put-numbers-requires : tie.Need-put-numbers-requires
@@ -71,7 +71,7 @@ returns-4 c =
     let s = w.before.before in
     let n = s.before in
     let a = n.before.before.before.before.before.before.args in
-    file-then-numbers a.book.now a.codebook.now a.out.now (passing n.before) (length a.out.now - n.numbers-length.result) (omega (arith, n.numbers-length.ensures, s.if2.false))
+    file_then_numbers a.book.now a.codebook.now a.out.now (passing n.before) (length a.out.now - n.numbers-length.result) (omega (arith, n.numbers-length.ensures, s.if2.false))
     w.write-book-file.result w.write-book-file.new.1.0 w.write-book-file.ensures t.if3.false p.put-numbers.result p.put-numbers.new.0 p.put-numbers.ensures
 
 pub write-tables-spec : {M : Type 1} → statement M

@@ -3,12 +3,12 @@ ghost use Rattle.std.specs.Prelude.{◌≡◌, ◌+◌, ◌-◌, ◌*◌, ◌<�
 ghost use Rattle.std.proofs.Math.IntN.{sub_ℕ};
 ghost use Rattle.bits.specs.Basics.{natural};
 ghost use Rattle.bits.specs.BitNeeds.{Fits, Wrote};
-ghost use Rattle.book.specs.Book.{bookRefusal};
-ghost use Rattle.book.specs.Level.{levelNumber};
-ghost use Rattle.codebook.specs.Mean.{meanPosition};
-ghost use Rattle.leaf.specs.LeafForms.{leafOf};
-ghost use Rattle.leaf.specs.LeafBits.{stageBits};
-ghost use Rattle.leaf.specs.LentNeeds.{lentBits, LentTables, CodeFits, LeafSize, Writable, BookLeafSize};
+ghost use Rattle.book.specs.Book.{book_refusal};
+ghost use Rattle.book.specs.Level.{level_number};
+ghost use Rattle.codebook.specs.Mean.{mean_position};
+ghost use Rattle.leaf.specs.LeafForms.{leaf_of};
+ghost use Rattle.leaf.specs.LeafBits.{stage_bits};
+ghost use Rattle.leaf.specs.LentNeeds.{lent_bits, LentTables, CodeFits, LeafSize, Writable, BookLeafSize};
 
 use super::super::svq1_enc_leaf::LeafCode;
 use book::inner::{mean_table, stage_table};
@@ -35,7 +35,7 @@ fn not_negative(z: i32) -> usize
 
 // The position of a mean in its half's table.
 pub fn mean_position(half: Svq1Half, mean: i16) -> usize
-    ensures { result ≡ meanPosition half mean }
+    ensures { result ≡ mean_position half mean }
 {
     let m = mean as i32;
     match half {
@@ -54,7 +54,7 @@ pub fn stage_count(count: u8) -> usize
 // The first `count` stage indices, four bits each.
 fn put_stages(out: &mut [u8], at: usize, count: usize, stages: [u8; 6]) -> usize
     requires { (count ≤ 6) × Fits (length out.old) at (4 * count) }
-    ensures { Wrote out.old at (stageBits (take count stages)) result out.new }
+    ensures { Wrote out.old at (stage_bits (take count stages)) result out.new }
 {
     let mut p = at;
     let mut i = 0;
@@ -100,7 +100,7 @@ fn put_coded(
     stages: [u8; 6],
 ) -> usize
     requires { Writable half stage.now means.now (LeafCode.Coded mean count) stages (length out.old) at }
-    ensures { Wrote out.old at (lentBits half stage.now means.now (leafOf (LeafCode.Coded mean count) stages)) result out.new }
+    ensures { Wrote out.old at (lent_bits half stage.now means.now (leaf_of (LeafCode.Coded mean count) stages)) result out.new }
 {
     let k = mean_position(half, mean);
     let n = stage_count(count);
@@ -120,7 +120,7 @@ pub fn put_leaf(
     stages: [u8; 6],
 ) -> usize
     requires { Writable half stage.now means.now code stages (length out.old) at }
-    ensures { Wrote out.old at (lentBits half stage.now means.now (leafOf code stages)) result out.new }
+    ensures { Wrote out.old at (lent_bits half stage.now means.now (leaf_of code stages)) result out.new }
 {
     match code {
         LeafCode::Skip => code_tables::inner::put_code(out, at, stage, 0),
@@ -132,8 +132,8 @@ pub fn put_leaf(
 
 // How many bits a leaf has by a book's tables.
 pub fn book_leaf_bits(book: &[u8], level: Svq1Level, half: Svq1Half, code: LeafCode) -> u32
-    requires { (bookRefusal book.now ≡ 0) × CodeFits half code }
-    ensures { BookLeafSize book.now half (levelNumber level) code result }
+    requires { (book_refusal book.now ≡ 0) × CodeFits half code }
+    ensures { BookLeafSize book.now half (level_number level) code result }
 {
     let stage = stage_table(book, half, level);
     leaf_bits(stage, mean_table(book, half), half, code)

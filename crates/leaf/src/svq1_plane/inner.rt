@@ -2,9 +2,9 @@
 ghost use Rattle.std.specs.Prelude.{◌≡◌, ◌&&◌, ◌+◌, ◌-◌, ◌*◌, ◌<◌, ◌≤◌, length, take, drop, ltb};
 ghost use Rattle.bits.specs.BitNeeds.{Fits};
 ghost use Rattle.bits.specs.Bits.{val_of, bits_of};
-ghost use Rattle.codebook.specs.Mean.{meanAt};
-ghost use Rattle.leaf.specs.LeafBits.{readSkip, readLeaf};
-ghost use Rattle.leaf.specs.LentNeeds.{LentTables, lentTables, MeanTable, padded, refusedLeaf, LeafRead, nibbles, readIndices, readMean, lentRest};
+ghost use Rattle.codebook.specs.Mean.{mean_at};
+ghost use Rattle.leaf.specs.LeafBits.{read_skip, read_leaf};
+ghost use Rattle.leaf.specs.LentNeeds.{LentTables, lent_tables, MeanTable, padded, refused_leaf, LeafRead, nibbles, read_indices, read_mean, lent_rest};
 
 use super::super::svq1_enc_leaf::LeafCode;
 use super::super::svq1_enc_leaf::inner::signed_mean;
@@ -21,7 +21,7 @@ pub struct ReadLeaf {
 }
 
 fn refused_leaf(refused: u8) -> ReadLeaf
-    ensures { result ≡ refusedLeaf refused }
+    ensures { result ≡ refused_leaf refused }
 {
     ReadLeaf {
         refused,
@@ -34,7 +34,7 @@ fn refused_leaf(refused: u8) -> ReadLeaf
 // The mean at a position of its half's table.
 fn mean_at(half: Svq1Half, k: usize) -> i16
     requires { k < 512 }
-    ensures { result ≡ meanAt half k }
+    ensures { result ≡ mean_at half k }
 {
     match half {
         Svq1Half::Intra => k as i16,
@@ -69,7 +69,7 @@ fn get_stages(s: &[u8], at: usize, count: usize) -> [u8; 6]
 // What stands behind a mean: the stages.
 fn read_stages(s: &[u8], at: usize, mean: i16, count: usize) -> ReadLeaf
     requires { (count ≤ 6) × Fits (length s.now) at 0 }
-    ensures { LeafRead (bits_of s.now) (readIndices mean count (drop at (bits_of s.now))) result }
+    ensures { LeafRead (bits_of s.now) (read_indices mean count (drop at (bits_of s.now))) result }
 {
     if 8 * s.len() - at < 4 * count {
         return refused_leaf(24);
@@ -89,7 +89,7 @@ fn read_stages(s: &[u8], at: usize, mean: i16, count: usize) -> ReadLeaf
 // What stands behind a stage code that counts `count` stages: the mean and the stages.
 fn read_mean(s: &[u8], at: usize, table: &[u8], half: Svq1Half, count: usize) -> ReadLeaf
     requires { (count ≤ 6) × Fits (length s.now) at 0 × MeanTable half table.now }
-    ensures { LeafRead (bits_of s.now) (readMean half table.now count (drop at (bits_of s.now))) result }
+    ensures { LeafRead (bits_of s.now) (read_mean half table.now count (drop at (bits_of s.now))) result }
 {
     match code_tables::inner::read_code(s, at, table) {
         CodeRead::Code(k, next) => read_stages(s, next, mean_at(half, k), count),
@@ -101,7 +101,7 @@ fn read_mean(s: &[u8], at: usize, table: &[u8], half: Svq1Half, count: usize) ->
 // What stands behind a stage code that means skip: nothing, and the intra half has no skip.
 fn read_skip(s: &[u8], at: usize, half: Svq1Half) -> ReadLeaf
     requires { Fits (length s.now) at 0 }
-    ensures { LeafRead (bits_of s.now) (readSkip half (drop at (bits_of s.now))) result }
+    ensures { LeafRead (bits_of s.now) (read_skip half (drop at (bits_of s.now))) result }
 {
     match half {
         Svq1Half::Intra => refused_leaf(11),
@@ -124,7 +124,7 @@ fn stages_closed(level: usize, count: usize) -> bool
 // What stands behind the stage code at position k.
 fn read_rest(s: &[u8], at: usize, table: &[u8], half: Svq1Half, level: usize, k: usize) -> ReadLeaf
     requires { (k < 8) × Fits (length s.now) at 0 × MeanTable half table.now }
-    ensures { LeafRead (bits_of s.now) (lentRest half table.now level k (drop at (bits_of s.now))) result }
+    ensures { LeafRead (bits_of s.now) (lent_rest half table.now level k (drop at (bits_of s.now))) result }
 {
     if k == 0 {
         return read_skip(s, at, half);
@@ -146,7 +146,7 @@ pub fn read_leaf(
     level: usize,
 ) -> ReadLeaf
     requires { Fits (length s.now) at 0 × LentTables half stage.now means.now }
-    ensures { LeafRead (bits_of s.now) (readLeaf (lentTables half stage.now means.now) level (drop at (bits_of s.now))) result }
+    ensures { LeafRead (bits_of s.now) (read_leaf (lent_tables half stage.now means.now) level (drop at (bits_of s.now))) result }
 {
     match code_tables::inner::read_code(s, at, stage) {
         CodeRead::Code(k, next) => read_rest(s, next, means, half, level, k),

@@ -3,8 +3,8 @@ ghost use Rattle.std.specs.Prelude.{◌≡◌, ℕ, ◌+◌, ◌-◌, ◌*◌, �
 ghost use Rattle.std.proofs.Math.IntN.{sub_ℕ};
 ghost use Rattle.bits.specs.Basics.{gap};
 ghost use Rattle.codebook.specs.Mean.{saturate};
-ghost use Rattle.leaf.specs.Leaf.{coded, sse, plus, samples, seeded, staged, leafShown};
-ghost use Rattle.leaf.specs.LeafForms.{less, Below, plusN, sqd, vectorsIn, leafOf};
+ghost use Rattle.leaf.specs.Leaf.{coded, sse, plus, samples, seeded, staged, leaf_shown};
+ghost use Rattle.leaf.specs.LeafForms.{less, Below, plus_n, sqd, vectors_in, leaf_of};
 ghost use Rattle.leaf_samples.specs.ShowNeeds.{MeanKnown, SizedSums, Staging, CodeShows, Adding};
 
 use bits::inner::put_row;
@@ -53,7 +53,7 @@ pub fn wide(x: u8) -> u16
 // The vector `w` added to `a`.
 fn add_vector(a: &mut [u16], w: &[u8])
     requires { (length w.now ≡ length a.old) × Below 4095 a.old }
-    ensures a_after { a.new ≡ plusN a.old w.now }
+    ensures a_after { a.new ≡ plus_n a.old w.now }
     ensures by_index { (i : ℕ) → get_or a.new i 0 ≤ get_or a.old i 0 + 255 }
 {
     let mut i = 0;
@@ -66,7 +66,7 @@ fn add_vector(a: &mut [u16], w: &[u8])
 // The j-th of the sixteen vectors from `base` on added to `a`.
 pub fn add_stage(a: &mut [u16], book: &[u8], base: usize, j: usize)
     requires { (base + length a.old * 16 ≤ length book.now) × (j < 16) × Below 4095 a.old }
-    ensures a_after { a.new ≡ plusN a.old (take (length a.old) (drop (base + length a.old * j) book.now)) }
+    ensures a_after { a.new ≡ plus_n a.old (take (length a.old) (drop (base + length a.old * j) book.now)) }
     ensures by_index { (i : ℕ) → get_or a.new i 0 ≤ get_or a.old i 0 + 255 }
 {
     let n = a.len();
@@ -188,7 +188,7 @@ fn raised_mean(half: Svq1Half, mean: i16) -> u16
 // The vectors of the first `count` stages added to the sums `a`.
 fn add_stages(a: &mut [u16], book: &[u8], base: usize, count: usize, stages: [u8; 6])
     requires { Adding a.old (length book.now) base count stages }
-    ensures { less (256 + 128 * count) a.new ≡ staged (vectorsIn book.now base (length a.old)) 0 (less 256 a.old) (take count stages) }
+    ensures { less (256 + 128 * count) a.new ≡ staged (vectors_in book.now base (length a.old)) 0 (less 256 a.old) (take count stages) }
 {
     let n = a.len();
     let mut at = base;
@@ -213,7 +213,7 @@ fn show_coded(
     stages: [u8; 6],
 )
     requires { (mean ≤ 511) × SizedSums p.now a.old out.old × Staging (length p.now) (length book.now) base count stages }
-    ensures { out.new ≡ leafShown (vectorsIn book.now base (length p.now)) p.now (coded (sub_ℕ mean 256) (take count stages)) }
+    ensures { out.new ≡ leaf_shown (vectors_in book.now base (length p.now)) p.now (coded (sub_ℕ mean 256) (take count stages)) }
 {
     seed(a, p, mean);
     add_stages(a, book, base, count, stages);
@@ -232,7 +232,7 @@ pub fn show_leaf(
     stages: [u8; 6],
 )
     requires { SizedSums p.now a.old out.old × CodeShows half (length p.now) (length book.now) base code stages }
-    ensures { out.new ≡ leafShown (vectorsIn book.now base (length p.now)) p.now (leafOf code stages) }
+    ensures { out.new ≡ leaf_shown (vectors_in book.now base (length p.now)) p.now (leaf_of code stages) }
 {
     match code {
         LeafCode::Skip => copy(p, out),

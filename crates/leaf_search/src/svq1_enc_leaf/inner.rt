@@ -2,10 +2,10 @@
 // everybody else are in the modules that keep the names of the original's files.
 ghost use Rattle.std.specs.Prelude.{◌≡◌, ◌+◌, ◌*◌, ◌<◌, ◌≤◌, length};
 ghost use Rattle.std.proofs.Math.IntN.{sub_ℕ};
-ghost use Rattle.book.specs.Level.{levelNumber};
-ghost use Rattle.codebook.specs.Mean.{residual, meanOf};
-ghost use Rattle.leaf.specs.Leaf.{sse, samples, argmin, stays, cap_at, termsAt};
-ghost use Rattle.leaf.specs.LeafForms.{less, vectorError, Below, Stage, sampleSum};
+ghost use Rattle.book.specs.Level.{level_number};
+ghost use Rattle.codebook.specs.Mean.{residual, mean_of};
+ghost use Rattle.leaf.specs.Leaf.{sse, samples, argmin, stays, cap_at, terms_at};
+ghost use Rattle.leaf.specs.LeafForms.{less, vector_error, Below, Stage, sample_sum};
 ghost use Rattle.leaf.specs.LeafNeeds.{SearchReady, Coding, Chosen};
 ghost use Rattle.leaf_search.specs.LevelLeafNeeds.{LevelReady, LevelChosen};
 ghost use Rattle.leaf_search.specs.StagesNeeds.{Searched};
@@ -30,7 +30,7 @@ pub struct Best {
 fn vector_error(t: &[u8], a: &[u16], book: &[u8], base: usize, bias: u16, j: usize) -> u32
     requires stage { Stage t.now a.now book.now base bias }
     requires j_bound { j < 16 }
-    ensures { result ≡ vectorError t.now (less bias a.now) book.now base j }
+    ensures { result ≡ vector_error t.now (less bias a.now) book.now base j }
 {
     let n = t.len();
     let at = base + n * j;
@@ -41,8 +41,8 @@ fn vector_error(t: &[u8], a: &[u16], book: &[u8], base: usize, bias: u16, j: usi
 // The first of the sixteen vectors from `base` on that leaves the least error, and that error.
 fn best_vector(t: &[u8], a: &[u16], book: &[u8], base: usize, bias: u16) -> Best
     requires { Stage t.now a.now book.now base bias }
-    ensures index_value { result.index ≡ argmin (vectorError t.now (less bias a.now) book.now base) 15 }
-    ensures error_value { result.error ≡ vectorError t.now (less bias a.now) book.now base result.index }
+    ensures index_value { result.index ≡ argmin (vector_error t.now (less bias a.now) book.now base) 15 }
+    ensures error_value { result.error ≡ vector_error t.now (less bias a.now) book.now base result.index }
     ensures index_bound { result.index < 16 }
 {
     let mut error = vector_error(t, a, book, base, bias, 0);
@@ -62,7 +62,7 @@ fn best_vector(t: &[u8], a: &[u16], book: &[u8], base: usize, bias: u16) -> Best
 // The sum of a block's samples.
 pub fn sum_of(t: &[u8]) -> u32
     requires { length t.now ≤ 256 }
-    ensures value { result ≡ sampleSum t.now }
+    ensures value { result ≡ sample_sum t.now }
     ensures upper_bound { result ≤ 65280 }
 {
     let mut sum: u32 = 0;
@@ -77,7 +77,7 @@ pub fn sum_of(t: &[u8]) -> u32
 // The mean, kept plus 256, of n residuals whose targets sum to `st` and predictors to `sp`.
 fn mean_of_sums(half: Svq1Half, st: u32, sp: u32, n: u32) -> u16
     requires { (st ≤ 65280) × (sp ≤ 65280) × (n ≤ 256) × (1 ≤ n) }
-    ensures result_value { sub_ℕ result 256 ≡ meanOf half (sub_ℕ st sp) n }
+    ensures result_value { sub_ℕ result 256 ≡ mean_of half (sub_ℕ st sp) n }
     ensures upper_bound { result ≤ 511 }
 {
     if sp <= st {
@@ -97,7 +97,7 @@ fn mean_of_sums(half: Svq1Half, st: u32, sp: u32, n: u32) -> u16
 // The mean of a block's residual, kept plus 256.
 fn residual_mean(half: Svq1Half, t: &[u8], p: &[u8]) -> u16
     requires { (length t.now ≤ 256) × (1 ≤ length t.now) × (length p.now ≡ length t.now) }
-    ensures result_value { sub_ℕ result 256 ≡ meanOf half (residual t.now p.now) (length t.now) }
+    ensures result_value { sub_ℕ result 256 ≡ mean_of half (residual t.now p.now) (length t.now) }
     ensures upper_bound { result ≤ 511 }
 {
     let n = t.len() as u32;
@@ -231,7 +231,7 @@ fn cap_at(d: usize, cap: usize) -> usize
 
 // The terms at level d: their cap as far as stages are open there.
 fn terms_at(d: usize, mut terms: LeafTerms) -> LeafTerms
-    ensures { result ≡ termsAt d terms }
+    ensures { result ≡ terms_at d terms }
 {
     terms.cap = cap_at(d, terms.cap);
     terms
@@ -247,8 +247,8 @@ pub fn level_leaf(
     out: &mut [u8],
     raised: &[u8],
 ) -> LeafChoice
-    requires { LevelReady terms (levelNumber level) t.now p.now a.old out.old raised.now }
-    ensures { LevelChosen terms (levelNumber level) t.now p.now raised.now result out.old out.new }
+    requires { LevelReady terms (level_number level) t.now p.now a.old out.old raised.now }
+    ensures { LevelChosen terms (level_number level) t.now p.now raised.now result out.old out.new }
 {
     let n = t.len();
     let d = level.number();

@@ -2,7 +2,7 @@
 use native.Mathlib.Omega.{arith}
 use mathlib.Core.Path.{sym}
 use lib.Seq.{length-take-le}
-use Rattle.listing_job.specs.JobLaws.{field-last, field-bad, field-read}
+use Rattle.listing_job.specs.JobLaws.{field_last, field_bad, field_read}
 use borrow.Author.Rules.{rules}
 use Rattle.listing_job.proofs.read_field.Statement.{statement}
 use Rattle.listing_job.proofs.read_field.Tie as tie
@@ -13,7 +13,7 @@ find-requires c κs = search rules
 returns : tie.Need-returns
 returns c =
     let a = c.before.before.before.args in
-    field-last a.most a.t.now c.before.find.result c.before.find.ensures.count (omega arith)
+    field_last a.most a.t.now c.before.find.result c.before.find.ensures.count (omega arith)
 
 slice-aggregate-read-number : tie.Need-slice-aggregate-read-number
 slice-aggregate-read-number c = let f = c.before.before in sym (length-take-le f.find.result f.before.before.args.t.now f.find.ensures.within)
@@ -31,7 +31,7 @@ returns-2 : tie.Need-returns-2
 returns-2 c =
     let f = c.before.before.before.before.before in
     let a = f.before.before.args in
-    field-bad a.most a.t.now f.find.result f.find.ensures.count (omega arith) (rw (← c.before.before.read_number.ensures, c.enum_told.given.1))
+    field_bad a.most a.t.now f.find.result f.find.ensures.count (omega arith) (rw (← c.before.before.read_number.ensures, c.enum_told.given.1))
 
 add-t5 : tie.Need-overflow-add-t5
 add-t5 c = search rules
@@ -40,7 +40,7 @@ returns-3 : tie.Need-returns-3
 returns-3 c =
     let f = c.before.before.before.before.before.before in
     let a = f.before.before.args in
-    field-read a.most a.t.now f.find.result f.find.ensures.count (omega arith) c.before.value.given.0.0 (rw (← c.before.before.before.read_number.ensures, c.before.value.given.1))
+    field_read a.most a.t.now f.find.result f.find.ensures.count (omega arith) c.before.value.given.0.0 (rw (← c.before.before.before.read_number.ensures, c.before.value.given.1))
 
 pub read-field-spec : {M : Type 1} → statement M
 read-field-spec =

@@ -4,7 +4,7 @@ use mathlib.Core.Path.{sym}
 use lib.ListN.{drop}
 use Rattle.listing_job.specs.Job.{bounds}
 use Rattle.listing_job.specs.JobForms.{FieldsRead}
-use Rattle.listing_job.specs.JobLaws.{none_read, then-field, then-none, then-last, fields-small}
+use Rattle.listing_job.specs.JobLaws.{none_read, then-field, then-none, then_last, fields_small}
 use borrow.Author.Rules.{rules}
 use Rattle.listing_job.proofs.read_fields.Statement.{statement}
 use Rattle.listing_job.proofs.read_fields.Tie as tie
@@ -140,16 +140,16 @@ enum-told-6 : tie.Need-enum-told-6
 enum-told-6 c = search rules
 
 returns-6 : tie.Need-returns-6
-returns-6 c = then-last (behind-four c.before.before.before.before) (rw c.enum-told6.given.1 at c.before.before.read_number.ensures)
+returns-6 c = then_last (behind-four c.before.before.before.before) (rw c.enum-told6.given.1 at c.before.before.read_number.ensures)
 
 returns-7 : tie.Need-returns-7
-returns-7 c = then-last (behind-four c.before.before.before.before.before) (rw c.before.margin.given.1 at c.before.before.before.read_number.ensures)
+returns-7 c = then_last (behind-four c.before.before.before.before.before) (rw c.before.margin.given.1 at c.before.before.before.read_number.ensures)
 
 cast-t36 : tie.Need-overflow-cast-t36
-cast-t36 c = omega (arith, (fields-small _ _ (sym (returns-7 c))).2)
+cast-t36 c = omega (arith, (fields_small _ _ (sym (returns-7 c))).2)
 
 cast-t38 : tie.Need-overflow-cast-t38
-cast-t38 c = omega (arith, (fields-small _ _ (sym (returns-7 c))).3)
+cast-t38 c = omega (arith, (fields_small _ _ (sym (returns-7 c))).3)
 
 pub read-fields-spec : {M : Type 1} → statement M
 read-fields-spec =

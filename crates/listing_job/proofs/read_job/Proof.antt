@@ -2,8 +2,8 @@
 use native.Mathlib.Omega.{arith}
 use mathlib.Core.Path.{sym, ap, ◌∙◌}
 use lib.Seq.{length-take-le}
-use Rattle.listing_job.specs.Job.{jobAnswer}
-use Rattle.listing_job.specs.JobLaws.{job-open, job-more, job_one}
+use Rattle.listing_job.specs.Job.{job_answer}
+use Rattle.listing_job.specs.JobLaws.{job_open, job_more, job_one}
 use borrow.Author.Rules.{rules}
 use Rattle.listing_job.proofs.read_job.Statement.{statement}
 use Rattle.listing_job.proofs.read_job.Tie as tie
@@ -12,13 +12,13 @@ find-requires : tie.Need-find-requires
 find-requires c κs = search rules
 
 returns : tie.Need-returns
-returns c = ap jobAnswer (sym (job-open c.before.before.before.args.line.now c.before.find.result c.before.find.ensures.count (omega arith)))
+returns c = ap job_answer (sym (job_open c.before.before.before.args.line.now c.before.find.result c.before.find.ensures.count (omega arith)))
 
 add-if2 : tie.Need-overflow-add-if2
 add-if2 c = search rules
 
 returns-2 : tie.Need-returns-2
-returns-2 c = ap jobAnswer (sym (job-more c.before.before.before.before.args.line.now c.before.before.find.result c.before.before.find.ensures.count (omega arith)))
+returns-2 c = ap job_answer (sym (job_more c.before.before.before.before.args.line.now c.before.before.find.result c.before.before.find.ensures.count (omega arith)))
 
 slice-aggregate-read-fields : tie.Need-slice-aggregate-read-fields
 slice-aggregate-read-fields c = let f = c.before.before.before in sym (length-take-le f.find.result f.before.before.args.line.now f.find.ensures.within)
@@ -29,7 +29,7 @@ read-fields-requires c κs = search rules
 returns-3 : tie.Need-returns-3
 returns-3 c =
     let f = c.before.before.before.before in
-    ap jobAnswer (c.read-fields.ensures ∙ sym (job_one f.before.before.args.line.now f.find.result f.find.ensures.count (omega arith) (omega arith)))
+    ap job_answer (c.read-fields.ensures ∙ sym (job_one f.before.before.args.line.now f.find.result f.find.ensures.count (omega arith) (omega arith)))
 
 pub read-job-spec : {M : Type 1} → statement M
 read-job-spec =

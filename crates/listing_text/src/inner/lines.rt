@@ -1,9 +1,9 @@
 // The lines of a listing, put into a lent text. Each function asks for as much room as its longest line takes.
 ghost use Rattle.std.specs.Prelude.{[], ◌∷◌, ◌++◌, ◌+◌, ◌*◌, ◌≤◌, length};
 ghost use Rattle.text.specs.Text.{comma, decimal};
-ghost use Rattle.listing_text.specs.LineForms.{ListedPut, name_at, lineText, lines_from};
-ghost use Rattle.listing_text.specs.Listing.{totalLine, refusedText};
-ghost use Rattle.visible_error.specs.VisibleNeeds.{shownBy, shownBlocks, Showable};
+ghost use Rattle.listing_text.specs.LineForms.{ListedPut, name_at, line_text, lines_from};
+ghost use Rattle.listing_text.specs.Listing.{total_line, refused_text};
+ghost use Rattle.visible_error.specs.VisibleNeeds.{shown_by, shown_blocks, Showable};
 
 use canvas::svq1_plane::Svq1PlaneCanvas;
 use canvas::svq1_plane::inner::blocks_along;
@@ -45,7 +45,7 @@ fn put_macroblock_line(
     error: u64,
 ) -> usize
     requires { at + 94 ≤ length text.old }
-    ensures { ListedPut 94 text.old at (lineText row column mode bits error) result text.new }
+    ensures { ListedPut 94 text.old at (line_text row column mode bits error) result text.new }
 {
     let a = put_number(text, at, row, b',');
     let b = put_number(text, a, column, b',');
@@ -63,8 +63,8 @@ pub fn put_lines(
     stated: &[u32],
     count: usize,
 ) -> usize
-    requires { Showable (shownBy canvas source.now recon.now) × (count ≤ shownBlocks (shownBy canvas source.now recon.now)) × (3 * count ≤ length stated.now) × (94 * count ≤ length text.old) }
-    ensures { ListedPut (94 * count) text.old 0 (lines_from (shownBy canvas source.now recon.now) stated.now count) result text.new }
+    requires { Showable (shown_by canvas source.now recon.now) × (count ≤ shown_blocks (shown_by canvas source.now recon.now)) × (3 * count ≤ length stated.now) × (94 * count ≤ length text.old) }
+    ensures { ListedPut (94 * count) text.old 0 (lines_from (shown_by canvas source.now recon.now) stated.now count) result text.new }
 {
     let cols = blocks_along(canvas.width);
     let mut at = 0;
@@ -88,7 +88,7 @@ pub fn put_lines(
 // The last line: both totals.
 pub fn put_total_line(text: &mut [u8], at: usize, bits: u64, error: u64) -> usize
     requires { at + 48 ≤ length text.old }
-    ensures { ListedPut 48 text.old at (totalLine bits error) result text.new }
+    ensures { ListedPut 48 text.old at (total_line bits error) result text.new }
 {
     let a = text::put_text(text, at, b"total,");
     let b = put_number(text, a, bits, b',');
@@ -98,7 +98,7 @@ pub fn put_total_line(text: &mut [u8], at: usize, bits: u64, error: u64) -> usiz
 // A refusal in place of the lines.
 pub fn put_refused(text: &mut [u8], refused: u8) -> usize
     requires { 29 ≤ length text.old }
-    ensures { ListedPut 29 text.old 0 (refusedText refused) result text.new }
+    ensures { ListedPut 29 text.old 0 (refused_text refused) result text.new }
 {
     let a = text::put_text(text, 0, b"refused,");
     put_number(text, a, refused as u64, b'\n')

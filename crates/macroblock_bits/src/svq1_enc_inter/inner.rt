@@ -1,15 +1,15 @@
 // A mode's code and the codes of vectors' differences: counted, and put.
 ghost use Rattle.std.specs.Prelude.{◌++◌, ◌≡◌, ◌<◌, length};
 ghost use Rattle.bits.specs.BitNeeds.{Fits, Wrote};
-ghost use Rattle.book.specs.Book.{bookRefusal};
+ghost use Rattle.book.specs.Book.{book_refusal};
 ghost use Rattle.vectors.specs.Vectors.{place_of};
 ghost use Rattle.vectors.specs.VectorsLaws.{InRange, Inside};
-ghost use Rattle.mv_cache.specs.CacheNeeds.{nearFrom};
-ghost use Rattle.macroblock.specs.Macroblock.{four, componentBits, differenceBits, motionBits, modeBits};
+ghost use Rattle.mv_cache.specs.CacheNeeds.{near_from};
+ghost use Rattle.macroblock.specs.Macroblock.{four, component_bits, difference_bits, motion_bits, mode_bits};
 ghost use Rattle.macroblock.specs.MacroblockLaws.{Codables};
-ghost use Rattle.macroblock.specs.MotionForms.{motionOf, Differs};
-ghost use Rattle.macroblock_bits.specs.CodingNeeds.{Counted, fourDifferences};
-ghost use Rattle.macroblock.specs.MacroblockNeeds.{byBook};
+ghost use Rattle.macroblock.specs.MotionForms.{motion_of, Differs};
+ghost use Rattle.macroblock_bits.specs.CodingNeeds.{Counted, four_differences};
+ghost use Rattle.macroblock.specs.MacroblockNeeds.{by_book};
 
 use book::inner::{mode_table, vector_table};
 use code_tables::inner::{entry_len, put_code};
@@ -22,8 +22,8 @@ use vectors::svq1_motion_predictor::inner::difference_of;
 
 // How many bits a mode's code has.
 pub fn mb_mode_bits(book: &[u8], mode: Svq1MbMode) -> u32
-    requires { bookRefusal book.now ≡ 0 }
-    ensures { Counted (modeBits (byBook book.now) mode) 32 result }
+    requires { book_refusal book.now ≡ 0 }
+    ensures { Counted (mode_bits (by_book book.now) mode) 32 result }
 {
     let table = mode_table(book);
     entry_len(table, mode.position())
@@ -31,8 +31,8 @@ pub fn mb_mode_bits(book: &[u8], mode: Svq1MbMode) -> u32
 
 // A mode's code, from bit `at` on.
 pub fn put_mode(out: &mut [u8], at: usize, book: &[u8], mode: Svq1MbMode) -> usize
-    requires { (bookRefusal book.now ≡ 0) × Fits (length out.old) at (length (modeBits (byBook book.now) mode)) }
-    ensures { Wrote out.old at (modeBits (byBook book.now) mode) result out.new }
+    requires { (book_refusal book.now ≡ 0) × Fits (length out.old) at (length (mode_bits (by_book book.now) mode)) }
+    ensures { Wrote out.old at (mode_bits (by_book book.now) mode) result out.new }
 {
     let table = mode_table(book);
     put_code(out, at, table, mode.position())
@@ -48,8 +48,8 @@ fn difference_place(d: i32) -> usize
 
 // How many bits the code of a difference's component has.
 fn mv_component_bits(book: &[u8], d: i32) -> u32
-    requires { (bookRefusal book.now ≡ 0) × InRange d }
-    ensures { Counted (componentBits (byBook book.now) d) 32 result }
+    requires { (book_refusal book.now ≡ 0) × InRange d }
+    ensures { Counted (component_bits (by_book book.now) d) 32 result }
 {
     let table = vector_table(book);
     let k = difference_place(d);
@@ -58,8 +58,8 @@ fn mv_component_bits(book: &[u8], d: i32) -> u32
 
 // The code of a difference's component, from bit `at` on.
 fn put_component(out: &mut [u8], at: usize, book: &[u8], d: i32) -> usize
-    requires { (bookRefusal book.now ≡ 0) × InRange d × Fits (length out.old) at (length (componentBits (byBook book.now) d)) }
-    ensures { Wrote out.old at (componentBits (byBook book.now) d) result out.new }
+    requires { (book_refusal book.now ≡ 0) × InRange d × Fits (length out.old) at (length (component_bits (by_book book.now) d)) }
+    ensures { Wrote out.old at (component_bits (by_book book.now) d) result out.new }
 {
     let table = vector_table(book);
     let k = difference_place(d);
@@ -68,8 +68,8 @@ fn put_component(out: &mut [u8], at: usize, book: &[u8], d: i32) -> usize
 
 // How many bits a vector's difference has.
 fn vector_bits(book: &[u8], diff: Svq1Mv) -> u32
-    requires { (bookRefusal book.now ≡ 0) × Inside diff }
-    ensures { Counted (differenceBits (byBook book.now) diff) 64 result }
+    requires { (book_refusal book.now ≡ 0) × Inside diff }
+    ensures { Counted (difference_bits (by_book book.now) diff) 64 result }
 {
     let x = mv_component_bits(book, diff.x);
     let y = mv_component_bits(book, diff.y);
@@ -78,8 +78,8 @@ fn vector_bits(book: &[u8], diff: Svq1Mv) -> u32
 
 // A vector's difference, x before y.
 fn push_mv_differential(out: &mut [u8], at: usize, book: &[u8], diff: Svq1Mv) -> usize
-    requires { (bookRefusal book.now ≡ 0) × Inside diff × Fits (length out.old) at (length (differenceBits (byBook book.now) diff)) }
-    ensures { Wrote out.old at (differenceBits (byBook book.now) diff) result out.new }
+    requires { (book_refusal book.now ≡ 0) × Inside diff × Fits (length out.old) at (length (difference_bits (by_book book.now) diff)) }
+    ensures { Wrote out.old at (difference_bits (by_book book.now) diff) result out.new }
 {
     let q = put_component(out, at, book, diff.x);
     put_component(out, q, book, diff.y)
@@ -87,8 +87,8 @@ fn push_mv_differential(out: &mut [u8], at: usize, book: &[u8], diff: Svq1Mv) ->
 
 // Two differences, one behind the other.
 fn pair_bits(book: &[u8], a: Svq1Mv, b: Svq1Mv) -> u32
-    requires { (bookRefusal book.now ≡ 0) × Inside a × Inside b }
-    ensures { Counted (differenceBits (byBook book.now) a ++ differenceBits (byBook book.now) b) 128 result }
+    requires { (book_refusal book.now ≡ 0) × Inside a × Inside b }
+    ensures { Counted (difference_bits (by_book book.now) a ++ difference_bits (by_book book.now) b) 128 result }
 {
     let x = vector_bits(book, a);
     let y = vector_bits(book, b);
@@ -96,8 +96,8 @@ fn pair_bits(book: &[u8], a: Svq1Mv, b: Svq1Mv) -> u32
 }
 
 fn put_pair(out: &mut [u8], at: usize, book: &[u8], a: Svq1Mv, b: Svq1Mv) -> usize
-    requires { (bookRefusal book.now ≡ 0) × Inside a × Inside b × Fits (length out.old) at (length (differenceBits (byBook book.now) a ++ differenceBits (byBook book.now) b)) }
-    ensures { Wrote out.old at (differenceBits (byBook book.now) a ++ differenceBits (byBook book.now) b) result out.new }
+    requires { (book_refusal book.now ≡ 0) × Inside a × Inside b × Fits (length out.old) at (length (difference_bits (by_book book.now) a ++ difference_bits (by_book book.now) b)) }
+    ensures { Wrote out.old at (difference_bits (by_book book.now) a ++ difference_bits (by_book book.now) b) result out.new }
 {
     let k = push_mv_differential(out, at, book, a);
     push_mv_differential(out, k, book, b)
@@ -105,8 +105,8 @@ fn put_pair(out: &mut [u8], at: usize, book: &[u8], a: Svq1Mv, b: Svq1Mv) -> usi
 
 // The differences of four vectors, each predicted from those before it.
 fn four_differences(near: NearBlocks, a: Svq1Mv, b: Svq1Mv, c: Svq1Mv, d: Svq1Mv) -> [Svq1Mv; 4]
-    requires { Codables (nearFrom near) (four a b c d) }
-    ensures { result ≡ fourDifferences (nearFrom near) a b c d }
+    requires { Codables (near_from near) (four a b c d) }
+    ensures { result ≡ four_differences (near_from near) a b c d }
 {
     let first = difference_of(predict_first(near), a);
     let second = difference_of(predict_second(near, a), b);
@@ -116,8 +116,8 @@ fn four_differences(near: NearBlocks, a: Svq1Mv, b: Svq1Mv, c: Svq1Mv, d: Svq1Mv
 }
 
 fn four_bits(book: &[u8], near: NearBlocks, a: Svq1Mv, b: Svq1Mv, c: Svq1Mv, d: Svq1Mv) -> u32
-    requires { (bookRefusal book.now ≡ 0) × Codables (nearFrom near) (four a b c d) }
-    ensures { Counted (motionBits (byBook book.now) (nearFrom near) (four a b c d)) 256 result }
+    requires { (book_refusal book.now ≡ 0) × Codables (near_from near) (four a b c d) }
+    ensures { Counted (motion_bits (by_book book.now) (near_from near) (four a b c d)) 256 result }
 {
     let diffs = four_differences(near, a, b, c, d);
     let x = pair_bits(book, diffs[0], diffs[1]);
@@ -135,8 +135,8 @@ fn put_four(
     c: Svq1Mv,
     d: Svq1Mv,
 ) -> usize
-    requires { (bookRefusal book.now ≡ 0) × Codables (nearFrom near) (four a b c d) × Fits (length out.old) at (length (motionBits (byBook book.now) (nearFrom near) (four a b c d))) }
-    ensures { Wrote out.old at (motionBits (byBook book.now) (nearFrom near) (four a b c d)) result out.new }
+    requires { (book_refusal book.now ≡ 0) × Codables (near_from near) (four a b c d) × Fits (length out.old) at (length (motion_bits (by_book book.now) (near_from near) (four a b c d))) }
+    ensures { Wrote out.old at (motion_bits (by_book book.now) (near_from near) (four a b c d)) result out.new }
 {
     let diffs = four_differences(near, a, b, c, d);
     let k = put_pair(out, at, book, diffs[0], diffs[1]);
@@ -145,8 +145,8 @@ fn put_four(
 
 // How many bits a motion's vectors have: one vector's by the difference that it carries.
 pub fn motion_bits(book: &[u8], near: NearBlocks, motion: MbMotion, vectors: [Svq1Mv; 4]) -> u32
-    requires { (bookRefusal book.now ≡ 0) × Codables (nearFrom near) (motionOf motion vectors) × Differs (nearFrom near) motion }
-    ensures { Counted (motionBits (byBook book.now) (nearFrom near) (motionOf motion vectors)) 256 result }
+    requires { (book_refusal book.now ≡ 0) × Codables (near_from near) (motion_of motion vectors) × Differs (near_from near) motion }
+    ensures { Counted (motion_bits (by_book book.now) (near_from near) (motion_of motion vectors)) 256 result }
 {
     match motion {
         MbMotion::None => 0,
@@ -164,8 +164,8 @@ pub fn put_motion(
     motion: MbMotion,
     vectors: [Svq1Mv; 4],
 ) -> usize
-    requires { (bookRefusal book.now ≡ 0) × Codables (nearFrom near) (motionOf motion vectors) × Differs (nearFrom near) motion × Fits (length out.old) at (length (motionBits (byBook book.now) (nearFrom near) (motionOf motion vectors))) }
-    ensures { Wrote out.old at (motionBits (byBook book.now) (nearFrom near) (motionOf motion vectors)) result out.new }
+    requires { (book_refusal book.now ≡ 0) × Codables (near_from near) (motion_of motion vectors) × Differs (near_from near) motion × Fits (length out.old) at (length (motion_bits (by_book book.now) (near_from near) (motion_of motion vectors))) }
+    ensures { Wrote out.old at (motion_bits (by_book book.now) (near_from near) (motion_of motion vectors)) result out.new }
 {
     match motion {
         MbMotion::None => at,

@@ -1,7 +1,7 @@
 // The samples that a macroblock is to show: the source's, its last column and row repeated.
 ghost use Rattle.std.specs.Prelude.{◌≡◌, ◌+◌, ◌<◌, ◌≤◌, min, length, get_or};
 ghost use Rattle.mv_cache.specs.Grid.{row_set};
-ghost use Rattle.canvas.specs.Canvas.{largestSide};
+ghost use Rattle.canvas.specs.Canvas.{largest_side};
 ghost use Rattle.macroblock.specs.Choice.{target_of};
 ghost use Rattle.macroblock_search.specs.TargetForms.{Sources};
 
@@ -17,7 +17,7 @@ fn lesser(a: usize, b: usize) -> usize
 
 // Sixteen samples from place o on: those from column x of the row at p on, its last column repeated.
 fn repeat_row(out: &mut [u8], source: &[u8], o: usize, p: usize, x: usize, last: usize)
-    requires { (o + 16 ≤ length out.old) × (p + last < length source.now) × (x ≤ largestSide) }
+    requires { (o + 16 ≤ length out.old) × (p + last < length source.now) × (x ≤ largest_side) }
     ensures { out.new ≡ row_set o (λ j. get_or source.now (p + min (x + j) last) 0) 16 out.old }
 {
     let mut i = 0;
@@ -29,7 +29,7 @@ fn repeat_row(out: &mut [u8], source: &[u8], o: usize, p: usize, x: usize, last:
 
 // The same; where the row goes that far, nothing is repeated.
 fn target_row(out: &mut [u8], source: &[u8], o: usize, p: usize, x: usize, last: usize)
-    requires { (o + 16 ≤ length out.old) × (p + last < length source.now) × (x ≤ largestSide) }
+    requires { (o + 16 ≤ length out.old) × (p + last < length source.now) × (x ≤ largest_side) }
     ensures { out.new ≡ row_set o (λ j. get_or source.now (p + min (x + j) last) 0) 16 out.old }
 {
     if x + 15 <= last {

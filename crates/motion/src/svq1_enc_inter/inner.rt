@@ -1,9 +1,9 @@
 // The motion search: its candidates in their order, and the best of them.
 ghost use Rattle.std.specs.Prelude.{◌≡◌, true, ◌+◌, ◌-◌, ◌*◌, ◌/◌, ◌%◌, ◌<◌, ◌≤◌, min};
-ghost use Rattle.compensation.specs.RowForms.{noBest};
-ghost use Rattle.motion.specs.Search.{consider, rowTo, rows_to, searchBest};
-ghost use Rattle.motion.specs.Sum.{vectorSum, errorFound};
-ghost use Rattle.motion.specs.CandidateForms.{raisedEnd, spotSearch, MotionReady, lowered, loweredMv, axisUp, Both, bestSoFar, BestHeld, Spans, Clipped, refined};
+ghost use Rattle.compensation.specs.RowForms.{no_best};
+ghost use Rattle.motion.specs.Search.{consider, row_to, rows_to, search_best};
+ghost use Rattle.motion.specs.Sum.{vector_sum, error_found};
+ghost use Rattle.motion.specs.CandidateForms.{raised_end, spot_search, MotionReady, lowered, lowered_mv, axis_up, Both, best_so_far, BestHeld, Spans, Clipped, refined};
 
 use compensation::svq1_enc_inter::inner::{VectorSum, block_sum, sum_full};
 
@@ -40,7 +40,7 @@ pub struct Span {
 
 // The lesser of a block's last place and the last visible one.
 fn last_seen(place: usize, side: usize, size: usize) -> usize
-    requires { (place + side < raisedEnd) × (1 ≤ side) × (1 ≤ size) }
+    requires { (place + side < raised_end) × (1 ≤ side) × (1 ≤ size) }
     ensures { result ≡ min (place + side - 1) (size - 1) }
 {
     if place + side < size {
@@ -51,8 +51,8 @@ fn last_seen(place: usize, side: usize, size: usize) -> usize
 
 // Codable and in the window, on one axis.
 pub fn axis_ok(side: usize, place: usize, size: usize, p: usize, u: usize) -> bool
-    requires { (place + side < raisedEnd) × (1 ≤ side) × (1 ≤ size) × (size < raisedEnd) × (p < raisedEnd) × (u < raisedEnd) }
-    ensures { result ≡ axisUp side place size p u }
+    requires { (place + side < raised_end) × (1 ≤ side) × (1 ≤ size) × (size < raised_end) × (p < raised_end) × (u < raised_end) }
+    ensures { result ≡ axis_up side place size p u }
 {
     if u < 992 {
         return false;
@@ -83,7 +83,7 @@ pub fn vector_sum(
     best: Candidate,
 ) -> VectorSum
     requires { MotionReady target.now reference.now p × Both p ux uy }
-    ensures { (result ≡ vectorSum (spotSearch target.now reference.now p) (loweredMv ux uy) (errorFound (bestSoFar best))) × (result.sum < noBest) }
+    ensures { (result ≡ vector_sum (spot_search target.now reference.now p) (lowered_mv ux uy) (error_found (best_so_far best))) × (result.sum < no_best) }
 {
     block_sum(
         target,
@@ -122,8 +122,8 @@ fn tried(
     uy: usize,
     best: Candidate,
 ) -> Candidate
-    requires { MotionReady target.now reference.now p × BestHeld best × (ux < raisedEnd) × (uy < raisedEnd) }
-    ensures { (bestSoFar result ≡ consider (spotSearch target.now reference.now p) (loweredMv ux uy) (bestSoFar best)) × BestHeld result }
+    requires { MotionReady target.now reference.now p × BestHeld best × (ux < raised_end) × (uy < raised_end) }
+    ensures { (best_so_far result ≡ consider (spot_search target.now reference.now p) (lowered_mv ux uy) (best_so_far best)) × BestHeld result }
 {
     if !axis_ok(p.side, p.x, p.width, p.px, ux) {
         return best;
@@ -137,7 +137,7 @@ fn tried(
 
 // The places f of low <= centre + f - radius <= high among 0 .. 2 radius.
 fn clip(radius: usize, low: usize, centre: usize, high: usize) -> Span
-    requires { (radius ≤ 255) × (low ≤ centre) × (centre ≤ high) × (high < raisedEnd) }
+    requires { (radius ≤ 255) × (low ≤ centre) × (centre ≤ high) × (high < raised_end) }
     ensures { Clipped radius low centre high result }
 {
     let a = centre - low;
@@ -186,8 +186,8 @@ fn full_tried(
     uy: usize,
     best: Candidate,
 ) -> Candidate
-    requires { MotionReady target.now reference.now p × BestHeld best × (ux < raisedEnd) × (ux % 2 ≡ 0) × (uy % 2 ≡ 0) × (axisUp p.side p.y p.height p.py uy ≡ true) }
-    ensures { (bestSoFar result ≡ consider (spotSearch target.now reference.now p) (loweredMv ux uy) (bestSoFar best)) × BestHeld result }
+    requires { MotionReady target.now reference.now p × BestHeld best × (ux < raised_end) × (ux % 2 ≡ 0) × (uy % 2 ≡ 0) × (axis_up p.side p.y p.height p.py uy ≡ true) }
+    ensures { (best_so_far result ≡ consider (spot_search target.now reference.now p) (lowered_mv ux uy) (best_so_far best)) × BestHeld result }
 {
     if !axis_ok(p.side, p.x, p.width, p.px, ux) {
         return best;
@@ -214,8 +214,8 @@ fn row_best(
     uy: usize,
     first: Candidate,
 ) -> Candidate
-    requires { MotionReady target.now reference.now p × BestHeld first × Spans p.px p.radius s × (uy < raisedEnd) × (uy % 2 ≡ 0) }
-    ensures { (bestSoFar result ≡ rowTo (spotSearch target.now reference.now p) (lowered uy) (bestSoFar first) (2 * p.radius + 1)) × BestHeld result }
+    requires { MotionReady target.now reference.now p × BestHeld first × Spans p.px p.radius s × (uy < raised_end) × (uy % 2 ≡ 0) }
+    ensures { (best_so_far result ≡ row_to (spot_search target.now reference.now p) (lowered uy) (best_so_far first) (2 * p.radius + 1)) × BestHeld result }
 {
     if !axis_ok(p.side, p.y, p.height, p.py, uy) {
         return first;
@@ -240,7 +240,7 @@ fn row_best(
 // All rows of them.
 fn full_best(target: &[u8], reference: &[u8], p: Spot, first: Candidate) -> Candidate
     requires { MotionReady target.now reference.now p × BestHeld first }
-    ensures { (bestSoFar result ≡ rows_to (spotSearch target.now reference.now p) (bestSoFar first) (2 * p.radius + 1)) × BestHeld result }
+    ensures { (best_so_far result ≡ rows_to (spot_search target.now reference.now p) (best_so_far first) (2 * p.radius + 1)) × BestHeld result }
 {
     let sx = span_of(p.px, p.radius);
     let sy = span_of(p.py, p.radius);
@@ -271,7 +271,7 @@ fn near_one(
     best: Candidate,
 ) -> Candidate
     requires { MotionReady target.now reference.now p × BestHeld c × BestHeld best × (k < 9) }
-    ensures { (k ≡ 4 → result ≡ best) × ((k ≡ 4 → ⊥) → bestSoFar result ≡ consider (spotSearch target.now reference.now p) (loweredMv (c.ux + k % 3 - 1) (c.uy + k / 3 - 1)) (bestSoFar best)) × BestHeld result }
+    ensures { (k ≡ 4 → result ≡ best) × ((k ≡ 4 → ⊥) → best_so_far result ≡ consider (spot_search target.now reference.now p) (lowered_mv (c.ux + k % 3 - 1) (c.uy + k / 3 - 1)) (best_so_far best)) × BestHeld result }
 {
     if k == 4 {
         return best;
@@ -288,7 +288,7 @@ fn near_one(
 
 fn near_best(target: &[u8], reference: &[u8], p: Spot, c: Candidate) -> Candidate
     requires { MotionReady target.now reference.now p × BestHeld c }
-    ensures { (bestSoFar result ≡ refined (spotSearch target.now reference.now p) (bestSoFar c)) × BestHeld result }
+    ensures { (best_so_far result ≡ refined (spot_search target.now reference.now p) (best_so_far c)) × BestHeld result }
 {
     let mut best = c;
     let mut k = 0;
@@ -302,7 +302,7 @@ fn near_best(target: &[u8], reference: &[u8], p: Spot, c: Candidate) -> Candidat
 // The whole search: zero, the full samples, the half samples around the best of these.
 pub fn search_best(target: &[u8], reference: &[u8], p: Spot) -> Candidate
     requires { MotionReady target.now reference.now p }
-    ensures { (bestSoFar result ≡ searchBest (spotSearch target.now reference.now p)) × BestHeld result }
+    ensures { (best_so_far result ≡ search_best (spot_search target.now reference.now p)) × BestHeld result }
 {
     let none = Candidate {
         ux: 1024,

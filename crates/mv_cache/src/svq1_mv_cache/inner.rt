@@ -2,11 +2,11 @@
 // everybody else are in the modules that keep the names of the original's files.
 ghost use Rattle.std.specs.Prelude.{◌≡◌, ◌∷◌, [], map, ◌+◌, ◌*◌, ◌<◌, ◌≤◌, length, get_or};
 ghost use Rattle.std.proofs.Math.IntN.{sub_ℕ};
-ghost use Rattle.bits.specs.Basics.{signedByte};
+ghost use Rattle.bits.specs.Basics.{signed_byte};
 ghost use Rattle.vectors.specs.VectorsLaws.{InRange, Inside};
-ghost use Rattle.mv_cache.specs.Neighbours.{neighbourAt, nearOf};
-ghost use Rattle.mv_cache.specs.Grid.{row_set, putPart};
-ghost use Rattle.mv_cache.specs.CacheNeeds.{nearFrom, VectorSlices, BlocksRoom, Stored};
+ghost use Rattle.mv_cache.specs.Neighbours.{neighbour_at, near_of};
+ghost use Rattle.mv_cache.specs.Grid.{row_set, put_part};
+ghost use Rattle.mv_cache.specs.CacheNeeds.{near_from, VectorSlices, BlocksRoom, Stored};
 
 use super::super::svq1_mv_cache::NearBlocks;
 use bits::inner::{put_row, signed};
@@ -15,7 +15,7 @@ use vectors::svq1_motion_predictor::{Neighbour, Svq1Mv};
 // The byte of a component in -32..31.
 fn byte_of(z: i32) -> u8
     requires { InRange z }
-    ensures { result ≡ signedByte z }
+    ensures { result ≡ signed_byte z }
 {
     if z < 0 {
         return (z + 256) as u8;
@@ -35,7 +35,7 @@ fn neighbour_at(
     back: usize,
 ) -> Neighbour
     requires { VectorSlices cols rows vx.now vy.now }
-    ensures { result ≡ neighbourAt cols rows vx.now vy.now (sub_ℕ row up) (sub_ℕ col back) }
+    ensures { result ≡ neighbour_at cols rows vx.now vy.now (sub_ℕ row up) (sub_ℕ col back) }
 {
     if row < up {
         return Neighbour::Absent;
@@ -58,7 +58,7 @@ fn neighbour_at(
 // The seven neighbours of macroblock k.
 pub fn near_blocks(vx: &[u8], vy: &[u8], cols: usize, rows: usize, k: usize) -> NearBlocks
     requires { VectorSlices cols rows vx.now vy.now × (k < rows * cols) }
-    ensures { nearFrom result ≡ nearOf cols rows vx.now vy.now k }
+    ensures { near_from result ≡ near_of cols rows vx.now vy.now k }
 {
     let r = k / cols * 2;
     let c = k % cols * 2;
@@ -91,7 +91,7 @@ pub fn copy_row(out: &mut [u8], source: &[u8], o: usize, p: usize, n: usize)
 // The entries v as macroblock k of a slice that is cols macroblocks wide, with `side` entries in a macroblock's row, and as many rows.
 pub fn put_part(out: &mut [u8], side: usize, cols: usize, k: usize, v: &[u8])
     requires { BlocksRoom side cols k out.old × (length v.now ≡ side * side) }
-    ensures { out.new ≡ putPart side cols k v.now out.old }
+    ensures { out.new ≡ put_part side cols k v.now out.old }
 {
     let mut i = 0;
     while i < side {
@@ -104,7 +104,7 @@ pub fn put_part(out: &mut [u8], side: usize, cols: usize, k: usize, v: &[u8])
 // Macroblock k's four components, in raster order, into one slice.
 fn store_components(s: &mut [u8], cols: usize, k: usize, a: i32, b: i32, c: i32, d: i32)
     requires { BlocksRoom 2 cols k s.old × InRange a × InRange b × InRange c × InRange d }
-    ensures { s.new ≡ putPart 2 cols k (map signedByte (a ∷ b ∷ c ∷ d ∷ [])) s.old }
+    ensures { s.new ≡ put_part 2 cols k (map signed_byte (a ∷ b ∷ c ∷ d ∷ [])) s.old }
 {
     let v = [byte_of(a), byte_of(b), byte_of(c), byte_of(d)];
     put_part(s, 2, cols, k, &v);

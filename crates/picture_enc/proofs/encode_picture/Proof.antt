@@ -1,8 +1,8 @@
 -- Refused, or written as far as it goes. Assumes nothing.
 use mathlib.Core.Path.{sym, ◌∙◌}
-use Rattle.picture.specs.Picture.{Shared, sharedBy, PlaneIn, planeBy, resultsBy}
-use Rattle.picture.specs.RefusalsLaws.{refusal-of-three, call-written}
-use Rattle.picture_enc.specs.RefusedLaws.{picture-refused}
+use Rattle.picture.specs.Picture.{Shared, shared_by, PlaneIn, plane_by, results_by}
+use Rattle.picture.specs.RefusalsLaws.{refusal_of_three, call_written}
+use Rattle.picture_enc.specs.RefusedLaws.{picture_refused}
 use mathlib.Core.List.{[], ◌∷◌}
 use lib.ListN.{length}
 use borrow.Author.Rules.{rules}
@@ -24,20 +24,20 @@ nothing-done-requires-3 c κs = search rules
 returns : tie.Need-returns
 returns c =
     let a = c.before.before.before.before.before.before.before.before.before.before.before.before.before.before.before.before.before.before.before.before.before.before.before.before.before.before.before.args in
-    let s : Shared = sharedBy a.book.now a.codebook.now a.settings in
-    let p0 : PlaneIn = planeBy a.canvas0 a.source0.now a.reference0.now (resultsBy a.recon0.now a.vx0.now a.vy0.now a.stated0.now) in
-    let p1 : PlaneIn = planeBy a.canvas1 a.source1.now a.reference1.now (resultsBy a.recon1.now a.vx1.now a.vy1.now a.stated1.now) in
-    let p2 : PlaneIn = planeBy a.canvas2 a.source2.now a.reference2.now (resultsBy a.recon2.now a.vx2.now a.vy2.now a.stated2.now) in
-    picture-refused s p0 p1 p2 a.allowance a.out.now a.start c.before.before.before.before.before.picture-refusals.ensures c.before.before.before.if1.true c.before.before.nothing-done.ensures c.before.nothing-done2.ensures c.nothing-done3.ensures
+    let s : Shared = shared_by a.book.now a.codebook.now a.settings in
+    let p0 : PlaneIn = plane_by a.canvas0 a.source0.now a.reference0.now (results_by a.recon0.now a.vx0.now a.vy0.now a.stated0.now) in
+    let p1 : PlaneIn = plane_by a.canvas1 a.source1.now a.reference1.now (results_by a.recon1.now a.vx1.now a.vy1.now a.stated1.now) in
+    let p2 : PlaneIn = plane_by a.canvas2 a.source2.now a.reference2.now (results_by a.recon2.now a.vx2.now a.vy2.now a.stated2.now) in
+    picture_refused s p0 p1 p2 a.allowance a.out.now a.start c.before.before.before.before.before.picture-refusals.ensures c.before.before.before.if1.true c.before.before.nothing-done.ensures c.before.nothing-done2.ensures c.nothing-done3.ensures
 
 write-planes-requires : tie.Need-write-planes-requires
 write-planes-requires c κs =
     let a = c.before.before.before.before.before.before.before.before.before.before.before.before.before.before.before.before.before.before.before.before.before.before.before.before.before.before.before.before.before.before.before.before.before.before.before.before.before.args in
-    let s : Shared = sharedBy a.book.now a.codebook.now a.settings in
-    let p0 : PlaneIn = planeBy a.canvas0 a.source0.now a.reference0.now (resultsBy a.recon0.now a.vx0.now a.vy0.now a.stated0.now) in
-    let p1 : PlaneIn = planeBy a.canvas1 a.source1.now a.reference1.now (resultsBy a.recon1.now a.vx1.now a.vy1.now a.stated1.now) in
-    let p2 : PlaneIn = planeBy a.canvas2 a.source2.now a.reference2.now (resultsBy a.recon2.now a.vx2.now a.vy2.now a.stated2.now) in
-    sym (refusal-of-three s p0 p1 p2 a.allowance (length a.out.now) a.start c.before.before.before.before.before.before.before.before.before.before.before.before.before.before.before.picture-refusals.ensures) ∙ c.before.before.before.before.before.before.before.before.before.before.before.before.before.if1.false
+    let s : Shared = shared_by a.book.now a.codebook.now a.settings in
+    let p0 : PlaneIn = plane_by a.canvas0 a.source0.now a.reference0.now (results_by a.recon0.now a.vx0.now a.vy0.now a.stated0.now) in
+    let p1 : PlaneIn = plane_by a.canvas1 a.source1.now a.reference1.now (results_by a.recon1.now a.vx1.now a.vy1.now a.stated1.now) in
+    let p2 : PlaneIn = plane_by a.canvas2 a.source2.now a.reference2.now (results_by a.recon2.now a.vx2.now a.vy2.now a.stated2.now) in
+    sym (refusal_of_three s p0 p1 p2 a.allowance (length a.out.now) a.start c.before.before.before.before.before.before.before.before.before.before.before.before.before.before.before.picture-refusals.ensures) ∙ c.before.before.before.before.before.before.before.before.before.before.before.before.before.if1.false
 
 same_length : tie.Need-same-length
 same_length c = c.before.before.before.before.before.before.before.before.before.before.before.before.before.before.before.before.before.before.before.before.before.before.before.before.before.out.given
@@ -81,12 +81,12 @@ same-length-13 c = c.before.stated2.given
 returns-2 : tie.Need-returns-2
 returns-2 c =
     let a = c.before.before.before.before.before.before.before.before.before.before.before.before.before.before.before.before.before.before.before.before.before.before.before.before.before.before.before.before.before.before.before.before.before.before.before.before.before.before.before.before.before.before.before.before.before.before.before.before.before.before.before.before.before.before.before.before.before.before.before.before.before.before.before.before.args in
-    let s : Shared = sharedBy a.book.now a.codebook.now a.settings in
-    let p0 : PlaneIn = planeBy a.canvas0 a.source0.now a.reference0.now (resultsBy a.recon0.now a.vx0.now a.vy0.now a.stated0.now) in
-    let p1 : PlaneIn = planeBy a.canvas1 a.source1.now a.reference1.now (resultsBy a.recon1.now a.vx1.now a.vy1.now a.stated1.now) in
-    let p2 : PlaneIn = planeBy a.canvas2 a.source2.now a.reference2.now (resultsBy a.recon2.now a.vx2.now a.vy2.now a.stated2.now) in
-    call-written s (p0 ∷ p1 ∷ p2 ∷ []) a.allowance a.out.now a.start
-    (sym (refusal-of-three s p0 p1 p2 a.allowance (length a.out.now) a.start c.before.before.before.before.before.before.before.before.before.before.before.before.before.before.before.before.before.before.before.before.before.before.before.before.before.before.before.before.before.before.before.before.before.before.before.before.before.before.before.before.before.before.picture-refusals.ensures) ∙ c.before.before.before.before.before.before.before.before.before.before.before.before.before.before.before.before.before.before.before.before.before.before.before.before.before.before.before.before.before.before.before.before.before.before.before.before.before.before.before.before.if1.false) c.before.before.before.before.before.before.before.before.before.before.before.before.before.before.before.before.before.before.before.before.before.before.before.before.before.before.write-planes.ensures
+    let s : Shared = shared_by a.book.now a.codebook.now a.settings in
+    let p0 : PlaneIn = plane_by a.canvas0 a.source0.now a.reference0.now (results_by a.recon0.now a.vx0.now a.vy0.now a.stated0.now) in
+    let p1 : PlaneIn = plane_by a.canvas1 a.source1.now a.reference1.now (results_by a.recon1.now a.vx1.now a.vy1.now a.stated1.now) in
+    let p2 : PlaneIn = plane_by a.canvas2 a.source2.now a.reference2.now (results_by a.recon2.now a.vx2.now a.vy2.now a.stated2.now) in
+    call_written s (p0 ∷ p1 ∷ p2 ∷ []) a.allowance a.out.now a.start
+    (sym (refusal_of_three s p0 p1 p2 a.allowance (length a.out.now) a.start c.before.before.before.before.before.before.before.before.before.before.before.before.before.before.before.before.before.before.before.before.before.before.before.before.before.before.before.before.before.before.before.before.before.before.before.before.before.before.before.before.before.before.picture-refusals.ensures) ∙ c.before.before.before.before.before.before.before.before.before.before.before.before.before.before.before.before.before.before.before.before.before.before.before.before.before.before.before.before.before.before.before.before.before.before.before.before.before.before.before.before.if1.false) c.before.before.before.before.before.before.before.before.before.before.before.before.before.before.before.before.before.before.before.before.before.before.before.before.before.before.write-planes.ensures
 
 pub encode-picture-spec : {M : Type 1} → statement M
 encode-picture-spec =

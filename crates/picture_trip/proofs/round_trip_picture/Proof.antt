@@ -2,12 +2,12 @@
 use mathlib.Core.List.{[], ◌∷◌}
 use native.Mathlib.Omega.{arith}
 use Rattle.bits.specs.Basics.{Bytes}
-use Rattle.macroblock.specs.Slices.{slicesBy}
+use Rattle.macroblock.specs.Slices.{slices_by}
 use Rattle.plane_dec.specs.ReaderNeeds as reader
 use Rattle.plane_enc.specs.WriterNeeds as writer
-use Rattle.picture.specs.Picture.{Shared, sharedBy, planeBy, resultsBy}
+use Rattle.picture.specs.Picture.{Shared, shared_by, plane_by, results_by}
 use Rattle.picture_trip.specs.PictureTrip.{PlaneTrip, EachRead}
-use Rattle.picture_trip.specs.PictureTripLaws.{picture-tripped}
+use Rattle.picture_trip.specs.PictureTripLaws.{picture_tripped}
 use borrow.Author.Rules.{rules}
 use Rattle.picture_trip.proofs.round_trip_picture.Statement.{statement}
 use Rattle.picture_trip.proofs.round_trip_picture.Tie as tie
@@ -88,14 +88,14 @@ returns : tie.Need-returns
 unfolding EachRead
 returns c =
     let a = c.before.before.before.before.before.before.before.before.before.before.before.before.before.before.before.before.before.before.before.before.before.before.before.before.before.before.before.before.before.before.before.before.before.before.before.before.before.before.before.before.before.before.before.before.before.before.before.before.before.before.before.before.before.before.before.before.before.before.before.before.before.before.before.before.before.before.before.before.before.before.before.before.before.before.before.before.before.before.before.before.before.before.before.before.before.before.before.before.before.before.before.before.before.before.before.before.before.before.before.before.before.args in
-    let s : Shared = sharedBy a.book.now a.codebook.now a.settings in
+    let s : Shared = shared_by a.book.now a.codebook.now a.settings in
     let b0 : Bytes a.source0.now = λ k. omega (arith, c.before.before.before.before.before.before.before.before.before.before.before.before.before.before.before.before.before.before.before.before.before.before.before.before.before.before.before.before.before.before.before.before.before.before.before.before.before.before.before.before.before.before.before.before.before.before.before.before.before.before.before.before.before.before.before.before.before.before.before.before.before.before.before.before.before.before.before.before.before.before.before.before.before.before.before.before.before.before.before.before.before.before.before.before.before.before.before.before.before.before.before.before.before.before.before.before.before.before.before.before.shared-slice-known.given k) in
     let b1 : Bytes a.reference0.now = λ k. omega (arith, c.before.before.before.before.before.before.before.before.before.before.before.before.before.before.before.before.before.before.before.before.before.before.before.before.before.before.before.before.before.before.before.before.before.before.before.before.before.before.before.before.before.before.before.before.before.before.before.before.before.before.before.before.before.before.before.before.before.before.before.before.before.before.before.before.before.before.before.before.before.before.before.before.before.before.before.before.before.before.before.before.before.before.before.before.before.before.before.before.before.before.before.before.before.before.before.before.before.before.before.shared-slice-known2.given k) in
     let b2 : Bytes a.source1.now = λ k. omega (arith, c.before.before.before.before.before.before.before.before.before.before.before.before.before.before.before.before.before.before.before.before.before.before.before.before.before.before.before.before.before.before.before.before.before.before.before.before.before.before.before.before.before.before.before.before.before.before.before.before.before.before.before.before.before.before.before.before.before.before.before.before.before.before.before.before.before.before.before.before.before.before.before.before.before.before.before.before.before.before.before.before.before.before.before.before.before.before.before.before.before.before.before.before.before.before.before.before.before.before.shared-slice-known3.given k) in
     let b3 : Bytes a.reference1.now = λ k. omega (arith, c.before.before.before.before.before.before.before.before.before.before.before.before.before.before.before.before.before.before.before.before.before.before.before.before.before.before.before.before.before.before.before.before.before.before.before.before.before.before.before.before.before.before.before.before.before.before.before.before.before.before.before.before.before.before.before.before.before.before.before.before.before.before.before.before.before.before.before.before.before.before.before.before.before.before.before.before.before.before.before.before.before.before.before.before.before.before.before.before.before.before.before.before.before.before.before.before.before.shared-slice-known4.given k) in
     let b4 : Bytes a.source2.now = λ k. omega (arith, c.before.before.before.before.before.before.before.before.before.before.before.before.before.before.before.before.before.before.before.before.before.before.before.before.before.before.before.before.before.before.before.before.before.before.before.before.before.before.before.before.before.before.before.before.before.before.before.before.before.before.before.before.before.before.before.before.before.before.before.before.before.before.before.before.before.before.before.before.before.before.before.before.before.before.before.before.before.before.before.before.before.before.before.before.before.before.before.before.before.before.before.before.before.before.before.before.shared-slice-known5.given k) in
     let b5 : Bytes a.reference2.now = λ k. omega (arith, c.before.before.before.before.before.before.before.before.before.before.before.before.before.before.before.before.before.before.before.before.before.before.before.before.before.before.before.before.before.before.before.before.before.before.before.before.before.before.before.before.before.before.before.before.before.before.before.before.before.before.before.before.before.before.before.before.before.before.before.before.before.before.before.before.before.before.before.before.before.before.before.before.before.before.before.before.before.before.before.before.before.before.before.before.before.before.before.before.before.before.before.before.before.before.before.shared-slice-known6.given k) in
-    picture-tripped s (_ ∷ _ ∷ _ ∷ []) a.allowance a.out.now a.start _ _ _ c.before.before.before.before.before.before.before.before.before.before.before.before.before.before.before.before.before.before.before.before.before.before.before.before.before.before.before.before.before.before.before.before.before.before.before.before.before.before.before.before.before.before.before.before.before.before.before.before.before.before.before.before.before.before.before.before.out.given ((b0, b1), ((b2, b3), ((b4, b5), tt))) c.before.before.before.before.before.before.before.before.before.before.before.before.before.before.before.before.before.before.before.before.before.before.before.before.before.before.before.before.before.before.before.before.before.before.before.before.before.before.before.before.before.before.before.before.before.before.before.before.before.before.before.before.before.before.before.before.before.encode-picture.ensures
+    picture_tripped s (_ ∷ _ ∷ _ ∷ []) a.allowance a.out.now a.start _ _ _ c.before.before.before.before.before.before.before.before.before.before.before.before.before.before.before.before.before.before.before.before.before.before.before.before.before.before.before.before.before.before.before.before.before.before.before.before.before.before.before.before.before.before.before.before.before.before.before.before.before.before.before.before.before.before.before.before.out.given ((b0, b1), ((b2, b3), ((b4, b5), tt))) c.before.before.before.before.before.before.before.before.before.before.before.before.before.before.before.before.before.before.before.before.before.before.before.before.before.before.before.before.before.before.before.before.before.before.before.before.before.before.before.before.before.before.before.before.before.before.before.before.before.before.before.before.before.before.before.before.before.encode-picture.ensures
     (c.before.before.before.before.before.before.before.before.before.before.before.before.before.before.before.before.before.before.read-planes.ensures.0, (c.before.before.before.before.before.before.before.before.before.before.before.before.before.before.before.before.before.before.read-planes.ensures.1, (c.before.before.before.before.before.before.before.before.before.before.before.before.before.before.before.before.before.before.read-planes.ensures.2, tt)))
 
 pub round-trip-picture-spec : {M : Type 1} → statement M

@@ -4,12 +4,12 @@ pub mod leaves;
 
 ghost use Rattle.std.specs.Prelude.{◌≡◌, ◌+◌, length, get_or};
 ghost use Rattle.bits.specs.Basics.{All};
-ghost use Rattle.tree.specs.Blocks.{blockCount};
+ghost use Rattle.tree.specs.Blocks.{block_count};
 ghost use Rattle.tree.specs.NodeForms.{node_of, tree_of, CleanBlock};
 ghost use Rattle.tree.specs.TreeBits.{grow};
 ghost use Rattle.plan.specs.PlannedForms.{Light, CleanChoice, decided};
 ghost use Rattle.plan.specs.PlannedFormsLaws.{blank, PlannedAt, Done};
-ghost use Rattle.plan.specs.PlanNeeds.{PlanReady, BlockReady, planningIn, plannedNode, PlanFound};
+ghost use Rattle.plan.specs.PlanNeeds.{PlanReady, BlockReady, planning_in, planned_node, PlanFound};
 ghost use Rattle.plan.specs.FrontNeeds.{FrontReady, FrontShown};
 
 use super::super::svq1_enc_tree::inner::leaves::{in_tree, plan_leaf};
@@ -65,8 +65,8 @@ fn plan_block(
     i: usize,
 ) -> PlannedBlock
     requires plan_ready { PlanReady terms book.now codebook.now raised.now d target.now predictor.now × BlockReady d i }
-    requires done { Done (planningIn terms book.now codebook.now lambda d target.now predictor.now) a (i + 1) }
-    ensures { PlannedAt (planningIn terms book.now codebook.now lambda d target.now predictor.now) i result }
+    requires done { Done (planning_in terms book.now codebook.now lambda d target.now predictor.now) a (i + 1) }
+    ensures { PlannedAt (planning_in terms book.now codebook.now lambda d target.now predictor.now) i result }
 {
     let l = plan_leaf(terms, book, codebook, raised, d, target, predictor, i);
     if 30 < i {
@@ -89,7 +89,7 @@ fn plan_blocks(
     predictor: &[u8],
 ) -> [PlannedBlock; 63]
     requires { PlanReady terms book.now codebook.now raised.now d target.now predictor.now }
-    ensures { Done (planningIn terms book.now codebook.now lambda d target.now predictor.now) result 0 × All CleanChoice result }
+    ensures { Done (planning_in terms book.now codebook.now lambda d target.now predictor.now) result 0 × All CleanChoice result }
 {
     let mut a = [PlannedBlock {
         split: false,
@@ -114,7 +114,7 @@ fn plan_blocks(
 // A planned block as a block of the tree.
 fn block_as(b: PlannedBlock) -> Block
     requires { CleanChoice b }
-    ensures { (node_of result ≡ plannedNode b) × CleanBlock result }
+    ensures { (node_of result ≡ planned_node b) × CleanBlock result }
 {
     let code = b.code;
     let stages = b.stages;
@@ -133,7 +133,7 @@ fn block_as(b: PlannedBlock) -> Block
 // The tree that the planned blocks make from the root on: what is not reached is off.
 fn grow_tree(a: [PlannedBlock; 63], root: usize) -> [Block; 63]
     requires { All CleanChoice a }
-    ensures { (tree_of result ≡ grow root (λ i. plannedNode (get_or a i blank)) blockCount) × All CleanBlock result }
+    ensures { (tree_of result ≡ grow root (λ i. planned_node (get_or a i blank)) block_count) × All CleanBlock result }
 {
     let mut t = [Block {
         node: TreeNode::Off,
@@ -162,7 +162,7 @@ pub fn plan(
     predictor: &[u8],
 ) -> MbPlan
     requires { PlanReady terms book.now codebook.now raised.now d target.now predictor.now }
-    ensures { PlanFound (planningIn terms book.now codebook.now lambda d target.now predictor.now) result }
+    ensures { PlanFound (planning_in terms book.now codebook.now lambda d target.now predictor.now) result }
 {
     let a = plan_blocks(terms, book, codebook, raised, lambda, d, target, predictor);
     let root = first_of(d);

@@ -1,8 +1,8 @@
 // Functions that only the crates of this repository call. Most have a `requires`: the caller, proved too, meets it.
 ghost use Rattle.std.specs.Prelude.{List, ◌≡◌, ℕ};
 ghost use Rattle.bits.specs.Basics.{first_of};
-ghost use Rattle.macroblock.specs.MacroblockNeeds.{givenBy};
-ghost use Rattle.plane.specs.Refusals.{lengthsRefusal, lentLinks};
+ghost use Rattle.macroblock.specs.MacroblockNeeds.{given_by};
+ghost use Rattle.plane.specs.Refusals.{lengths_refusal, lent_links};
 ghost use Rattle.plane.specs.PlaneNeeds.{Padded};
 
 use canvas::svq1_plane::Svq1PlaneCanvas;
@@ -18,7 +18,7 @@ pub struct SliceLengths {
 // 20 of a plane, by the lengths of its result slices; 0 for none.
 fn slices_refusal(canvas: Svq1PlaneCanvas, slices: SliceLengths) -> u8
     requires { Padded canvas }
-    ensures { (reference book codebook : List ℕ) → result ≡ lengthsRefusal (givenBy canvas reference book codebook) slices }
+    ensures { (reference book codebook : List ℕ) → result ≡ lengths_refusal (given_by canvas reference book codebook) slices }
 {
     let blocks = 4 * (canvas.rows / 16 * (canvas.stride / 16));
     if slices.vx < blocks {
@@ -43,7 +43,7 @@ pub fn lent_refusal(
     slices: SliceLengths,
 ) -> u8
     requires { Padded canvas }
-    ensures { (reference : List ℕ) → result ≡ first_of (lentLinks (givenBy canvas reference book.now codebook.now) bytes start slices) }
+    ensures { (reference : List ℕ) → result ≡ first_of (lent_links (given_by canvas reference book.now codebook.now) bytes start slices) }
 {
     let data = book_check::data_refusal(book, codebook);
     if data != 0 {

@@ -1,9 +1,9 @@
 // Functions that only the crates of this repository call. Most have a `requires`: the caller, proved too, meets it.
 ghost use Rattle.std.specs.Prelude.{◌≡◌, length};
-ghost use Rattle.book.specs.Book.{codebookBytes};
-ghost use Rattle.macroblock.specs.MacroblockNeeds.{givenBy};
-ghost use Rattle.macroblock.specs.Slices.{slicesBy};
-ghost use Rattle.plane.specs.Refusals.{readRefusalBy};
+ghost use Rattle.book.specs.Book.{codebook_bytes};
+ghost use Rattle.macroblock.specs.MacroblockNeeds.{given_by};
+ghost use Rattle.macroblock.specs.Slices.{slices_by};
+ghost use Rattle.plane.specs.Refusals.{read_refusal_by};
 ghost use Rattle.plane.specs.PlaneNeeds.{PlaneReady, PlaneAccepted};
 ghost use Rattle.plane_dec.specs.ReaderNeeds.{ReadThrough};
 
@@ -24,7 +24,7 @@ pub fn read_refusal(
     start: usize,
     slices: SliceLengths,
 ) -> u8
-    ensures { result ≡ readRefusalBy (givenBy canvas reference.now book.now codebook.now) bytes start slices }
+    ensures { result ≡ read_refusal_by (given_by canvas reference.now book.now codebook.now) bytes start slices }
 {
     let plane = plane_refusal(
         reference,
@@ -52,8 +52,8 @@ fn read_blocks(
     vx: &mut [u8],
     vy: &mut [u8],
 ) -> ReadEnd
-    requires { PlaneReady (givenBy canvas reference.now book.now codebook.now) raised.now (slicesBy recon.old vx.old vy.old) (length bytes.now) start }
-    ensures { ReadThrough (givenBy canvas reference.now book.now codebook.now) bytes.now start (slicesBy recon.old vx.old vy.old) result (slicesBy recon.new vx.new vy.new) }
+    requires { PlaneReady (given_by canvas reference.now book.now codebook.now) raised.now (slices_by recon.old vx.old vy.old) (length bytes.now) start }
+    ensures { ReadThrough (given_by canvas reference.now book.now codebook.now) bytes.now start (slices_by recon.old vx.old vy.old) result (slices_by recon.new vx.new vy.new) }
 {
     let count = canvas.rows / 16 * (canvas.stride / 16);
     let mut k = 0;
@@ -92,8 +92,8 @@ fn read_raised(
     vy: &mut [u8],
     raised: &mut [u8],
 ) -> ReadEnd
-    requires { PlaneAccepted (givenBy canvas reference.now book.now codebook.now) (slicesBy recon.old vx.old vy.old) (length bytes.now) start × (length raised.old ≡ codebookBytes) }
-    ensures { ReadThrough (givenBy canvas reference.now book.now codebook.now) bytes.now start (slicesBy recon.old vx.old vy.old) result (slicesBy recon.new vx.new vy.new) }
+    requires { PlaneAccepted (given_by canvas reference.now book.now codebook.now) (slices_by recon.old vx.old vy.old) (length bytes.now) start × (length raised.old ≡ codebook_bytes) }
+    ensures { ReadThrough (given_by canvas reference.now book.now codebook.now) bytes.now start (slices_by recon.old vx.old vy.old) result (slices_by recon.new vx.new vy.new) }
 {
     raise_codebook(codebook, raised);
     read_blocks(
@@ -113,8 +113,8 @@ pub fn read_accepted(
     vx: &mut [u8],
     vy: &mut [u8],
 ) -> ReadEnd
-    requires { PlaneAccepted (givenBy canvas reference.now book.now codebook.now) (slicesBy recon.old vx.old vy.old) (length bytes.now) start }
-    ensures { ReadThrough (givenBy canvas reference.now book.now codebook.now) bytes.now start (slicesBy recon.old vx.old vy.old) result (slicesBy recon.new vx.new vy.new) }
+    requires { PlaneAccepted (given_by canvas reference.now book.now codebook.now) (slices_by recon.old vx.old vy.old) (length bytes.now) start }
+    ensures { ReadThrough (given_by canvas reference.now book.now codebook.now) bytes.now start (slices_by recon.old vx.old vy.old) result (slices_by recon.new vx.new vy.new) }
 {
     let mut raised = [0u8; CODEBOOK_BYTES];
     read_raised(

@@ -1,14 +1,14 @@
 // A plane, written: its refusals, and its macroblocks one behind the other.
 ghost use Rattle.std.specs.Prelude.{◌≡◌, [], ◌∷◌, ◌*◌, length};
-ghost use Rattle.book.specs.Book.{codebookBytes};
-ghost use Rattle.macroblock_choice.specs.ChosenNeeds.{taskIn};
-ghost use Rattle.macroblock.specs.MacroblockNeeds.{givenBy};
-ghost use Rattle.macroblock.specs.Mode.{modePosition};
-ghost use Rattle.plane.specs.Refusals.{writeRefusalBy};
+ghost use Rattle.book.specs.Book.{codebook_bytes};
+ghost use Rattle.macroblock_choice.specs.ChosenNeeds.{task_in};
+ghost use Rattle.macroblock.specs.MacroblockNeeds.{given_by};
+ghost use Rattle.macroblock.specs.Mode.{mode_position};
+ghost use Rattle.plane.specs.Refusals.{write_refusal_by};
 ghost use Rattle.plane.specs.PlaneNeeds.{PlaneReady, PlaneAccepted};
-ghost use Rattle.macroblock_enc.specs.LimitForms.{limitOf, Spends};
+ghost use Rattle.macroblock_enc.specs.LimitForms.{limit_of, Spends};
 ghost use Rattle.plane_enc.specs.Stated.{told, ToldThrough};
-ghost use Rattle.macroblock.specs.Slices.{slicesBy, lent_by};
+ghost use Rattle.macroblock.specs.Slices.{slices_by, lent_by};
 
 use super::super::svq1_enc_inter::WriteEnd;
 use book::inner::CODEBOOK_BYTES;
@@ -31,7 +31,7 @@ pub fn write_refusal(
     start: usize,
     slices: SliceLengths,
 ) -> u8
-    ensures { result ≡ writeRefusalBy (givenBy canvas reference.now book.now codebook.now) source bytes start slices }
+    ensures { result ≡ write_refusal_by (given_by canvas reference.now book.now codebook.now) source bytes start slices }
 {
     let plane = source_refusal(canvas, source, reference);
     if plane != 0 {
@@ -42,7 +42,7 @@ pub fn write_refusal(
 
 // A macroblock's mode, bits and error at its place, where the slice has room for all three.
 fn tell(stated: &mut [u32], k: usize, mode: Svq1MbMode, bits: u32, error: u32)
-    ensures { stated.new ≡ told stated.old k (modePosition mode ∷ bits ∷ error ∷ []) }
+    ensures { stated.new ≡ told stated.old k (mode_position mode ∷ bits ∷ error ∷ []) }
 {
     let position = mode.position();
     if stated.len() / 3 <= k {
@@ -71,8 +71,8 @@ fn write_blocks(
     vy: &mut [u8],
     stated: &mut [u32],
 ) -> WriteEnd
-    requires { PlaneReady (givenBy canvas reference.now book.now codebook.now) raised.now (slicesBy recon.old vx.old vy.old) (length out.old) start × (length source.now ≡ canvas.width * canvas.height) × Spends (givenBy canvas reference.now book.now codebook.now) limit 0 0 }
-    ensures { ToldThrough (givenBy canvas reference.now book.now codebook.now) (taskIn source.now settings (limitOf limit)) start (lent_by out.old (slicesBy recon.old vx.old vy.old)) stated.old result (lent_by out.new (slicesBy recon.new vx.new vy.new)) stated.new }
+    requires { PlaneReady (given_by canvas reference.now book.now codebook.now) raised.now (slices_by recon.old vx.old vy.old) (length out.old) start × (length source.now ≡ canvas.width * canvas.height) × Spends (given_by canvas reference.now book.now codebook.now) limit 0 0 }
+    ensures { ToldThrough (given_by canvas reference.now book.now codebook.now) (task_in source.now settings (limit_of limit)) start (lent_by out.old (slices_by recon.old vx.old vy.old)) stated.old result (lent_by out.new (slices_by recon.new vx.new vy.new)) stated.new }
 {
     let count = canvas.rows / 16 * (canvas.stride / 16);
     let mut k = 0;
@@ -126,8 +126,8 @@ fn write_raised(
     stated: &mut [u32],
     raised: &mut [u8],
 ) -> WriteEnd
-    requires { PlaneAccepted (givenBy canvas reference.now book.now codebook.now) (slicesBy recon.old vx.old vy.old) (length out.old) start × (length source.now ≡ canvas.width * canvas.height) × (length raised.old ≡ codebookBytes) × Spends (givenBy canvas reference.now book.now codebook.now) limit 0 0 }
-    ensures { ToldThrough (givenBy canvas reference.now book.now codebook.now) (taskIn source.now settings (limitOf limit)) start (lent_by out.old (slicesBy recon.old vx.old vy.old)) stated.old result (lent_by out.new (slicesBy recon.new vx.new vy.new)) stated.new }
+    requires { PlaneAccepted (given_by canvas reference.now book.now codebook.now) (slices_by recon.old vx.old vy.old) (length out.old) start × (length source.now ≡ canvas.width * canvas.height) × (length raised.old ≡ codebook_bytes) × Spends (given_by canvas reference.now book.now codebook.now) limit 0 0 }
+    ensures { ToldThrough (given_by canvas reference.now book.now codebook.now) (task_in source.now settings (limit_of limit)) start (lent_by out.old (slices_by recon.old vx.old vy.old)) stated.old result (lent_by out.new (slices_by recon.new vx.new vy.new)) stated.new }
 {
     raise_codebook(codebook, raised);
     write_blocks(
@@ -152,8 +152,8 @@ pub fn write_accepted(
     vy: &mut [u8],
     stated: &mut [u32],
 ) -> WriteEnd
-    requires { PlaneAccepted (givenBy canvas reference.now book.now codebook.now) (slicesBy recon.old vx.old vy.old) (length out.old) start × (length source.now ≡ canvas.width * canvas.height) × Spends (givenBy canvas reference.now book.now codebook.now) limit 0 0 }
-    ensures { ToldThrough (givenBy canvas reference.now book.now codebook.now) (taskIn source.now settings (limitOf limit)) start (lent_by out.old (slicesBy recon.old vx.old vy.old)) stated.old result (lent_by out.new (slicesBy recon.new vx.new vy.new)) stated.new }
+    requires { PlaneAccepted (given_by canvas reference.now book.now codebook.now) (slices_by recon.old vx.old vy.old) (length out.old) start × (length source.now ≡ canvas.width * canvas.height) × Spends (given_by canvas reference.now book.now codebook.now) limit 0 0 }
+    ensures { ToldThrough (given_by canvas reference.now book.now codebook.now) (task_in source.now settings (limit_of limit)) start (lent_by out.old (slices_by recon.old vx.old vy.old)) stated.old result (lent_by out.new (slices_by recon.new vx.new vy.new)) stated.new }
 {
     let mut raised = [0u8; CODEBOOK_BYTES];
     write_raised(

@@ -2,8 +2,8 @@
 use native.Mathlib.Omega.{arith}
 use borrow.Author.Rules.{rules}
 use Rattle.book.specs.BookLaws.{good_book}
-use Rattle.plane_room.specs.Room.{bookBits}
-use Rattle.plane_room.specs.BitsLaws.{longest-by}
+use Rattle.plane_room.specs.Room.{book_bits}
+use Rattle.plane_room.specs.BitsLaws.{longest_by}
 use Rattle.plane_room.proofs.book_bits.Statement.{statement}
 use Rattle.plane_room.proofs.book_bits.Tie as tie
 
@@ -53,7 +53,7 @@ most-bits-requires : tie.Need-most-bits-requires
 most-bits-requires c κs =
     let u = c.before.before in
     let s = u.before.before.before.before.before.before.before.before.before.before.before.before.before in
-    let told = longest-by s.args.book.now s.requires in
+    let told = longest_by s.args.book.now s.requires in
     let mode = told 0 4 _ _ u.before.before.before.before.before.before.before.before.before.before.before.mode-table.ensures u.before.before.before.before.before.before.before.before.before.before.longest-code.ensures in
     let vector = told 4 64 _ _ u.before.before.before.before.before.before.before.before.before.vector-table.ensures u.before.before.before.before.before.before.before.before.longest-code2.ensures in
     let intra-mean = told 68 256 _ _ u.before.before.before.before.before.before.before.intra-mean-table.ensures u.before.before.before.before.before.before.longest-code3.ensures in
@@ -65,11 +65,11 @@ most-bits-requires c κs =
     (mode.1, vector.1, omega (arith, stage, intra-stage.1, inter-stage.1), omega (arith, mean, intra-mean.1, inter-mean.1))
 
 returns : tie.Need-returns
-unfolding bookBits
+unfolding book_bits
 returns c =
     let u = c.before.before.before in
     let s = u.before.before.before.before.before.before.before.before.before.before.before.before.before in
-    let told = longest-by s.args.book.now s.requires in
+    let told = longest_by s.args.book.now s.requires in
     let mode = told 0 4 _ _ u.before.before.before.before.before.before.before.before.before.before.before.mode-table.ensures u.before.before.before.before.before.before.before.before.before.before.longest-code.ensures in
     let vector = told 4 64 _ _ u.before.before.before.before.before.before.before.before.before.vector-table.ensures u.before.before.before.before.before.before.before.before.longest-code2.ensures in
     let intra-mean = told 68 256 _ _ u.before.before.before.before.before.before.before.intra-mean-table.ensures u.before.before.before.before.before.before.longest-code3.ensures in

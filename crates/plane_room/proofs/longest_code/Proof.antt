@@ -6,7 +6,7 @@ use native.Mathlib.Omega.{arith}
 use borrow.Author.Rules.{rules}
 use lib.ListN.{length, drop}
 use Rattle.plane_room.specs.Room.{longest}
-use Rattle.plane_room.specs.LongestLaws.{longest-turn, longest-last}
+use Rattle.plane_room.specs.LongestLaws.{longest_turn, longest_last}
 use Rattle.plane_room.proofs.longest_code.Statement.{statement}
 use Rattle.plane_room.proofs.longest_code.Tie as tie
 
@@ -35,11 +35,11 @@ loop-again : tie.Need-loop-preserved invariant-loop decreases-loop
 loop-again c =
     let u = c.before.before.before in
     let t : List ℕ = u.before.before.args.table.now in
-    let e = longest-turn t u.loop.i u.loop.most (omega arith) u.loop.invariant in
+    let e = longest_turn t u.loop.i u.loop.most (omega arith) u.loop.invariant in
     rw (c.greater.ensures, c.before.entry-len.ensures) e
 
 returns : tie.Need-returns invariant-loop decreases-loop
-returns c = longest-last c.before.before.before.args.table.now c.before.loop.i c.before.loop.most c.loop-test.false c.before.loop.invariant
+returns c = longest_last c.before.before.before.args.table.now c.before.loop.i c.before.loop.most c.loop-test.false c.before.loop.invariant
 
 pub longest-code-spec : {M : Type 1} → statement M
 longest-code-spec =

@@ -1,7 +1,7 @@
 -- Sums and products far from overflowing.
 use native.Mathlib.Omega.{arith}
 use borrow.Author.Rules.{rules}
-use Rattle.plane_room.specs.CallsLaws.{few-blocks, few_bits}
+use Rattle.plane_room.specs.CallsLaws.{few_blocks, few_bits}
 use Rattle.plane_room.proofs.room_bytes.Statement.{statement}
 use Rattle.plane_room.proofs.room_bytes.Tie as tie
 
@@ -12,7 +12,7 @@ add-result-2 : tie.Need-overflow-add-result-2
 add-result-2 c = search rules
 
 mul-result : tie.Need-overflow-mul-result
-mul-result c = omega (arith, few-blocks c.args.width c.args.height c.requires.0 c.requires.1)
+mul-result c = omega (arith, few_blocks c.args.width c.args.height c.requires.0 c.requires.1)
 
 mul-result-2 : tie.Need-overflow-mul-result-2
 mul-result-2 c = omega (arith, few_bits c.args.width c.args.height c.requires.0 c.requires.1 c.args.bits c.requires.2)

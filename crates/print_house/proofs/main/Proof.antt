@@ -3,8 +3,8 @@ use mathlib.Core.Path.{sym}
 use native.Mathlib.Omega.{arith}
 use borrow.Author.Rules.{rules}
 use lib.Seq.{length-take-le}
-use Rattle.text.specs.PutLaws.{written-inside}
-use Rattle.house_text.specs.HouseText.{housePrinted}
+use Rattle.text.specs.PutLaws.{written_inside}
+use Rattle.house_text.specs.HouseText.{house_printed}
 use Rattle.print_house.proofs.main.Statement.{statement}
 use Rattle.print_house.proofs.main.Tie as tie
 
@@ -17,7 +17,7 @@ write-house-requires c κs = search rules
 array-share-prefix-text : tie.Need-array-share-prefix-text
 array-share-prefix-text c =
     let w = c.before.write-house in
-    omega (arith, w.auto.0, written-inside housePrinted _ w.result w.new.0 w.ensures)
+    omega (arith, w.auto.0, written_inside house_printed _ w.result w.new.0 w.ensures)
 
 slice-aggregate-write-all : tie.Need-slice-aggregate-write-all
 slice-aggregate-write-all c = sym (length-take-le _ _ (array-share-prefix-text c.before))

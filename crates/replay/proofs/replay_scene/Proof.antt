@@ -1,7 +1,7 @@
 -- A scene that was read is small enough. Assumes nothing.
 use mathlib.Core.Path.{sym, ◌∙◌}
 use borrow.Author.Rules.{rules}
-use Rattle.replay.specs.LayoutLaws.{scene-small}
+use Rattle.replay.specs.LayoutLaws.{scene_small}
 use Rattle.replay.proofs.replay_scene.Statement.{statement}
 use Rattle.replay.proofs.replay_scene.Tie as tie
 
@@ -12,7 +12,7 @@ enum-known-s : tie.Need-enum-known-s
 enum-known-s c = search rules
 
 replay-whole-requires : tie.Need-replay-whole-requires
-replay-whole-requires c κs = scene-small c.before.before.before.before.before.args.file.now c.before.before.before.before.before.args.at _ (sym c.before.before.before.read-scene.ensures ∙ c.before.s.given.1)
+replay-whole-requires c κs = scene_small c.before.before.before.before.before.args.file.now c.before.before.before.before.before.args.at _ (sym c.before.before.before.read-scene.ensures ∙ c.before.s.given.1)
 
 enum_told : tie.Need-enum-told
 enum_told c = search rules

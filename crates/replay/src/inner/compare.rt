@@ -1,8 +1,8 @@
 // What the writer and the reader leave of a job, held against the original's answer.
 ghost use Rattle.std.specs.Prelude.{◌≡◌, ◌+◌, ◌*◌, ◌/◌, ◌≤◌, ◌<◌, eqb, length};
 ghost use Rattle.bits.specs.Basics.{pick};
-ghost use Rattle.replay.specs.Layout.{mostJobBlocks, mostSize};
-ghost use Rattle.replay.specs.Compare.{isSame, samePart, sameStep, sameSteps, modesIn, slicesDiffer, codedDiffer, writtenDiffer, readDiffer};
+ghost use Rattle.replay.specs.Layout.{most_job_blocks, most_size};
+ghost use Rattle.replay.specs.Compare.{is_same, same_part, same_step, same_steps, modes_in, slices_differ, coded_differ, written_differ, read_differ};
 
 use super::super::inner::file::{Job, bytes_for, number_at, part};
 use plane_dec::svq1_plane::ReadEnd;
@@ -25,7 +25,7 @@ pub enum Difference {
 }
 
 pub fn is_same(d: Difference) -> bool
-    ensures { result ≡ isSame d }
+    ensures { result ≡ is_same d }
 {
     match d {
         Difference::Same => true,
@@ -43,7 +43,7 @@ pub fn is_same(d: Difference) -> bool
 
 // The first of two that is one.
 pub fn first(a: Difference, b: Difference) -> Difference
-    ensures { result ≡ pick (isSame a) b a }
+    ensures { result ≡ pick (is_same a) b a }
 {
     if is_same(a) {
         return b;
@@ -63,7 +63,7 @@ fn judged(passes: bool, what: Difference, rest: Difference) -> Difference
 
 // Whether the first n bytes are those at a place of the file.
 fn same_part(own: &[u8], file: &[u8], at: usize, n: usize) -> bool
-    ensures { result ≡ samePart own.now file.now at n }
+    ensures { result ≡ same_part own.now file.now at n }
 {
     same(part(own, 0, n), part(file, at, n))
 }
@@ -76,8 +76,8 @@ fn wide(x: u32) -> u64
 
 // Whether macroblock k states the same: the original's steps have seven bytes a macroblock, ours three numbers.
 fn same_step(steps: &[u8], stated: &[u32], k: usize) -> bool
-    requires { (3 * k + 3 ≤ length stated.now) × (k < mostJobBlocks) }
-    ensures { result ≡ sameStep steps.now stated.now k }
+    requires { (3 * k + 3 ≤ length stated.now) × (k < most_job_blocks) }
+    ensures { result ≡ same_step steps.now stated.now k }
 {
     let from = 7 * k;
     let at = 3 * k;
@@ -92,8 +92,8 @@ fn same_step(steps: &[u8], stated: &[u32], k: usize) -> bool
 
 // Whether the first n macroblocks do.
 fn same_steps(steps: &[u8], stated: &[u32], n: usize) -> bool
-    requires { (3 * n ≤ length stated.now) × (n ≤ mostJobBlocks) }
-    ensures { result ≡ sameSteps steps.now stated.now n }
+    requires { (3 * n ≤ length stated.now) × (n ≤ most_job_blocks) }
+    ensures { result ≡ same_steps steps.now stated.now n }
 {
     let mut k = 0;
     while k < n {
@@ -118,7 +118,7 @@ fn one_if(x: u32, y: u32) -> u64
 // How many of the first n macroblocks have a mode.
 pub fn count_mode(stated: &[u32], mode: u32, n: usize) -> u64
     requires { 3 * n ≤ length stated.now }
-    ensures { result ≡ modesIn stated.now mode n }
+    ensures { result ≡ modes_in stated.now mode n }
 {
     let mut k = 0;
     let mut count = 0;
@@ -138,7 +138,7 @@ pub fn slices_difference(
     vx: &[u8],
     vy: &[u8],
 ) -> Difference
-    ensures { result ≡ slicesDiffer file.now size j recon.now vx.now vy.now }
+    ensures { result ≡ slices_differ file.now size j recon.now vx.now vy.now }
 {
     let vectors = size / 256 * 4;
     let y = judged(
@@ -163,8 +163,8 @@ pub fn coded_difference(
     stated: &[u32],
     rest: Difference,
 ) -> Difference
-    requires { (size ≤ mostSize) × (3 * mostJobBlocks ≤ length stated.now) }
-    ensures { result ≡ codedDiffer file.now size j out.now stated.now rest }
+    requires { (size ≤ most_size) × (3 * most_job_blocks ≤ length stated.now) }
+    ensures { result ≡ coded_differ file.now size j out.now stated.now rest }
 {
     let blocks = size / 256;
     let steps = part(file, j.steps, 7 * blocks);
@@ -175,7 +175,7 @@ pub fn coded_difference(
 
 // What the writer answered, before the rest.
 pub fn written_difference(size: usize, count: u64, w: WriteEnd, rest: Difference) -> Difference
-    ensures { result ≡ writtenDiffer size count w rest }
+    ensures { result ≡ written_differ size count w rest }
 {
     let bits = judged(w.bits == count, Difference::Count, rest);
     let next = judged(w.next as u64 == count, Difference::Next, bits);
@@ -185,7 +185,7 @@ pub fn written_difference(size: usize, count: u64, w: WriteEnd, rest: Difference
 
 // What the reader answered, before the rest.
 pub fn read_difference(size: usize, count: u64, r: ReadEnd, rest: Difference) -> Difference
-    ensures { result ≡ readDiffer size count r rest }
+    ensures { result ≡ read_differ size count r rest }
 {
     let next = judged(r.next as u64 == count, Difference::Next, rest);
     let done = judged(r.done == size / 256, Difference::Done, next);

@@ -1,7 +1,7 @@
 // The fixed list of jobs and answers: its numbers and parts, and where the parts of a scene and of a job stand in it.
 ghost use Rattle.std.specs.Prelude.{◌≡◌, ◌+◌, ◌/◌, ◌≤◌, length, get_or};
 ghost use Rattle.canvas.specs.Canvas.{padded16};
-ghost use Rattle.replay.specs.Layout.{partIn, number_in, bytesFor, mostSide, mostSize, Begun, sizedIn, sceneIn, measuredIn, jobOfList};
+ghost use Rattle.replay.specs.Layout.{part_in, number_in, bytes_for, most_side, most_size, Begun, sized_in, scene_in, measured_in, job_of_list};
 
 use book::inner::{BOOK_BYTES, CODEBOOK_BYTES};
 use canvas::svq1_plane::Svq1PlaneCanvas;
@@ -51,7 +51,7 @@ pub enum JobRead {
 
 // The n bytes at a place; none where they are not all there.
 pub fn part(t: &[u8], at: usize, n: usize) -> &[u8]
-    ensures { result.now ≡ partIn t.now at n }
+    ensures { result.now ≡ part_in t.now at n }
 {
     if t.len() < at {
         return &t[0..0];
@@ -97,14 +97,14 @@ fn number(t: &[u8]) -> u64
 
 // The number of n bytes at a place.
 pub fn number_at(t: &[u8], at: usize, n: usize) -> u64
-    ensures { result ≡ number_in (partIn t.now at n) }
+    ensures { result ≡ number_in (part_in t.now at n) }
 {
     number(part(t, at, n))
 }
 
 // How many bytes n bits take.
 pub fn bytes_for(n: u64) -> u64
-    ensures { (result ≡ bytesFor n) × (result ≤ n / 8 + 1) }
+    ensures { (result ≡ bytes_for n) × (result ≤ n / 8 + 1) }
 {
     if n % 8 == 0 {
         return n / 8;
@@ -113,16 +113,16 @@ pub fn bytes_for(n: u64) -> u64
 }
 
 fn padded(n: usize) -> usize
-    requires { n ≤ mostSide }
-    ensures { (result ≡ padded16 n) × (result ≤ mostSide) }
+    requires { n ≤ most_side }
+    ensures { (result ≡ padded16 n) × (result ≤ most_side) }
 {
     (n + 15) / 16 * 16
 }
 
 // A scene whose size is read.
 fn sized_scene(file: &[u8], at: usize, width: usize, height: usize) -> SceneRead
-    requires { Begun (length file.now) at 4 × (width ≤ mostSide) × (height ≤ mostSide) }
-    ensures { result ≡ sizedIn file.now at width height }
+    requires { Begun (length file.now) at 4 × (width ≤ most_side) × (height ≤ most_side) }
+    ensures { result ≡ sized_in file.now at width height }
 {
     let stride = padded(width);
     let rows = padded(height);
@@ -152,7 +152,7 @@ fn sized_scene(file: &[u8], at: usize, width: usize, height: usize) -> SceneRead
 
 // The scene at a place.
 pub fn read_scene(file: &[u8], at: usize) -> SceneRead
-    ensures { result ≡ sceneIn file.now at }
+    ensures { result ≡ scene_in file.now at }
 {
     if file.len() < at {
         return SceneRead::Ends;
@@ -173,8 +173,8 @@ pub fn read_scene(file: &[u8], at: usize) -> SceneRead
 
 // A job whose bit count is read.
 fn measured_job(file: &[u8], books: u8, size: usize, at: usize, count: u64) -> JobRead
-    requires { Begun (length file.now) at 16 × (size ≤ mostSize) }
-    ensures { result ≡ measuredIn file.now books size at count }
+    requires { Begun (length file.now) at 16 × (size ≤ most_size) }
+    ensures { result ≡ measured_in file.now books size at count }
 {
     let bytes = bytes_for(count) as usize;
     let blocks = size / 256;
@@ -206,8 +206,8 @@ fn measured_job(file: &[u8], books: u8, size: usize, at: usize, count: u64) -> J
 
 // The job at a place, of a scene whose canvas has `size` samples in a list of so many books.
 pub fn read_job(file: &[u8], books: u8, size: usize, at: usize) -> JobRead
-    requires { size ≤ mostSize }
-    ensures { result ≡ jobOfList file.now books size at }
+    requires { size ≤ most_size }
+    ensures { result ≡ job_of_list file.now books size at }
 {
     if file.len() < at {
         return JobRead::Ends;

@@ -1,6 +1,6 @@
 // One job of the fixed list: written, read back, and held against the original's answer.
 ghost use Rattle.std.specs.Prelude.{◌*◌, ◌≤◌, length};
-ghost use Rattle.replay.specs.Layout.{mostSize, mostJobBlocks};
+ghost use Rattle.replay.specs.Layout.{most_size, most_job_blocks};
 
 use super::super::inner::compare::{
     Difference, coded_difference, read_difference, slices_difference, written_difference,
@@ -71,7 +71,7 @@ fn replay_writer(
     vy: &mut [u8],
     stated: &mut [u32],
 ) -> Wrote
-    requires { (s.size ≤ mostSize) × (3 * mostJobBlocks ≤ length stated.old) }
+    requires { (s.size ≤ most_size) × (3 * most_job_blocks ≤ length stated.old) }
 {
     let end = write_job(file, s, j, out, recon, vx, vy, stated);
     let slices = slices_difference(file, s.size, j, recon, vx, vy);
@@ -108,7 +108,7 @@ fn replay_lent(
     backx: &mut [u8],
     backy: &mut [u8],
 ) -> Tally
-    requires { (s.size ≤ mostSize) × (3 * mostJobBlocks ≤ length stated.old) × (mostSize ≤ length recon.old) × (mostSize ≤ length back.old) }
+    requires { (s.size ≤ most_size) × (3 * most_job_blocks ≤ length stated.old) × (most_size ≤ length recon.old) × (most_size ≤ length back.old) }
 {
     let size = s.size;
     let w = replay_writer(file, s, j, out, &mut recon[0..size], vx, vy, stated);
@@ -119,7 +119,7 @@ fn replay_lent(
 }
 
 pub fn replay_job(file: &[u8], s: Scene, j: Job) -> Tally
-    requires { s.size ≤ mostSize }
+    requires { s.size ≤ most_size }
 {
     let mut out = [0u8; 8192];
     let mut recon = [0u8; 4096];

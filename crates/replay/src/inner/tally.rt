@@ -1,6 +1,6 @@
 // What is counted of the jobs replayed, and the lines that are printed of it.
 ghost use Rattle.std.specs.Prelude.{◌≡◌, ◌*◌, ◌≤◌, min, length};
-ghost use Rattle.replay.specs.Tally.{none, added, talliedOf};
+ghost use Rattle.replay.specs.Tally.{none, added, tallied_of};
 
 use super::super::inner::compare::{Difference, count_mode, first, is_same};
 use super::super::inner::file::part;
@@ -56,7 +56,7 @@ pub fn job_tally(
     read: Difference,
 ) -> Tally
     requires { 3 * blocks ≤ length stated.now }
-    ensures { result ≡ talliedOf stated.now blocks w written read }
+    ensures { result ≡ tallied_of stated.now blocks w written read }
 {
     let done = lesser(w.done, blocks);
     Tally {

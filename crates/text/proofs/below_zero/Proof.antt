@@ -3,7 +3,7 @@ use mathlib.Core.Path.{◌≡◌, ap}
 use native.Mathlib.Omega.{arith}
 use borrow.Author.Rules.{rules}
 use Rattle.text.specs.ReadingForms.{number_of}
-use Rattle.text.specs.SignedFormsLaws.{MadeBelow, made-below}
+use Rattle.text.specs.SignedFormsLaws.{MadeBelow, made_below}
 use Rattle.text.proofs.below_zero.Statement.{statement}
 use Rattle.text.proofs.below_zero.Tie as tie
 
@@ -22,7 +22,7 @@ sub-t4 c = search rules
 number : (c : tie.Then1) → MadeBelow c.before.before.n.given.0.0
 number c =
     let n = c.before.before.n.given in
-    made-below n.0.0 c.if1.true (c.before.before.before.before.requires n.0.0 (ap number_of n.1))
+    made_below n.0.0 c.if1.true (c.before.before.before.before.requires n.0.0 (ap number_of n.1))
 
 cast-t5 : tie.Need-overflow-cast-t5
 cast-t5 c = (number c).ranges

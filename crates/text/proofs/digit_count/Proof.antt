@@ -3,13 +3,13 @@ use Prim.Native.Nat.{ℕ, suc, ◌+◌, ◌-◌, ◌^◌, ◌≤◌, ◌<◌}
 use mathlib.Core.Path.{◌≡◌, refl}
 use native.Mathlib.Omega.{arith}
 use Rattle.text.specs.Text.{decimal}
-use Rattle.text.specs.WritingForms.{digitCount}
-use Rattle.text.specs.PutLaws.{count_turn, count-last}
+use Rattle.text.specs.WritingForms.{digit_count}
+use Rattle.text.specs.PutLaws.{count_turn, count_last}
 use Rattle.text.proofs.digit_count.Statement.{statement}
 use Rattle.text.proofs.digit_count.Tie as tie
 
 abbrev invariant-loop : tie.invariant-loop
-invariant-loop n k₀ m₀ k m = (1 ≤ k) × (k ≤ 20) × (m < 10 ^ (21 - k)) × (k + digitCount (21 - k) m ≡ 1 + digitCount 20 n)
+invariant-loop n k₀ m₀ k m = (1 ≤ k) × (k ≤ 20) × (m < 10 ^ (21 - k)) × (k + digit_count (21 - k) m ≡ 1 + digit_count 20 n)
 
 abbrev decreases-loop : tie.decreases-loop
 decreases-loop n k₀ m₀ k m = m
@@ -31,7 +31,7 @@ loop-again c =
     let f : ℕ = 21 - (k + 1) in
     let e : 21 - k ≡ suc f = omega arith in
     let turn = count_turn f m (omega arith) (rw e at u.loop.invariant.2) in
-    let count : k + digitCount (suc f) m ≡ 1 + digitCount 20 u.before.args.n = rw e at u.loop.invariant.3 in
+    let count : k + digit_count (suc f) m ≡ 1 + digit_count 20 u.before.args.n = rw e at u.loop.invariant.3 in
     (omega arith, omega (arith, turn.0), turn.2, omega (arith, turn.1, count))
 
 returns : tie.Need-returns invariant-loop decreases-loop
@@ -40,8 +40,8 @@ returns c =
     let u = c.before in
     let k : ℕ = u.loop.k in
     let e : 21 - k ≡ suc (20 - k) = omega arith in
-    let count : k + digitCount (suc (20 - k)) u.loop.m ≡ 1 + digitCount 20 u.before.args.n = rw e at u.loop.invariant.3 in
-    record { count = omega (arith, count, count-last (20 - k) u.loop.m (omega arith)); most = omega arith }
+    let count : k + digit_count (suc (20 - k)) u.loop.m ≡ 1 + digit_count 20 u.before.args.n = rw e at u.loop.invariant.3 in
+    record { count = omega (arith, count, count_last (20 - k) u.loop.m (omega arith)); most = omega arith }
 
 pub digit-count-spec : {M : Type 1} → statement M
 digit-count-spec =

@@ -3,13 +3,13 @@ use Prim.Native.Nat.{◌+◌, ◌-◌, ◌≤◌}
 use mathlib.Core.Path.{◌≡◌}
 use native.Mathlib.Omega.{arith}
 use lib.ListN.{length, drop}
-use Rattle.text.specs.ReadingForms.{countBefore}
-use Rattle.text.specs.TextLaws.{count-step, count-here, count-end}
+use Rattle.text.specs.ReadingForms.{count_before}
+use Rattle.text.specs.TextLaws.{count-step, count_here, count_end}
 use Rattle.text.proofs.find.Statement.{statement}
 use Rattle.text.proofs.find.Tie as tie
 
 abbrev invariant-loop : tie.invariant-loop
-invariant-loop t b i₀ i = (i ≤ length t) × (countBefore b t ≡ i + countBefore b (drop i t))
+invariant-loop t b i₀ i = (i ≤ length t) × (count_before b t ≡ i + count_before b (drop i t))
 
 abbrev decreases-loop : tie.decreases-loop
 decreases-loop t b i₀ i = length t - i
@@ -24,7 +24,7 @@ returns : tie.Need-returns invariant-loop decreases-loop
 returns c =
     let u = c.before.before.before in
     let s = u.before in
-    record { count = omega (arith, count-here s.args.b s.args.t.now u.loop.i (omega arith) c.if1.true); within = omega arith }
+    record { count = omega (arith, count_here s.args.b s.args.t.now u.loop.i (omega arith) c.if1.true); within = omega arith }
 
 add-i : tie.Need-overflow-add-i invariant-loop decreases-loop
 add-i c = omega arith
@@ -42,7 +42,7 @@ returns-2 : tie.Need-returns-2 invariant-loop decreases-loop
 returns-2 c =
     let u = c.before in
     let s = u.before in
-    record { count = omega (arith, count-end s.args.b s.args.t.now u.loop.i (omega arith)); within = omega arith }
+    record { count = omega (arith, count_end s.args.b s.args.t.now u.loop.i (omega arith)); within = omega arith }
 
 pub find_spec : {M : Type 1} → statement M
 find_spec =

@@ -5,15 +5,15 @@ use native.Mathlib.Omega.{arith}
 use borrow.Author.Rules.{rules}
 use lib.ListN.{length, take, drop, length-set}
 use Rattle.text.specs.Text.{decimal}
-use Rattle.text.specs.WritingForms.{lastDigits}
-use Rattle.text.specs.PutLaws.{put-none, digits-turn, digits-kept, digits-end}
+use Rattle.text.specs.WritingForms.{last_digits}
+use Rattle.text.specs.PutLaws.{put_none, digits_turn, digits_kept, digits_end}
 use Rattle.text.proofs.put_decimal.Statement.{statement}
 use Rattle.text.proofs.put_decimal.Tie as tie
 
 abbrev invariant-loop : tie.invariant-loop
 invariant-loop out₀ at n k i₀ m₀ out i m =
     (at ≤ i) × (i ≤ at + k) × (length out ≡ length out₀) × (take i out ≡ take i out₀)
-    × (lastDigits (i - at) m (drop i out) ≡ lastDigits k n (drop (at + k) out₀))
+    × (last_digits (i - at) m (drop i out) ≡ last_digits k n (drop (at + k) out₀))
 
 abbrev decreases-loop : tie.decreases-loop
 decreases-loop out₀ at n k i₀ m₀ out i m = i - at
@@ -23,14 +23,14 @@ digit-count-requires c κs = search rules
 
 returns : tie.Need-returns invariant-loop decreases-loop
 returns c =
-    let a = c.before.before.before.args in put-none a.out.now a.at (decimal a.n) (omega (arith, c.before.digit-count.ensures.count))
+    let a = c.before.before.before.args in put_none a.out.now a.at (decimal a.n) (omega (arith, c.before.digit-count.ensures.count))
 
 sub-if2 : tie.Need-overflow-sub-if2 invariant-loop decreases-loop
 sub-if2 c = search rules
 
 returns-2 : tie.Need-returns-2 invariant-loop decreases-loop
 returns-2 c =
-    let a = c.before.before.before.before.args in put-none a.out.now a.at (decimal a.n) (omega (arith, c.before.before.digit-count.ensures.count))
+    let a = c.before.before.before.before.args in put_none a.out.now a.at (decimal a.n) (omega (arith, c.before.before.digit-count.ensures.count))
 
 add-i : tie.Need-overflow-add-i invariant-loop decreases-loop
 add-i c = search rules
@@ -66,8 +66,8 @@ loop-again c =
       omega arith,
       omega arith,
       simp length-set u.loop.invariant.2,
-      digits-kept i (48 + u.loop.m % 10) u.loop.out a.out.now (omega arith) u.loop.invariant.3,
-      sym (digits-turn a.at i u.loop.m u.loop.out (omega arith) (omega arith)) ∙ u.loop.invariant.4,
+      digits_kept i (48 + u.loop.m % 10) u.loop.out a.out.now (omega arith) u.loop.invariant.3,
+      sym (digits_turn a.at i u.loop.m u.loop.out (omega arith) (omega arith)) ∙ u.loop.invariant.4,
     )
 
 add-result : tie.Need-overflow-add-result invariant-loop decreases-loop
@@ -82,7 +82,7 @@ returns-3 c =
     let a = u.before.before.before.before.before.args in
     let k = u.before.before.before.digit-count.ensures.count in
     let room : a.at + length (decimal a.n) ≤ length a.out.now = omega (arith, k) in
-    rw k (digits-end a.out.now a.at a.n u.loop.i u.loop.m u.loop.out room (omega arith) u.loop.invariant.3 (rw k at u.loop.invariant.4))
+    rw k (digits_end a.out.now a.at a.n u.loop.i u.loop.m u.loop.out room (omega arith) u.loop.invariant.3 (rw k at u.loop.invariant.4))
 
 pub put-decimal-spec : {M : Type 1} → statement M
 put-decimal-spec =

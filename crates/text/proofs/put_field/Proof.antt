@@ -5,7 +5,7 @@ use native.Mathlib.Omega.{arith}
 use borrow.Author.Rules.{rules}
 use lib.ListN.{length, length-append}
 use Rattle.text.specs.Text.{decimal}
-use Rattle.text.specs.PutLaws.{put-none, put-inside, put_byte}
+use Rattle.text.specs.PutLaws.{put_none, put_inside, put_byte}
 use Rattle.text.proofs.put_field.Statement.{statement}
 use Rattle.text.proofs.put_field.Tie as tie
 
@@ -18,7 +18,7 @@ add-size c = search rules
 returns : tie.Need-returns
 returns c =
     let a = c.before.before.before.args in
-    put-none a.out.now a.at (decimal a.n ++ (a.behind ∷ []))
+    put_none a.out.now a.at (decimal a.n ++ (a.behind ∷ []))
     (omega (arith, c.before.digit-count.ensures.count, length-append (decimal a.n) (a.behind ∷ [])))
 
 sub-if2 : tie.Need-overflow-sub-if2
@@ -27,7 +27,7 @@ sub-if2 c = search rules
 returns-2 : tie.Need-returns-2
 returns-2 c =
     let a = c.before.before.before.before.args in
-    put-none a.out.now a.at (decimal a.n ++ (a.behind ∷ []))
+    put_none a.out.now a.at (decimal a.n ++ (a.behind ∷ []))
     (omega (arith, c.before.before.digit-count.ensures.count, length-append (decimal a.n) (a.behind ∷ [])))
 
 put-decimal-requires : tie.Need-put-decimal-requires
@@ -39,10 +39,10 @@ room : (c : tie.After-slice-known2)
 room c = omega (arith, c.before.before.before.before.before.before.digit-count.ensures.count)
 
 slice-write-out : tie.Need-slice-write-out
-slice-write-out c = put-inside c.before.before.put-decimal.ensures (room c)
+slice-write-out c = put_inside c.before.before.put-decimal.ensures (room c)
 
 add-result : tie.Need-overflow-add-result
-add-result c = omega (arith, put-inside c.before.before.put-decimal.ensures (room c))
+add-result c = omega (arith, put_inside c.before.before.put-decimal.ensures (room c))
 
 same_length : tie.Need-same-length
 same_length c = search rules

@@ -8,8 +8,8 @@ use lib.IntN.{nat_abs}
 use lib.ListN.{length, length-set}
 use mir.Syntax.{w64}
 use mir.ValLaws.{to_z-of_z}
-use Rattle.text.specs.Text.{minus, decimal, signedDecimal}
-use Rattle.text.specs.PutLaws.{put-none, byte-before}
+use Rattle.text.specs.Text.{minus, decimal, signed_decimal}
+use Rattle.text.specs.PutLaws.{put_none, byte_before}
 use Rattle.text.specs.SignedFormsLaws.{signed_above, signed_below}
 use Rattle.text.proofs.put_signed.Statement.{statement}
 use Rattle.text.proofs.put_signed.Tie as tie
@@ -35,13 +35,13 @@ signed-count-requires : tie.Need-signed-count-requires
 signed-count-requires c κs = search rules
 
 -- the bytes counted are those of the number
-counted : (c : tie.After-signed-count) → c.signed-count.result ≡ length (signedDecimal c.before.before.before.args.z)
+counted : (c : tie.After-signed-count) → c.signed-count.result ≡ length (signed_decimal c.before.before.before.args.z)
 counted c = let s = c.before.before.before in rw (to_z-of_z w64 s.args.z s.ranges.z) at c.signed-count.ensures.count
 
 returns-2 : tie.Need-returns-2
 returns-2 c =
     let a = c.before.before.before.before.args in
-    put-none a.out.now a.at (signedDecimal a.z) (omega (arith, counted c.before))
+    put_none a.out.now a.at (signed_decimal a.z) (omega (arith, counted c.before))
 
 sub-if3 : tie.Need-overflow-sub-if3
 sub-if3 c = search rules
@@ -49,10 +49,10 @@ sub-if3 c = search rules
 returns-3 : tie.Need-returns-3
 returns-3 c =
     let a = c.before.before.before.before.before.args in
-    put-none a.out.now a.at (signedDecimal a.z) (omega (arith, counted c.before.before))
+    put_none a.out.now a.at (signed_decimal a.z) (omega (arith, counted c.before.before))
 
 -- the number is below 0, and there is room for the minus and the digits
-below : (c : tie.Else3) → let a = c.before.before.before.before.before.args in signedDecimal a.z ≡ minus ∷ decimal (nat_abs a.z)
+below : (c : tie.Else3) → let a = c.before.before.before.before.before.args in signed_decimal a.z ≡ minus ∷ decimal (nat_abs a.z)
 below c =
     let s = c.before.before.before.before.before in
     signed_below s.args.z (simp (to_z-of_z w64 s.args.z s.ranges.z) at c.before.before.before.if1.false)
@@ -81,7 +81,7 @@ returns-4 c =
     let u = p.before.before.before in
     let s = u.before.before.before.before.before in
     let size : p.before.size-of2.result ≡ nat_abs s.args.z = p.before.size-of2.ensures ∙ ap nat_abs (to_z-of_z w64 s.args.z s.ranges.z) in
-    rw (below u) (byte-before (room u) (rw size at p.put-decimal2.ensures))
+    rw (below u) (byte_before (room u) (rw size at p.put-decimal2.ensures))
 
 pub put-signed-spec : {M : Type 1} → statement M
 put-signed-spec =

@@ -1,18 +1,18 @@
 -- `text::put_text` meets its contract: the bytes passed are put at the place. Assumes nothing.
 use native.Mathlib.Omega.{arith}
 use borrow.Author.Rules.{rules}
-use Rattle.text.specs.PutLaws.{put-none, put-end}
+use Rattle.text.specs.PutLaws.{put_none, put_end}
 use Rattle.text.proofs.put_text.Statement.{statement}
 use Rattle.text.proofs.put_text.Tie as tie
 
 returns : tie.Need-returns
-returns c = let a = c.before.before.before.args in put-none a.out.now a.at a.t.now (omega arith)
+returns c = let a = c.before.before.before.args in put_none a.out.now a.at a.t.now (omega arith)
 
 sub-if2 : tie.Need-overflow-sub-if2
 sub-if2 c = omega arith
 
 returns-2 : tie.Need-returns-2
-returns-2 c = let a = c.before.before.before.before.args in put-none a.out.now a.at a.t.now (omega arith)
+returns-2 c = let a = c.before.before.before.before.args in put_none a.out.now a.at a.t.now (omega arith)
 
 put-row-requires : tie.Need-put-row-requires
 put-row-requires c κs = omega arith
@@ -27,7 +27,7 @@ returns-3 : tie.Need-returns-3
 returns-3 c =
     let p = c.before.before in
     let a = p.before.before.before.before.before.before.args in
-    put-end a.out.now a.at a.t.now (omega arith) _ p.put-row.ensures
+    put_end a.out.now a.at a.t.now (omega arith) _ p.put-row.ensures
 
 pub put-text-spec : {M : Type 1} → statement M
 put-text-spec =

@@ -3,13 +3,13 @@ use Prim.Native.Nat.{◌-◌, ◌≤◌}
 use mathlib.Core.Path.{◌≡◌, refl, sym, ◌∙◌}
 use native.Mathlib.Omega.{arith}
 use lib.ListN.{length, drop}
-use Rattle.text.specs.ReadingForms.{digitsFrom}
-use Rattle.text.specs.TextLaws.{digits_step, digits-other, digits-past, digits-end}
+use Rattle.text.specs.ReadingForms.{digits_from}
+use Rattle.text.specs.TextLaws.{digits_step, digits_other, digits_past, digits_end}
 use Rattle.text.proofs.read_digits.Statement.{statement}
 use Rattle.text.proofs.read_digits.Tie as tie
 
 abbrev invariant-loop : tie.invariant-loop
-invariant-loop t most n₀ i₀ n i = (i ≤ length t) × (n ≤ most) × (digitsFrom most 0 t ≡ digitsFrom most n (drop i t))
+invariant-loop t most n₀ i₀ n i = (i ≤ length t) × (n ≤ most) × (digits_from most 0 t ≡ digits_from most n (drop i t))
 
 abbrev decreases-loop : tie.decreases-loop
 decreases-loop t most n₀ i₀ n i = length t - i
@@ -27,20 +27,20 @@ returns : tie.Need-returns invariant-loop decreases-loop
 returns c =
     let u = c.before.before.before.before in
     let a = u.before.before.args in
-    sym (u.loop.invariant.2 ∙ digits-other a.most u.loop.n c.before.digit.result a.t.now u.loop.i (omega arith) c.before.digit.ensures c.if1.true)
+    sym (u.loop.invariant.2 ∙ digits_other a.most u.loop.n c.before.digit.result a.t.now u.loop.i (omega arith) c.before.digit.ensures c.if1.true)
 
 returns-2 : tie.Need-returns-2 invariant-loop decreases-loop
 returns-2 c =
     let u = c.before.before.before.before.before in
     let a = u.before.before.args in
-    sym (u.loop.invariant.2 ∙ digits-past a.most u.loop.n c.before.before.digit.result a.t.now u.loop.i (omega arith) c.before.before.digit.ensures (omega arith) (omega arith))
+    sym (u.loop.invariant.2 ∙ digits_past a.most u.loop.n c.before.before.digit.result a.t.now u.loop.i (omega arith) c.before.before.digit.ensures (omega arith) (omega arith))
 
 returns-3 : tie.Need-returns-3 invariant-loop decreases-loop
 returns-3 c =
     let u = c.before.before.before.before.before.before in
     let a = u.before.before.args in
     let d = c.before.before.before.digit in
-    sym (u.loop.invariant.2 ∙ digits-past a.most u.loop.n d.result a.t.now u.loop.i (omega arith) d.ensures (omega arith) (omega arith))
+    sym (u.loop.invariant.2 ∙ digits_past a.most u.loop.n d.result a.t.now u.loop.i (omega arith) d.ensures (omega arith) (omega arith))
 
 mul-n : tie.Need-overflow-mul-n invariant-loop decreases-loop
 mul-n c = omega arith
@@ -65,7 +65,7 @@ returns-4 : tie.Need-returns-4 invariant-loop decreases-loop
 returns-4 c =
     let u = c.before in
     let a = u.before.before.args in
-    sym (u.loop.invariant.2 ∙ digits-end a.most u.loop.n a.t.now u.loop.i (omega arith))
+    sym (u.loop.invariant.2 ∙ digits_end a.most u.loop.n a.t.now u.loop.i (omega arith))
 
 pub read-digits-spec : {M : Type 1} → statement M
 read-digits-spec =

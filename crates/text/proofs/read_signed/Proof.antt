@@ -2,15 +2,15 @@
 use mathlib.Core.Path.{sym, ap, ◌∙◌}
 use native.Mathlib.Omega.{arith}
 use borrow.Author.Rules.{rules}
-use Rattle.bits.specs.BasicsLaws.{part-from}
-use Rattle.text.specs.Text.{aboveZero, belowZero}
-use Rattle.text.specs.TextLaws.{number-le}
-use Rattle.text.specs.SignedFormsLaws.{signed-empty, signed-minus, signed-plain}
+use Rattle.bits.specs.BasicsLaws.{part_from_lem}
+use Rattle.text.specs.Text.{above_zero, below_zero}
+use Rattle.text.specs.TextLaws.{number_le}
+use Rattle.text.specs.SignedFormsLaws.{signed_empty, signed_minus, signed_plain}
 use Rattle.text.proofs.read_signed.Statement.{statement}
 use Rattle.text.proofs.read_signed.Tie as tie
 
 returns : tie.Need-returns
-returns c = sym (signed-empty _ _ c.before.before.args.t.now c.if1.true)
+returns c = sym (signed_empty _ _ c.before.before.args.t.now c.if1.true)
 
 shared-slice-read-if2 : tie.Need-shared-slice-read-if2
 shared-slice-read-if2 c = search rules
@@ -28,25 +28,25 @@ read-number-requires : tie.Need-read-number-requires
 read-number-requires c κs = search rules
 
 below-zero-requires : tie.Need-below-zero-requires
-below-zero-requires c κs n q = number-le _ n _ (sym c.read_number.ensures ∙ q)
+below-zero-requires c κs n q = number_le _ n _ (sym c.read_number.ensures ∙ q)
 
 returns-2 : tie.Need-returns-2
 returns-2 c =
     let n = c.before in
     let t = n.before.before.before.before.before.before.args.t.now in
-    c.below-zero.ensures ∙ ap belowZero n.read_number.ensures ∙ rw (part-from 1 t) (sym (signed-minus _ _ t (omega arith) n.before.before.if2.true))
+    c.below-zero.ensures ∙ ap below_zero n.read_number.ensures ∙ rw (part_from_lem 1 t) (sym (signed_minus _ _ t (omega arith) n.before.before.if2.true))
 
 read-number-requires-2 : tie.Need-read-number-requires-2
 read-number-requires-2 c κs = search rules
 
 above-zero-requires : tie.Need-above-zero-requires
-above-zero-requires c κs n q = number-le _ n _ (sym c.read-number2.ensures ∙ q)
+above-zero-requires c κs n q = number_le _ n _ (sym c.read-number2.ensures ∙ q)
 
 returns-3 : tie.Need-returns-3
 returns-3 c =
     let n = c.before in
     let t = n.before.before.before.before.before.args.t.now in
-    c.above_zero.ensures ∙ ap aboveZero n.read-number2.ensures ∙ sym (signed-plain _ _ t (omega arith) n.before.if2.false)
+    c.above_zero.ensures ∙ ap above_zero n.read-number2.ensures ∙ sym (signed_plain _ _ t (omega arith) n.before.if2.false)
 
 pub read-signed-spec : {M : Type 1} → statement M
 read-signed-spec =

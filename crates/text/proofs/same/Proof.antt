@@ -4,7 +4,7 @@ use mathlib.Core.Path.{◌≡◌, refl, sym, ◌∙◌}
 use native.Mathlib.Omega.{arith}
 use lib.ListN.{length, drop}
 use Rattle.text.specs.Text.{same}
-use Rattle.text.specs.TextLaws.{same_length, same_step, same-other, same_end}
+use Rattle.text.specs.TextLaws.{same_length, same_step_lem, same_other, same_end}
 use Rattle.text.proofs.same.Statement.{statement}
 use Rattle.text.proofs.same.Tie as tie
 
@@ -30,7 +30,7 @@ returns-2 : tie.Need-returns-2 invariant-loop decreases-loop
 returns-2 c =
     let u = c.before.before.before.before in
     let a = u.before.before.args in
-    sym (u.loop.invariant.1 ∙ same-other a.t.now a.u.now u.loop.i (omega arith) (omega arith) c.if2.true)
+    sym (u.loop.invariant.1 ∙ same_other a.t.now a.u.now u.loop.i (omega arith) (omega arith) c.if2.true)
 
 add-i : tie.Need-overflow-add-i invariant-loop decreases-loop
 add-i c = omega arith
@@ -42,7 +42,7 @@ loop-again : tie.Need-loop-preserved invariant-loop decreases-loop
 loop-again c =
     let u = c.before.before.before.before in
     let a = u.before.before.args in
-    (omega arith, u.loop.invariant.1 ∙ same_step a.t.now a.u.now u.loop.i (omega arith) (omega arith) c.if2.false)
+    (omega arith, u.loop.invariant.1 ∙ same_step_lem a.t.now a.u.now u.loop.i (omega arith) (omega arith) c.if2.false)
 
 returns-3 : tie.Need-returns-3 invariant-loop decreases-loop
 returns-3 c =

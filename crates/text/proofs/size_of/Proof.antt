@@ -5,7 +5,7 @@ use borrow.Author.Rules.{rules}
 use lib.Signed.{nat_abs-le}
 use mir.Syntax.{w64}
 use mir.ValLaws.{to_z-of_z}
-use Rattle.text.specs.SignedFormsLaws.{above-is, MinusOneLess, minus-one-less}
+use Rattle.text.specs.SignedFormsLaws.{above_is, MinusOneLess, minus_one_less}
 use Rattle.text.proofs.size_of.Statement.{statement}
 use Rattle.text.proofs.size_of.Tie as tie
 
@@ -13,13 +13,13 @@ cast-result : tie.Need-overflow-cast-result
 cast-result c =
     let s = c.before in
     let e = to_z-of_z w64 s.args.z s.ranges.z in
-    rw (e ∙ above-is s.args.z (simp e at c.if1.true)) (tt, record { fits = omega (arith, nat_abs-le s.args.z s.ranges.z.sfits) })
+    rw (e ∙ above_is s.args.z (simp e at c.if1.true)) (tt, record { fits = omega (arith, nat_abs-le s.args.z s.ranges.z.sfits) })
 
 returns : tie.Need-returns
 returns c = search rules
 
 below : (c : tie.Else1) → MinusOneLess c.before.args.z
-below c = minus-one-less c.before.args.z c.before.ranges.z c.if1.false
+below c = minus_one_less c.before.args.z c.before.ranges.z c.if1.false
 
 sub-result : tie.Need-overflow-sub-result
 sub-result c = (below c).whole

@@ -5,7 +5,7 @@ pub mod rebuild;
 ghost use Rattle.std.specs.Prelude.{◌≡◌, ◌+◌, ◌*◌, ◌<◌, ◌≤◌, length};
 ghost use Rattle.tree.specs.Blocks.{gather, paint, place};
 ghost use Rattle.tree_samples.specs.RowForms.{Rows, Moves, moved};
-ghost use Rattle.tree_samples.specs.PlaceLaws.{row_of, columnOf};
+ghost use Rattle.tree_samples.specs.PlaceLaws.{row_of, column_of};
 
 use bits::inner::put_row;
 
@@ -72,7 +72,7 @@ fn row_of(i: usize) -> usize
 
 fn column_of(i: usize) -> usize
     requires { i < 63 }
-    ensures { (result ≡ columnOf i) × (result ≤ 15) }
+    ensures { (result ≡ column_of i) × (result ≤ 15) }
 {
     COLUMNS[i] as usize
 }

@@ -2,13 +2,13 @@
 use Prim.Native.Nat.{◌+◌, ◌*◌, ◌/◌, ◌^◌, ◌<◌}
 use native.Mathlib.Omega.{arith}
 use borrow.Author.Rules.{rules}
-use Rattle.bits.specs.BitsLaws.{byte-lt}
+use Rattle.bits.specs.BitsLaws.{byte_lt}
 use Rattle.bits.proofs.inner.byte_with.Statement.{statement}
 use Rattle.bits.proofs.inner.byte_with.Tie as tie
 
 -- what the two parts come to
 sum_lt : (c : tie.Start) → c.args.b / 2 ^ c.args.k * 2 ^ c.args.k + c.args.v * 2 ^ c.args.z < 256
-sum_lt c = byte-lt c.args.b c.args.k (c.args.v * 2 ^ c.args.z) c.ranges.b.fits c.requires.0 c.requires.2
+sum_lt c = byte_lt c.args.b c.args.k (c.args.v * 2 ^ c.args.z) c.ranges.b.fits c.requires.0 c.requires.2
 
 shr-result : tie.Need-overflow-shr-result
 shr-result c = search rules

@@ -6,7 +6,7 @@ use native.Mathlib.Omega.{arith}
 use lib.Pow.{pow_mono}
 use lib.ListN.{take, drop}
 use Rattle.bits.specs.Bits.{bits_of, val_of}
-use Rattle.bits.specs.ReadLaws.{more-bits, run-lt}
+use Rattle.bits.specs.ReadLaws.{more_bits, run_lt}
 use Rattle.bits.proofs.inner.get_bits.Statement.{statement}
 use Rattle.bits.proofs.inner.get_bits.Tie as tie
 
@@ -57,14 +57,14 @@ read c =
     let p : ℕ = u.loop.p in
     let m : ℕ = a.n - u.loop.left in
     let e : a.n - (u.loop.left - k) ≡ m + k = omega arith in
-    rw (c.part_of.ensures, u.loop.invariant.2, e) (sym (more-bits a.s.now a.at m (p / 8) (p % 8) k (8 - p % 8 - k) (omega arith) (omega arith) (omega arith)))
+    rw (c.part_of.ensures, u.loop.invariant.2, e) (sym (more_bits a.s.now a.at m (p / 8) (p % 8) k (8 - p % 8 - k) (omega arith) (omega arith) (omega arith)))
 
 joined-requires : tie.Need-joined-requires invariant-loop decreases-loop
 joined-requires c κs =
     let u = c.before.before.before.before in
     let a = u.before.before.args in
     let m : ℕ = a.n - (u.loop.left - c.before.before.lesser.result) in
-    (omega arith, rw (read c) (lt_of_lt_of_le (run-lt a.s.now a.at m (omega arith)) (pow_mono {j = 32} (omega arith))))
+    (omega arith, rw (read c) (lt_of_lt_of_le (run_lt a.s.now a.at m (omega arith)) (pow_mono {j = 32} (omega arith))))
 
 cast-p : tie.Need-overflow-cast-p invariant-loop decreases-loop
 cast-p c = omega arith

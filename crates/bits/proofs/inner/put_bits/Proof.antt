@@ -6,21 +6,21 @@ use native.Mathlib.Omega.{arith}
 use native.Mathlib.Nat.{mod-lt}
 use lib.ListN.{length}
 use lib.Pow.{pow_pos}
-use Rattle.bits.specs.Bits.{msb, bits_of, putBits}
-use Rattle.bits.specs.BitsLaws.{put-turn, put_first, put_last, length-msb, length-bitsOf}
+use Rattle.bits.specs.Bits.{msb, bits_of, put_bits}
+use Rattle.bits.specs.BitsLaws.{put_turn, put_first_lem, put_last, length_msb, length_bits_of}
 use Rattle.bits.proofs.inner.put_bits.Statement.{statement}
 use Rattle.bits.proofs.inner.put_bits.Tie as tie
 
 abbrev invariant-loop : tie.invariant-loop
 invariant-loop out₀ at width value p₀ left₀ out p left =
     (left ≤ width) × (p + left ≡ at + width) × (length out ≡ length out₀)
-    × (bits_of out ≡ putBits (bits_of out₀) at (msb (width - left) (value / 2 ^ left)))
+    × (bits_of out ≡ put_bits (bits_of out₀) at (msb (width - left) (value / 2 ^ left)))
 
 abbrev decreases-loop : tie.decreases-loop
 decreases-loop out₀ at width value p₀ left₀ out p left = left
 
 loop-holds : tie.Need-loop-init invariant-loop decreases-loop
-loop-holds c = (omega arith, omega arith, refl, put_first _ _ _ _)
+loop-holds c = (omega arith, omega arith, refl, put_first_lem _ _ _ _)
 
 cast-room : tie.Need-overflow-cast-room invariant-loop decreases-loop
 cast-room c = omega arith
@@ -59,11 +59,11 @@ loop-again c =
     let u = q.before.before.before.before.before in
     let a = u.before.before.args in
     let out₀ : List ℕ = a.out.now in
-    let room : a.at ≤ length (bits_of out₀) = omega (arith, length-bitsOf out₀, u.before.before.requires) in (
+    let room : a.at ≤ length (bits_of out₀) = omega (arith, length_bits_of out₀, u.before.before.requires) in (
       omega arith,
       omega arith,
       q.put-part.auto.0 ∙ u.loop.invariant.2,
-      put-turn (bits_of out₀) _ _ a.at a.width u.loop.left q.before.before.before.lesser.result a.value u.loop.p _ (omega arith) u.loop.invariant.0 room u.loop.invariant.1 u.loop.invariant.3 q.before.before.part_of.ensures q.put-part.ensures,
+      put_turn (bits_of out₀) _ _ a.at a.width u.loop.left q.before.before.before.lesser.result a.value u.loop.p _ (omega arith) u.loop.invariant.0 room u.loop.invariant.1 u.loop.invariant.3 q.before.before.part_of.ensures q.put-part.ensures,
     )
 
 same_length : tie.Need-same-length invariant-loop decreases-loop
@@ -73,7 +73,7 @@ returns : tie.Need-returns invariant-loop decreases-loop
 returns c =
     let a = c.before.before.before.args in
     record {
-      behind = rw length-msb (omega arith);
+      behind = rw length_msb (omega arith);
       bits = c.before.loop.invariant.3 ∙ put_last _ a.at a.width _ a.value c.loop-test.false;
     }
 

@@ -5,7 +5,7 @@ use mathlib.Core.List.{List}
 use native.Mathlib.Omega.{arith}
 use lib.Pow.{shl_lt}
 use borrow.Author.Rules.{rules}
-use Rattle.bits.specs.BitsLaws.{put-set}
+use Rattle.bits.specs.BitsLaws.{put_set}
 use Rattle.bits.proofs.inner.put_part.Statement.{statement}
 use Rattle.bits.proofs.inner.put_part.Tie as tie
 
@@ -41,7 +41,7 @@ returns c =
     let at : ℕ = s.args.at in
     let n : ℕ = s.args.n in
     let whole : 8 * (at / 8) + at % 8 ≡ at = omega arith in
-    let put = put-set out (at / 8) (at % 8) n (8 - at % 8 - n) s.args.v s.requires.2 (omega arith) s.requires.0 s.requires.3 in
+    let put = put_set out (at / 8) (at % 8) n (8 - at % 8 - n) s.args.v s.requires.2 (omega arith) s.requires.0 s.requires.3 in
     rw c.byte-with.ensures (rw whole at put)
 
 pub put-part-spec : {M : Type 1} → statement M

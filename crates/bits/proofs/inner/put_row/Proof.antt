@@ -3,7 +3,7 @@ use mathlib.Core.Path.{◌≡◌, refl}
 use Prim.Native.Nat.{◌-◌, ◌≤◌}
 use lib.ListN.{length, take, length-set}
 use lib.Seq.{sets}
-use Rattle.bits.specs.FillLaws.{row_step, row-end}
+use Rattle.bits.specs.FillLaws.{row_step, row_end}
 use native.Mathlib.Omega.{arith}
 use borrow.Author.Rules.{rules}
 use Rattle.bits.proofs.inner.put_row.Statement.{statement}
@@ -42,7 +42,7 @@ same_length : tie.Need-same-length invariant-loop decreases-loop
 same_length c = c.before.loop.invariant.1
 
 returns : tie.Need-returns invariant-loop decreases-loop
-returns c = row-end _ _ _ _ _ c.loop-test.false c.before.loop.invariant.0 c.before.loop.invariant.2
+returns c = row_end _ _ _ _ _ c.loop-test.false c.before.loop.invariant.0 c.before.loop.invariant.2
 
 pub put-row-spec : {M : Type 1} → statement M
 put-row-spec =

@@ -3,7 +3,7 @@ use mathlib.Core.Path.{sym, ◌∙◌}
 use native.Mathlib.Omega.{arith}
 use lib.ListN.{length}
 use borrow.Author.Rules.{rules}
-use Rattle.bits.specs.CallsLaws.{bits-passes, put_refused, put-done}
+use Rattle.bits.specs.CallsLaws.{bits_passes, put_refused, put_done}
 use Rattle.bits.proofs.svq1_enc.push_bits.Statement.{statement}
 use Rattle.bits.proofs.svq1_enc.push_bits.Tie as tie
 
@@ -17,7 +17,7 @@ put-bits-requires : tie.Need-put-bits-requires
 put-bits-requires c κs =
     let q = c.before in
     let a = q.before.before.before.args in
-    let f = bits-passes (length a.out.now) a.at a.width 22 (omega arith) (sym q.before.bits-refusal.ensures ∙ q.if1.false) in
+    let f = bits_passes (length a.out.now) a.at a.width 22 (omega arith) (sym q.before.bits-refusal.ensures ∙ q.if1.false) in
     f
 
 same_length : tie.Need-same-length
@@ -28,7 +28,7 @@ returns-2 c =
     let p = c.before.before.put-bits in
     let q = c.before.before.before.before in
     let a = q.before.before.before.args in
-    put-done _ _ _ _ _ _ (sym q.before.bits-refusal.ensures ∙ q.if1.false) p.ensures.behind p.ensures.bits
+    put_done _ _ _ _ _ _ (sym q.before.bits-refusal.ensures ∙ q.if1.false) p.ensures.behind p.ensures.bits
 
 pub push-bits-spec : {M : Type 1} → statement M
 push-bits-spec =

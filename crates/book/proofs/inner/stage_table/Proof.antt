@@ -1,8 +1,8 @@
 -- The level's part of the family that the half names. Assumes nothing.
 use mathlib.Core.Path.{◌∙◌}
 use borrow.Author.Rules.{rules}
-use Rattle.book.specs.Level.{levelNumber}
-use Rattle.book.specs.LevelLaws.{lent-stage}
+use Rattle.book.specs.Level.{level_number}
+use Rattle.book.specs.LevelLaws.{lent_stage}
 use Rattle.book.proofs.inner.stage_table.Statement.{statement}
 use Rattle.book.proofs.inner.stage_table.Tie as tie
 
@@ -19,7 +19,7 @@ returns : tie.Need-returns
 returns c =
     let s = c.before.before.before.before in
     (rw (c.before.before.intra-stage-family.ensures, c.before.inter-stage-family.ensures) at c.stage-table.ensures)
-    ∙ lent-stage s.args.book.now s.requires s.args.half (levelNumber s.args.level)
+    ∙ lent_stage s.args.book.now s.requires s.args.half (level_number s.args.level)
 
 pub stage-table-spec : {M : Type 1} → statement M
 stage-table-spec =

@@ -1,5 +1,5 @@
 -- The writer of pictures, its answer as the struct. Assumes nothing.
-use Rattle.cabunlis.specs.HostLaws.{host-picture}
+use Rattle.cabunlis.specs.HostLaws.{host_picture}
 use borrow.Author.Rules.{rules}
 use Rattle.cabunlis.proofs.pictures.cabunlis2_encode_picture.Statement.{statement}
 use Rattle.cabunlis.proofs.pictures.cabunlis2_encode_picture.Tie as tie
@@ -54,7 +54,7 @@ same-length-13 c = c.before.before.before.before.before.before.before.before.bef
 
 returns : tie.Need-returns
 returns c =
-    host-picture _ _ _ _ _ _ _ _ _ (rw c.before.before.before.before.before.before.before.before.before.before.before.before.before.before.before.before.before.before.before.before.before.before.before.before.before.before.before.before.before.before.before.before.before.before.before.before.before.before.before.before.before.settings-of.ensures at c.before.before.before.before.before.before.before.before.before.before.before.before.before.before.before.before.before.before.before.before.before.before.before.before.before.before.before.encode-picture.ensures) c.picture-answer.ensures
+    host_picture _ _ _ _ _ _ _ _ _ (rw c.before.before.before.before.before.before.before.before.before.before.before.before.before.before.before.before.before.before.before.before.before.before.before.before.before.before.before.before.before.before.before.before.before.before.before.before.before.before.before.before.before.settings-of.ensures at c.before.before.before.before.before.before.before.before.before.before.before.before.before.before.before.before.before.before.before.before.before.before.before.before.before.before.before.encode-picture.ensures) c.picture-answer.ensures
 
 pub cabunlis2-encode-picture-spec : {M : Type 1} → statement M
 cabunlis2-encode-picture-spec =

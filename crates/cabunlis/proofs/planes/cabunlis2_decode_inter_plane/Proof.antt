@@ -1,5 +1,5 @@
 -- The reader's contract, its answer as the struct. Assumes nothing.
-use Rattle.cabunlis.specs.HostLaws.{host-read}
+use Rattle.cabunlis.specs.HostLaws.{host_read}
 use borrow.Author.Rules.{rules}
 use Rattle.cabunlis.proofs.planes.cabunlis2_decode_inter_plane.Statement.{statement}
 use Rattle.cabunlis.proofs.planes.cabunlis2_decode_inter_plane.Tie as tie
@@ -20,7 +20,7 @@ same-length-3 : tie.Need-same-length-3
 same-length-3 c = search rules
 
 returns : tie.Need-returns
-returns c = host-read _ _ _ _ _ _ _ c.before.before.before.before.before.before.before.decode-inter-plane.ensures c.answer.ensures
+returns c = host_read _ _ _ _ _ _ _ c.before.before.before.before.before.before.before.decode-inter-plane.ensures c.answer.ensures
 
 pub cabunlis2-decode-inter-plane-spec : {M : Type 1} → statement M
 cabunlis2-decode-inter-plane-spec =

@@ -1,5 +1,5 @@
 -- The writer's contract, its answer as the struct. Assumes nothing.
-use Rattle.cabunlis.specs.HostLaws.{host-written}
+use Rattle.cabunlis.specs.HostLaws.{host_written}
 use borrow.Author.Rules.{rules}
 use Rattle.cabunlis.proofs.planes.cabunlis2_encode_inter_plane.Statement.{statement}
 use Rattle.cabunlis.proofs.planes.cabunlis2_encode_inter_plane.Tie as tie
@@ -28,7 +28,7 @@ same-length-4 c = search rules
 returns : tie.Need-returns
 returns c =
     let e = c.before.before.before.before.before.before.before.before.before in
-    host-written _ _ _ _ _ _ _ (rw e.before.before.before.before.before.settings-of.ensures at e.encode-inter-plane.ensures) c.answer.ensures
+    host_written _ _ _ _ _ _ _ (rw e.before.before.before.before.before.settings-of.ensures at e.encode-inter-plane.ensures) c.answer.ensures
 
 pub cabunlis2-encode-inter-plane-spec : {M : Type 1} → statement M
 cabunlis2-encode-inter-plane-spec =

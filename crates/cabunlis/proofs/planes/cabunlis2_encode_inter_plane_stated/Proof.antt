@@ -1,5 +1,5 @@
 -- The contract of the writer that tells, its answer as the struct. Assumes nothing.
-use Rattle.cabunlis.specs.HostLaws.{host-stated}
+use Rattle.cabunlis.specs.HostLaws.{host_stated}
 use borrow.Author.Rules.{rules}
 use Rattle.cabunlis.proofs.planes.cabunlis2_encode_inter_plane_stated.Statement.{statement}
 use Rattle.cabunlis.proofs.planes.cabunlis2_encode_inter_plane_stated.Tie as tie
@@ -31,7 +31,7 @@ same-length-5 c = search rules
 returns : tie.Need-returns
 returns c =
     let e = c.before.before.before.before.before.before.before.before.before.before.before in
-    host-stated _ _ _ _ _ _ _ _ _ (rw e.before.before.before.before.before.before.settings-of.ensures at e.encode-inter-plane-stated.ensures) c.answer.ensures
+    host_stated _ _ _ _ _ _ _ _ _ (rw e.before.before.before.before.before.before.settings-of.ensures at e.encode-inter-plane-stated.ensures) c.answer.ensures
 
 pub cabunlis2-encode-inter-plane-stated-spec : {M : Type 1} → statement M
 cabunlis2-encode-inter-plane-stated-spec =

@@ -4,7 +4,7 @@ use Prim.Native.Nat.{◌≤◌, ◌<◌, ◌-◌}
 use native.Mathlib.Omega.{arith}
 use lib.ListN.{length, take}
 use Rattle.leaf.specs.LentNeeds.{padded}
-use Rattle.call_entries.specs.NodeLaws.{front-put}
+use Rattle.call_entries.specs.NodeLaws.{front_put}
 use borrow.Author.Rules.{rules}
 use Rattle.call_entries.proofs.inner.front_of.Statement.{statement}
 use Rattle.call_entries.proofs.inner.front_of.Tie as tie
@@ -34,7 +34,7 @@ loop-again : tie.Need-loop-preserved invariant-loop decreases-loop
 loop-again c =
     let l = c.before.loop in
     let i : l.i < 6 = search rules in
-    (search rules, l.invariant.1, rw l.invariant.2 (front-put c.before.before.args.t1 l.i l.invariant.1 i))
+    (search rules, l.invariant.1, rw l.invariant.2 (front_put c.before.before.args.t1 l.i l.invariant.1 i))
 
 returns : tie.Need-returns invariant-loop decreases-loop
 returns c =

@@ -1,7 +1,7 @@
 -- Skip, or a coded leaf with zeros behind its stages. Assumes nothing.
 use mir.ValLaws.{to_z-of_z}
 use mir.Syntax.{w16}
-use Rattle.call_entries.specs.NodeLaws.{coded-node}
+use Rattle.call_entries.specs.NodeLaws.{coded_node}
 use borrow.Author.Rules.{rules}
 use Rattle.call_entries.proofs.inner.leaf_node.Statement.{statement}
 use Rattle.call_entries.proofs.inner.leaf_node.Tie as tie
@@ -29,7 +29,7 @@ returns-2 c =
     let a = c.before.before.before.before.before.args in
     let code = c.before.before.before.code.given in
     let m = to_z-of_z w16 code.0.0 (record { sfits = c.before.before.known-told.given.0.1 }) in
-    rw (m, code.1) (coded-node code.0.0 code.0.1.0 _ a.stages _ c.front_of.ensures.1 c.before.most-six.ensures.0 c.front_of.ensures.0)
+    rw (m, code.1) (coded_node code.0.0 code.0.1.0 _ a.stages _ c.front_of.ensures.1 c.before.most-six.ensures.0 c.front_of.ensures.0)
 
 pub leaf-node-spec : {M : Type 1} → statement M
 leaf-node-spec =

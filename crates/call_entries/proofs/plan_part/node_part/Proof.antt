@@ -1,8 +1,8 @@
 -- A block by its case. Assumes nothing.
 use mathlib.Core.Path.{◌∙◌, sym, ap}
-use Rattle.tree.specs.NodeForms.{nodeAs}
+use Rattle.tree.specs.NodeForms.{node_as}
 use Rattle.tree.specs.declared.svq1_enc_tree.TreeNode.{TreeNode}
-use Rattle.call_entries.specs.Node.{nodePart}
+use Rattle.call_entries.specs.Node.{node_part}
 use borrow.Author.Rules.{rules}
 use Rattle.call_entries.proofs.plan_part.node_part.Statement.{statement}
 use Rattle.call_entries.proofs.plan_part.node_part.Tie as tie
@@ -28,17 +28,17 @@ leaf-node-requires c κs = search rules
 returns : tie.Need-returns
 returns c =
     let b = c.before.before.before.before.args.b in
-    c.bare-node.ensures ∙ sym (ap (λ (n : TreeNode). nodePart (nodeAs n b.stages)) c.before.enum_told.given.1)
+    c.bare-node.ensures ∙ sym (ap (λ (n : TreeNode). node_part (node_as n b.stages)) c.before.enum_told.given.1)
 
 returns-2 : tie.Need-returns-2
 returns-2 c =
     let b = c.before.before.before.before.args.b in
-    c.bare-node2.ensures ∙ sym (ap (λ (n : TreeNode). nodePart (nodeAs n b.stages)) c.before.enum-told2.given.1)
+    c.bare-node2.ensures ∙ sym (ap (λ (n : TreeNode). node_part (node_as n b.stages)) c.before.enum-told2.given.1)
 
 returns-3 : tie.Need-returns-3
 returns-3 c =
     let b = c.before.before.before.before.before.args.b in
-    c.leaf-node.ensures ∙ sym (ap (λ (n : TreeNode). nodePart (nodeAs n b.stages)) c.before.before.n.given.1)
+    c.leaf-node.ensures ∙ sym (ap (λ (n : TreeNode). node_part (node_as n b.stages)) c.before.before.n.given.1)
 
 pub node-part-spec : {M : Type 1} → statement M
 node-part-spec =

@@ -2,8 +2,8 @@
 use mathlib.Core.Path.{◌∙◌, sym, ap, refl}
 use Prim.Native.Nat.{◌-◌}
 use Rattle.tree.specs.NodeForms.{tree_of}
-use Rattle.tree.specs.WalkNeedsLaws.{tree-at, tree-length}
-use Rattle.call_entries.specs.Node.{nodePart}
+use Rattle.tree.specs.WalkNeedsLaws.{tree_at, tree-length}
+use Rattle.call_entries.specs.Node.{node_part}
 use Rattle.call_entries.specs.PlanLaws.{Listing, listed_more, listed}
 use native.Mathlib.Omega.{arith}
 use borrow.Author.Rules.{rules}
@@ -44,7 +44,7 @@ loop-again : tie.Need-loop-preserved invariant-loop decreases-loop
 loop-again c =
     let a = c.before.before.before.before.args in
     let l = c.before.before.before.loop in
-    listed_more (tree_of a.t1) (tree-length a.t1 ∙ search rules) l.nodes l.i l.invariant _ c.before.before.loop-test.true (c.node-part.ensures ∙ ap nodePart (sym (tree-at a.t1 l.i)))
+    listed_more (tree_of a.t1) (tree-length a.t1 ∙ search rules) l.nodes l.i l.invariant _ c.before.before.loop-test.true (c.node-part.ensures ∙ ap node_part (sym (tree_at a.t1 l.i)))
 
 returns : tie.Need-returns invariant-loop decreases-loop
 returns c =

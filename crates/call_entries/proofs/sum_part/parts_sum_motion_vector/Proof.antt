@@ -2,7 +2,7 @@
 use mathlib.Core.Path.{◌∙◌, ap}
 use mir.ValLaws.{to_z-of_z}
 use mir.Syntax.{w32}
-use Rattle.call_entries.specs.Sum.{sumPart}
+use Rattle.call_entries.specs.Sum.{sum_part}
 use borrow.Author.Rules.{rules}
 use Rattle.call_entries.proofs.sum_part.parts_sum_motion_vector.Statement.{statement}
 use Rattle.call_entries.proofs.sum_part.parts_sum_motion_vector.Tie as tie
@@ -20,7 +20,7 @@ returns c =
     let py = to_z-of_z w32 s.args.py s.ranges.py in
     let vx = to_z-of_z w32 s.args.vx s.ranges.vx in
     let vy = to_z-of_z w32 s.args.vy s.ranges.vy in
-    c.part-of-sum.ensures ∙ ap sumPart (simp (px, py, vx, vy) at c.before.sum-motion-vector.ensures)
+    c.part-of-sum.ensures ∙ ap sum_part (simp (px, py, vx, vy) at c.before.sum-motion-vector.ensures)
 
 pub parts-sum-motion-vector-spec : {M : Type 1} → statement M
 parts-sum-motion-vector-spec =

@@ -2,7 +2,7 @@
 use mathlib.Core.Path.{◌∙◌, ap}
 use mir.ValLaws.{to_z-of_z}
 use mir.Syntax.{w32}
-use Rattle.call_entries.specs.Vector.{vectorPart}
+use Rattle.call_entries.specs.Vector.{vector_part}
 use borrow.Author.Rules.{rules}
 use Rattle.call_entries.proofs.vector_part.parts_search_motion_vector.Statement.{statement}
 use Rattle.call_entries.proofs.vector_part.parts_search_motion_vector.Tie as tie
@@ -18,7 +18,7 @@ returns c =
     let s = c.before.before.before.before in
     let x = to_z-of_z w32 s.args.px s.ranges.px in
     let y = to_z-of_z w32 s.args.py s.ranges.py in
-    c.part_of.ensures ∙ ap vectorPart (simp (x, y) at c.before.search-motion-vector.ensures)
+    c.part_of.ensures ∙ ap vector_part (simp (x, y) at c.before.search-motion-vector.ensures)
 
 pub parts-search-motion-vector-spec : {M : Type 1} → statement M
 parts-search-motion-vector-spec =

@@ -7,9 +7,9 @@ use native.Mathlib.Omega.{arith}
 use lib.ListN.{length}
 use borrow.Author.Count.{below_more}
 use Rattle.bits.specs.Bits.{msb}
-use Rattle.code_tables.specs.CodeReadLaws.{start_none, start-some}
+use Rattle.code_tables.specs.CodeReadLaws.{start_none, start_some}
 use Rattle.code_tables.specs.Codes.{begins, codes_of, code}
-use Rattle.code_tables.specs.CodesLaws.{good-is, code_at, length-codesOf}
+use Rattle.code_tables.specs.CodesLaws.{good_is, code_at, length_codes_of}
 use Rattle.code_tables.proofs.inner.any_start.Statement.{statement}
 use Rattle.code_tables.proofs.inner.any_start.Tie as tie
 
@@ -32,7 +32,7 @@ begins-bits-requires : tie.Need-begins-bits-requires invariant-loop decreases-lo
 begins-bits-requires c κs =
     let u = c.before.before.before in
     let s = u.before.before in
-    let g = good-is s.args.table.now s.requires.2 in
+    let g = good_is s.args.table.now s.requires.2 in
     let i : ℕ = u.loop.i in
     let h : i < length s.args.table.now / 3 = omega arith in
     (s.requires.0, rw c.entry-len.ensures (g.long i h), s.requires.1, rw (c.entry-len.ensures, c.before.entry-val.ensures) (g.small i h))
@@ -51,7 +51,7 @@ returns : tie.Need-returns invariant-loop decreases-loop
 returns c =
     let u = c.before.before.before.before.before in
     let t : List ℕ = u.before.before.args.table.now in
-    sym (start-some (codes_of t) u.loop.i _ (rw (length-codesOf t) (omega arith)) (sym (tested c.before) ∙ c.if1.true))
+    sym (start_some (codes_of t) u.loop.i _ (rw (length_codes_of t) (omega arith)) (sym (tested c.before) ∙ c.if1.true))
 
 add-i : tie.Need-overflow-add-i invariant-loop decreases-loop
 add-i c = omega arith
@@ -65,7 +65,7 @@ loop-again c = (omega arith, below_more _ _ c.before.before.before.before.before
 returns-2 : tie.Need-returns-2 invariant-loop decreases-loop
 returns-2 c =
     let t : List ℕ = c.before.before.before.args.table.now in
-    sym (start_none (codes_of t) _ (λ k h. c.before.loop.invariant.1 k (omega (arith, length-codesOf t))))
+    sym (start_none (codes_of t) _ (λ k h. c.before.loop.invariant.1 k (omega (arith, length_codes_of t))))
 
 pub any-start-spec : {M : Type 1} → statement M
 any-start-spec =

@@ -2,8 +2,8 @@
 use mathlib.Core.Path.{sym}
 use borrow.Author.Rules.{rules}
 use Rattle.bits.specs.Bits.{msb}
-use Rattle.bits.specs.BitsLaws.{length-msb}
-use Rattle.code_tables.specs.CodesLaws.{begins-msb, begins-long}
+use Rattle.bits.specs.BitsLaws.{length_msb}
+use Rattle.code_tables.specs.CodesLaws.{begins-msb, begins_long}
 use Rattle.code_tables.proofs.inner.begins_bits.Statement.{statement}
 use Rattle.code_tables.proofs.inner.begins_bits.Tie as tie
 
@@ -22,7 +22,7 @@ returns c =
 returns-2 : tie.Need-returns-2
 returns-2 c =
     let a = c.before.args in
-    sym (begins-long (msb a.a a.x) (msb a.b a.y) (simp length-msb c.if1.false))
+    sym (begins_long (msb a.a a.x) (msb a.b a.y) (simp length_msb c.if1.false))
 
 pub begins-bits-spec : {M : Type 1} → statement M
 begins-bits-spec = tie.close (tie.spec cast-result shr-result returns returns-2)

@@ -5,7 +5,7 @@ use native.Mathlib.Omega.{arith}
 use lib.ListN.{length, drop}
 use borrow.Author.Rules.{rules}
 use Rattle.code_tables.specs.RangeForms.{meetings}
-use Rattle.code_tables.specs.RangeFormsLaws.{meetings-step, meetings-end}
+use Rattle.code_tables.specs.RangeFormsLaws.{meetings-step, meetings_end}
 use Rattle.code_tables.proofs.inner.count_meetings.Statement.{statement}
 use Rattle.code_tables.proofs.inner.count_meetings.Tie as tie
 
@@ -58,7 +58,7 @@ returns : tie.Need-returns invariant-loop decreases-loop
 returns c =
     let u = c.before in
     let a = u.before.before.before.args in
-    omega (arith, meetings-end a.low a.high a.lows.now a.highs.now u.loop.k c.loop-test.false, u.loop.invariant.2)
+    omega (arith, meetings_end a.low a.high a.lows.now a.highs.now u.loop.k c.loop-test.false, u.loop.invariant.2)
 
 pub count-meetings-spec : {M : Type 1} → statement M
 count-meetings-spec =

@@ -8,7 +8,7 @@ use lib.ListN.{length}
 use borrow.Author.Count.{below_more}
 use Rattle.bits.specs.Bits.{msb}
 use Rattle.code_tables.specs.Codes.{begins, codes_of, code}
-use Rattle.code_tables.specs.CodesLaws.{good-is, code_at, length-codesOf}
+use Rattle.code_tables.specs.CodesLaws.{good_is, code_at, length_codes_of}
 use Rattle.code_tables.proofs.inner.find_code.Statement.{statement}
 use Rattle.code_tables.proofs.inner.find_code.Tie as tie
 
@@ -31,7 +31,7 @@ begins-bits-requires : tie.Need-begins-bits-requires invariant-loop decreases-lo
 begins-bits-requires c κs =
     let u = c.before.before.before in
     let s = u.before.before in
-    let g = good-is s.args.table.now s.requires.2 in
+    let g = good_is s.args.table.now s.requires.2 in
     let i : ℕ = u.loop.i in
     let h : i < length s.args.table.now / 3 = omega arith in
     (rw c.entry-len.ensures (g.long i h), s.requires.0, rw (c.entry-len.ensures, c.before.entry-val.ensures) (g.small i h), s.requires.1)
@@ -50,7 +50,7 @@ returns : tie.Need-returns invariant-loop decreases-loop
 returns c =
     let u = c.before.before.before.before.before in
     record {
-      within = rw length-codesOf (omega arith);
+      within = rw length_codes_of (omega arith);
       before = u.loop.invariant.1;
       found = λ _. sym (tested c.before) ∙ c.if1.true;
     }
@@ -68,9 +68,9 @@ returns-2 : tie.Need-returns-2 invariant-loop decreases-loop
 returns-2 c =
     let t : List ℕ = c.before.before.before.args.table.now in
     record {
-      within = rw length-codesOf (omega arith);
+      within = rw length_codes_of (omega arith);
       before = c.before.loop.invariant.1;
-      found = λ h. absurd (omega (arith, length-codesOf t));
+      found = λ h. absurd (omega (arith, length_codes_of t));
     }
 
 pub find-code-spec : {M : Type 1} → statement M

@@ -5,7 +5,7 @@ use mathlib.Core.List.{List}
 use native.Mathlib.Omega.{arith}
 use lib.ListN.{length}
 use borrow.Author.Rules.{rules}
-use Rattle.code_tables.specs.RangeFormsLaws.{length-ends, ranges-free}
+use Rattle.code_tables.specs.RangeFormsLaws.{length_ends, ranges_free}
 use Rattle.code_tables.proofs.inner.prefix_free.Statement.{statement}
 use Rattle.code_tables.proofs.inner.prefix_free.Tie as tie
 
@@ -25,8 +25,8 @@ ranges-apart-requires c κs =
     let l = h.before.before.before.before in
     let s = l.before.before.before.before.before in
     let t : List ℕ = s.args.table.now in
-    let size = ap length l.range-ends.ensures ∙ length-ends 0 t in
-    (size ∙ sym (ap length h.range-ends2.ensures ∙ length-ends 1 t), rw (size ∙ sym s.requires.1) s.requires.3)
+    let size = ap length l.range-ends.ensures ∙ length_ends 0 t in
+    (size ∙ sym (ap length h.range-ends2.ensures ∙ length_ends 1 t), rw (size ∙ sym s.requires.1) s.requires.3)
 
 same_length : tie.Need-same-length
 same_length c = search rules
@@ -39,7 +39,7 @@ returns c =
     let h = c.before.before.before.before.before in
     let l = h.before.before.before.before in
     let s = l.before.before.before.before.before in
-    sym (rw (← ranges-free s.args.table.now s.requires.0, ← l.range-ends.ensures, ← h.range-ends2.ensures) (sym c.ranges_Apart.ensures))
+    sym (rw (← ranges_free s.args.table.now s.requires.0, ← l.range-ends.ensures, ← h.range-ends2.ensures) (sym c.ranges_apart.ensures))
 
 pub prefix-free-spec : {M : Type 1} → statement M
 prefix-free-spec =

@@ -1,7 +1,7 @@
 -- `inner::range_end` meets its contract. A range's end has 32 bits, so that its parts fit too.
 use Prim.Native.Nat.{◌+◌, ◌-◌, ◌*◌, ◌<◌}
 use native.Mathlib.Omega.{arith}
-use Rattle.code_tables.specs.RangeFormsLaws.{end-small}
+use Rattle.code_tables.specs.RangeFormsLaws.{end_small}
 use Rattle.code_tables.proofs.inner.range_end.Statement.{statement}
 use Rattle.code_tables.proofs.inner.range_end.Tie as tie
 
@@ -17,7 +17,7 @@ small : (c : tie.After-power-of-two) →
     a.v * size + a.e * (size - 1) < 4294967296
 small c =
     let s = c.before in
-    rw c.power-of-two.ensures.0 (end-small s.args.e s.args.v s.args.n s.requires.0 s.requires.2 s.requires.3)
+    rw c.power-of-two.ensures.0 (end_small s.args.e s.args.v s.args.n s.requires.0 s.requires.2 s.requires.3)
 
 mul-result : tie.Need-overflow-mul-result
 mul-result c = omega (arith, small c)

@@ -8,14 +8,14 @@ use lib.Dec.{eqb}
 use lib.ListN.{length, drop, get_or}
 use borrow.Author.Tests.{eq-eqb, ne_eqb}
 use borrow.Author.Rules.{rules}
-use Rattle.bits.specs.BasicsLaws.{part-from, length_part}
-use Rattle.code_tables.specs.RangeForms.{meetings, rangesApart}
-use Rattle.code_tables.specs.RangeFormsLaws.{apart-ranges-step, apart-ranges-end}
+use Rattle.bits.specs.BasicsLaws.{part_from_lem, length_part}
+use Rattle.code_tables.specs.RangeForms.{meetings, ranges_apart}
+use Rattle.code_tables.specs.RangeFormsLaws.{apart_ranges_step, apart_ranges_end}
 use Rattle.code_tables.proofs.inner.ranges_apart.Statement.{statement}
 use Rattle.code_tables.proofs.inner.ranges_apart.Tie as tie
 
 abbrev invariant-loop : tie.invariant-loop
-invariant-loop lows highs n i₀ i = rangesApart lows highs ≡ rangesApart (drop i lows) (drop i highs)
+invariant-loop lows highs n i₀ i = ranges_apart lows highs ≡ ranges_apart (drop i lows) (drop i highs)
 
 abbrev decreases-loop : tie.decreases-loop
 decreases-loop lows highs n i₀ i = length lows - i
@@ -76,7 +76,7 @@ step : (c : tie.After-count-meetings invariant-loop decreases-loop) →
     let u = c.before.before.before.before.before.before in
     let a = u.before.before.before.args in
     let k = u.loop.i + 1 in
-    rangesApart a.lows.now a.highs.now ≡ (eqb c.count-meetings.result 0 && rangesApart (drop k a.lows.now) (drop k a.highs.now))
+    ranges_apart a.lows.now a.highs.now ≡ (eqb c.count-meetings.result 0 && ranges_apart (drop k a.lows.now) (drop k a.highs.now))
 step c =
     let u = c.before.before.before.before.before.before in
     let s = u.before.before.before in
@@ -84,8 +84,8 @@ step c =
     let h : List ℕ = s.args.highs.now in
     let i : ℕ = u.loop.i in
     let e : c.count-meetings.result ≡ meetings (get_or l i 0) (get_or h i 0) (drop (i + 1) l) (drop (i + 1) h) =
-    rw (← part-from (i + 1) l, ← part-from (i + 1) h) c.count-meetings.ensures in
-    u.loop.invariant ∙ apart-ranges-step l h i (omega arith) s.requires.0 ∙ rw (← e)
+    rw (← part_from_lem (i + 1) l, ← part_from_lem (i + 1) h) c.count-meetings.ensures in
+    u.loop.invariant ∙ apart_ranges_step l h i (omega arith) s.requires.0 ∙ rw (← e)
 
 add-i : tie.Need-overflow-add-i invariant-loop decreases-loop
 add-i c = search rules
@@ -103,7 +103,7 @@ returns-2 : tie.Need-returns-2 invariant-loop decreases-loop
 returns-2 c =
     let u = c.before in
     let a = u.before.before.before.args in
-    sym (u.loop.invariant ∙ apart-ranges-end a.lows.now a.highs.now u.loop.i c.loop-test.false)
+    sym (u.loop.invariant ∙ apart_ranges_end a.lows.now a.highs.now u.loop.i c.loop-test.false)
 
 pub ranges-apart-spec : {M : Type 1} → statement M
 ranges-apart-spec =

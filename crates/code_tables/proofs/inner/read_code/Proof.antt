@@ -7,11 +7,11 @@ use lib.ListN.{length, take, drop, length-drop}
 use borrow.Author.Rules.{rules}
 use Rattle.bits.specs.Basics.{pick}
 use Rattle.bits.specs.Bits.{msb, bits_of}
-use Rattle.bits.specs.BitsLaws.{length-msb, length-bitsOf}
+use Rattle.bits.specs.BitsLaws.{length_msb, length_bits_of}
 use Rattle.code_tables.specs.CodeReadLaws.{read_found, read_none}
-use Rattle.code_tables.specs.Codes.{codes_of, read_code, anyStart, code}
-use Rattle.code_tables.specs.CodesLaws.{code_at, length-codesOf, code_fits}
-use Rattle.bits.specs.ReadLaws.{run-lt, run-msb, take_min}
+use Rattle.code_tables.specs.Codes.{codes_of, read_code, any_start, code}
+use Rattle.code_tables.specs.CodesLaws.{code_at, length_codes_of, code_fits}
+use Rattle.bits.specs.ReadLaws.{run_lt, run-msb, take_min}
 use Rattle.code_tables.specs.declared.svq1_vlc.CodeRead.TheVariants.{NoCode, Ends}
 use Rattle.code_tables.proofs.inner.read_code.Statement.{statement}
 use Rattle.code_tables.proofs.inner.read_code.Tie as tie
@@ -24,26 +24,26 @@ seen c =
     let a = c.before.before.before.before.args in
     let s : List ℕ = a.s.now in
     let m : ℕ = c.before.window.result in
-    let left : length (drop a.at (bits_of s)) ≡ 8 * length s - a.at = length-drop a.at (bits_of s) ∙ ap (λ (n : ℕ). n - a.at) (length-bitsOf s) in
+    let left : length (drop a.at (bits_of s)) ≡ 8 * length s - a.at = length-drop a.at (bits_of s) ∙ ap (λ (n : ℕ). n - a.at) (length_bits_of s) in
     let e : m ≡ min 32 (length (drop a.at (bits_of s))) = rw left c.before.window.ensures in
     rw c.get-bits.ensures (run-msb s a.at m (omega arith) ∙ rw e (take_min 32 (drop a.at (bits_of s))))
 
 small : (c : tie.After-get-bits) → c.get-bits.result < 2 ^ c.before.window.result
 small c =
     let a = c.before.before.before.before.args in
-    rw c.get-bits.ensures (run-lt a.s.now a.at c.before.window.result (omega arith))
+    rw c.get-bits.ensures (run_lt a.s.now a.at c.before.window.result (omega arith))
 
 -- no code begins the bits
 none : (c : tie.Else1) →
     let s = c.before.before.before.before.before.before in
     read_code (codes_of s.args.table.now) (bits_of s.args.s.now) s.args.at
-    ≡ pick (anyStart (codes_of s.args.table.now) (msb c.before.before.before.window.result c.before.before.get-bits.result)) Ends NoCode
+    ≡ pick (any_start (codes_of s.args.table.now) (msb c.before.before.before.window.result c.before.before.get-bits.result)) Ends NoCode
 none c =
     let s = c.before.before.before.before.before.before in
     let t : List ℕ = s.args.table.now in
     let f = c.before.find-code in
     rw (seen c.before.before) (read_none (codes_of t) (bits_of s.args.s.now) s.args.at 32 (code_fits t s.requires.1)
-    (λ k h. rw (seen c.before.before) at (f.ensures.before k (omega (arith, length-codesOf t)))))
+    (λ k h. rw (seen c.before.before) at (f.ensures.before k (omega (arith, length_codes_of t)))))
 
 window-requires : tie.Need-window-requires
 window-requires c κs = search rules
@@ -74,9 +74,9 @@ returns c =
     let i : ℕ = f.result in
     let g = c.before.before.before in
     let l : i < length t / 3 = omega arith in
-    let n : length (code (codes_of t) i) ≡ c.entry-len.result = rw (code_at t i l, length-msb) (sym c.entry-len.ensures) in
-    rw (← n) (sym (read_found (codes_of t) (bits_of s.args.s.now) s.args.at 32 (code_fits t s.requires.1) i (rw (length-codesOf t) l)
-    (λ k h. rw (seen g) at (f.ensures.before k h)) (rw (seen g) at (f.ensures.found (rw (length-codesOf t) l)))))
+    let n : length (code (codes_of t) i) ≡ c.entry-len.result = rw (code_at t i l, length_msb) (sym c.entry-len.ensures) in
+    rw (← n) (sym (read_found (codes_of t) (bits_of s.args.s.now) s.args.at 32 (code_fits t s.requires.1) i (rw (length_codes_of t) l)
+    (λ k h. rw (seen g) at (f.ensures.before k h)) (rw (seen g) at (f.ensures.found (rw (length_codes_of t) l)))))
 
 any-start-requires : tie.Need-any-start-requires
 any-start-requires c κs = (omega arith, small c.before.before, c.before.before.before.before.before.before.requires.1)

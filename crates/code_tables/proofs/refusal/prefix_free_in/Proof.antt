@@ -5,7 +5,7 @@ use native.Mathlib.Omega.{arith}
 use lib.ListN.{length, drop, length-drop}
 use lib.Seq.{length-take-le}
 use borrow.Author.Rules.{rules}
-use Rattle.bits.specs.BasicsLaws.{front-size}
+use Rattle.bits.specs.BasicsLaws.{front_size}
 use Rattle.code_tables.proofs.refusal.prefix_free_in.Statement.{statement}
 use Rattle.code_tables.proofs.refusal.prefix_free_in.Tie as tie
 

@@ -2,8 +2,8 @@
 use mathlib.Core.Path.{sym, ◌∙◌}
 use lib.ListN.{length}
 use borrow.Author.Rules.{rules}
-use Rattle.code_tables.specs.CallsLaws.{code-passes}
-use Rattle.bits.specs.CallsLaws.{put_refused, put-done}
+use Rattle.code_tables.specs.CallsLaws.{code_passes}
+use Rattle.bits.specs.CallsLaws.{put_refused, put_done}
 use Rattle.code_tables.proofs.svq1_enc.push_code.Statement.{statement}
 use Rattle.code_tables.proofs.svq1_enc.push_code.Tie as tie
 
@@ -17,7 +17,7 @@ put-code-requires : tie.Need-put-code-requires
 put-code-requires c κs =
     let q = c.before in
     let a = q.before.before.before.before.args in
-    let f = code-passes (length a.out.now) a.at a.table.now a.position (sym q.before.code-refusal.ensures ∙ q.if1.false) in
+    let f = code_passes (length a.out.now) a.at a.table.now a.position (sym q.before.code-refusal.ensures ∙ q.if1.false) in
     (f.entry, f.fits)
 
 same_length : tie.Need-same-length
@@ -27,7 +27,7 @@ returns-2 : tie.Need-returns-2
 returns-2 c =
     let p = c.before.before.put-code in
     let q = c.before.before.before.before in
-    put-done _ _ _ _ _ _ (sym q.before.code-refusal.ensures ∙ q.if1.false) p.ensures.behind p.ensures.bits
+    put_done _ _ _ _ _ _ (sym q.before.code-refusal.ensures ∙ q.if1.false) p.ensures.behind p.ensures.bits
 
 pub push-code-spec : {M : Type 1} → statement M
 push-code-spec =

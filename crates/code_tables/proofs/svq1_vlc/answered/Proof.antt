@@ -1,7 +1,7 @@
 -- `svq1_vlc::answered` meets its contract. Case by case.
 use mathlib.Core.Path.{sym, ap}
 use borrow.Author.Rules.{rules}
-use Rattle.code_tables.specs.Calls.{readAnswer}
+use Rattle.code_tables.specs.Calls.{read_answer}
 use Rattle.code_tables.proofs.svq1_vlc.answered.Statement.{statement}
 use Rattle.code_tables.proofs.svq1_vlc.answered.Tie as tie
 
@@ -15,7 +15,7 @@ enum-told-2 : tie.Need-enum-told-2
 enum-told-2 c = search rules
 
 returns : tie.Need-returns
-returns c = sym (ap readAnswer c.before.read.given.1)
+returns c = sym (ap read_answer c.before.read.given.1)
 
 returns-2 : tie.Need-returns-2
 returns-2 c = search rules

@@ -2,10 +2,10 @@
 use mathlib.Core.Path.{sym, ap, ◌∙◌}
 use lib.ListN.{length}
 use borrow.Author.Rules.{rules}
-use Rattle.bits.specs.BasicsLaws.{or-first, or-next}
-use Rattle.code_tables.specs.Calls.{code_at, readAnswer}
-use Rattle.bits.specs.CallsLaws.{start-passes, answer-refused, answer-given}
-use Rattle.code_tables.specs.CallsLaws.{table-passes}
+use Rattle.bits.specs.BasicsLaws.{or_first, or_next}
+use Rattle.code_tables.specs.Calls.{code_at, read_answer}
+use Rattle.bits.specs.CallsLaws.{start_passes, answer_refused, answer_given}
+use Rattle.code_tables.specs.CallsLaws.{table_passes}
 use Rattle.code_tables.proofs.svq1_vlc.read_code.Statement.{statement}
 use Rattle.code_tables.proofs.svq1_vlc.read_code.Tie as tie
 
@@ -16,7 +16,7 @@ returns : tie.Need-returns
 unfolding code_at
 returns c =
     let r = c.before.table-refusal in
-    answer-refused _ _ _ (r.ensures ∙ sym (or-first _ _ (λ e. c.if1.true (r.ensures ∙ e)))) c.if1.true
+    answer_refused _ _ _ (r.ensures ∙ sym (or_first _ _ (λ e. c.if1.true (r.ensures ∙ e)))) c.if1.true
 
 start-refusal-requires : tie.Need-start-refusal-requires
 start-refusal-requires c κs = search rules
@@ -26,15 +26,15 @@ unfolding code_at
 returns-2 c =
     let q = c.before.before in
     let passed = sym q.before.table-refusal.ensures ∙ q.if1.false in
-    answer-refused _ _ _ (c.before.start-refusal.ensures ∙ sym (or-next _ _ passed)) c.if2.true
+    answer_refused _ _ _ (c.before.start-refusal.ensures ∙ sym (or_next _ _ passed)) c.if2.true
 
 read-code-requires : tie.Need-read-code-requires
 read-code-requires c κs =
     let u = c.before.before in
     let q = u in
     let a = q.before.before.before.before.args in
-    let f = start-passes (length a.s.now) a.at (sym c.before.start-refusal.ensures ∙ c.if2.false) in
-    (f, (table-passes a.table.now (sym q.before.table-refusal.ensures ∙ q.if1.false)).0)
+    let f = start_passes (length a.s.now) a.at (sym c.before.start-refusal.ensures ∙ c.if2.false) in
+    (f, (table_passes a.table.now (sym q.before.table-refusal.ensures ∙ q.if1.false)).0)
 
 answered-requires : tie.Need-answered-requires
 answered-requires c κs = search rules
@@ -45,8 +45,8 @@ returns-3 c =
     let u = c.before.before in
     let q = u.before.before in
     let passed = sym q.before.table-refusal.ensures ∙ q.if1.false in
-    let none = or-next _ _ passed ∙ sym u.before.start-refusal.ensures ∙ u.if2.false in
-    c.answered.ensures ∙ ap readAnswer c.before.read-code.ensures ∙ sym (answer-given _ _ none)
+    let none = or_next _ _ passed ∙ sym u.before.start-refusal.ensures ∙ u.if2.false in
+    c.answered.ensures ∙ ap read_answer c.before.read-code.ensures ∙ sym (answer_given _ _ none)
 
 pub read-code-spec : {M : Type 1} → statement M
 read-code-spec =

@@ -1,9 +1,9 @@
 -- A byte of a vector of L0 to L3 has the table's number; behind a vector's last byte, and at L4 and L5, there is none. Assumes nothing.
 use Prim.Native.Nat.{◌+◌, ◌<◌}
 use native.Mathlib.Omega.{arith}
-use Rattle.codebook.specs.CodebookCallsLaws.{no-level, no_byte, place_at}
-use Rattle.codebook.specs.Raster.{rasterNumbers}
-use Rattle.codebook.specs.RasterLaws.{numbers-in}
+use Rattle.codebook.specs.CodebookCallsLaws.{no_level, no_byte, place_at_lem}
+use Rattle.codebook.specs.Raster.{raster_numbers}
+use Rattle.codebook.specs.RasterLaws.{numbers_in}
 use Rattle.book.specs.Level.{area}
 use borrow.Author.Rules.{rules}
 use Rattle.codebook.proofs.svq1_codebook.vector_byte_to_raster.Statement.{statement}
@@ -16,7 +16,7 @@ returns : tie.Need-returns
 returns c =
     let d = c.before.number.result in
     let b = c.before.before.args.byte in
-    rw (← c.before.number.ensures.0) (no-level d b c.if1.true)
+    rw (← c.before.number.ensures.0) (no_level d b c.if1.true)
 
 vector-length-requires : tie.Need-vector-length-requires
 vector-length-requires c κs = search rules
@@ -39,8 +39,8 @@ inside c =
     rw (← c.before.before.before.before.before.number.ensures.0) at (rw c.before.before.before.vector-length.ensures at c.before.before.if2.false)
 
 -- so its number is one of the table
-numbered : (c : tie.After-raster-start) → c.raster-start.result + c.before.before.before.before.before.before.args.byte < rasterNumbers
-numbered c = omega (arith, inside c, numbers-in c.before.before.before.before.before.number.result (omega arith), c.raster-start.ensures)
+numbered : (c : tie.After-raster-start) → c.raster-start.result + c.before.before.before.before.before.before.args.byte < raster_numbers
+numbered c = omega (arith, inside c, numbers_in c.before.before.before.before.before.number.result (omega arith), c.raster-start.ensures)
 
 add-i : tie.Need-overflow-add-i
 add-i c = omega (arith, numbered c)
@@ -57,7 +57,7 @@ returns-3 c =
     let d = n.number.result in
     let b = n.before.args.byte in
     rw (← n.number.ensures.0)
-    (place_at d b _ (omega arith) (inside c) (rw c.raster-start.ensures (c.before.raster-order.ensures.rule d b (omega arith) (inside c))))
+    (place_at_lem d b _ (omega arith) (inside c) (rw c.raster-start.ensures (c.before.raster-order.ensures.rule d b (omega arith) (inside c))))
 
 pub vector-byte-to-raster-spec : {M : Type 1} → statement M
 vector-byte-to-raster-spec =

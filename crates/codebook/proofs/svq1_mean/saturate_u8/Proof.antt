@@ -1,7 +1,7 @@
 -- `saturate_u8` meets its contract: the two tests tell which case of the definition it is. Assumes nothing.
 use mir.ValLaws.{to_z-of_z}
 use mir.Syntax.{w16}
-use Rattle.codebook.specs.MeanLaws.{saturate-below, saturate-above, saturate-within}
+use Rattle.codebook.specs.MeanLaws.{saturate-below, saturate_above, saturate-within}
 use Rattle.codebook.proofs.svq1_mean.saturate_u8.Statement.{statement}
 use Rattle.codebook.proofs.svq1_mean.saturate_u8.Tie as tie
 
@@ -15,7 +15,7 @@ returns-2 : tie.Need-returns-2
 returns-2 c =
     let v = c.before.before.args.value in
     let e = to_z-of_z w16 v c.before.before.ranges.value in
-    saturate-above v (simp e at c.if2.true)
+    saturate_above v (simp e at c.if2.true)
 
 cast-result : tie.Need-overflow-cast-result
 cast-result c =

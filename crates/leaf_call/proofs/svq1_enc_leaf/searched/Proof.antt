@@ -2,10 +2,10 @@
 use mathlib.Core.Path.{refl, ◌∙◌}
 use native.Mathlib.Omega.{arith}
 use Rattle.bits.specs.Basics.{Bytes}
-use Rattle.book.specs.Level.{levelNumber}
-use Rattle.book.specs.LevelLaws.{level-most}
-use Rattle.leaf_call.specs.LeafAnswerLaws.{found-level}
-use Rattle.leaf_search.specs.LevelLeafNeedsLaws.{found-fits}
+use Rattle.book.specs.Level.{level_number}
+use Rattle.book.specs.LevelLaws.{level_most}
+use Rattle.leaf_call.specs.LeafAnswerLaws.{found_level}
+use Rattle.leaf_search.specs.LevelLeafNeedsLaws.{found_fits}
 use borrow.Author.Rules.{rules}
 use Rattle.leaf_call.proofs.svq1_enc_leaf.searched.Statement.{statement}
 use Rattle.leaf_call.proofs.svq1_enc_leaf.searched.Tie as tie
@@ -24,7 +24,7 @@ level-leaf-requires c κs =
     let s = c.before.before.before.before.before.before.before.before.before.before.before.before in
     let q = s.requires in
     record {
-      level = level-most s.args.level;
+      level = level_most s.args.level;
       target = q.target;
       predictor = q.predictor;
       sums = refl;
@@ -41,9 +41,9 @@ book-leaf-bits-requires c κs =
     let l = c.before.before.before.level-leaf in
     let r = c.before.before.before.before.before.before.before.before.before.raise-codebook in
     let bytes : Bytes a.codebook.now = λ k. omega (arith, c.before.before.before.before.before.before.before.before.before.before.before.before.before.before.shared-slice-known2.given k) in
-    let f = found-level a.codebook.now r.new.1.0 a.terms (levelNumber a.level) a.target.now a.predictor.now
+    let f = found_level a.codebook.now r.new.1.0 a.terms (level_number a.level) a.target.now a.predictor.now
     l.result _ l.new.1.1.1.1.1.0 bytes r.ensures q.stages q.target l.ensures in
-    (q.known, found-fits a.codebook.now a.terms (levelNumber a.level) a.target.now a.predictor.now l.result.code l.result.stages l.result.error _ q.stages q.skips f)
+    (q.known, found_fits a.codebook.now a.terms (level_number a.level) a.target.now a.predictor.now l.result.code l.result.stages l.result.error _ q.stages q.skips f)
 
 found-answer-requires : tie.Need-found-answer-requires
 found-answer-requires c κs = search rules
@@ -59,7 +59,7 @@ returns c =
     let l = c.before.before.before.before.before.level-leaf in
     let r = c.before.before.before.before.before.before.before.before.before.before.before.raise-codebook in
     let bytes : Bytes a.codebook.now = λ k. omega (arith, c.before.before.before.before.before.before.before.before.before.before.before.before.before.before.before.before.shared-slice-known2.given k) in
-    let f = found-level a.codebook.now r.new.1.0 a.terms (levelNumber a.level) a.target.now a.predictor.now
+    let f = found_level a.codebook.now r.new.1.0 a.terms (level_number a.level) a.target.now a.predictor.now
     l.result _ l.new.1.1.1.1.1.0 bytes r.ensures q.stages q.target l.ensures in
     rw c.found-answer.ensures.0
     (record { accepted = refl; leaf = f; counted = c.before.book-leaf-bits.ensures l.result.stages c.found-answer.ensures.1; behind = l.ensures.behind })

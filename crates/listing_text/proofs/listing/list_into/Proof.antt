@@ -6,31 +6,31 @@ use lib.ListN.{length}
 use lib.Seq.{length-take-le}
 use Rattle.macroblock.specs.Macroblock.{Given}
 use Rattle.macroblock.specs.Choice.{Task}
-use Rattle.macroblock_choice.specs.ChosenNeeds.{taskBy}
-use Rattle.macroblock.specs.MacroblockNeeds.{givenBy}
-use Rattle.listing_text.specs.ListedLaws.{Sizes, sizes, recon-long, vx-long, vy-long, lent-empty}
+use Rattle.macroblock_choice.specs.ChosenNeeds.{task_by}
+use Rattle.macroblock.specs.MacroblockNeeds.{given_by}
+use Rattle.listing_text.specs.ListedLaws.{Sizes, sizes, recon_long, vx_long, vy_long, lent_empty}
 use borrow.Author.Rules.{rules}
 use Rattle.listing_text.proofs.listing.list_into.Statement.{statement}
 use Rattle.listing_text.proofs.listing.list_into.Tie as tie
 
 -- the plane, what is asked of it, its sizes, and how long the program's slices are
 abbrev plane : tie.Start → Given
-plane e = let a = e.args in givenBy a.canvas a.reference.now a.book.now a.codebook.now
+plane e = let a = e.args in given_by a.canvas a.reference.now a.book.now a.codebook.now
 
 abbrev task : tie.Start → Task
-task e = taskBy e.args.source.now e.args.settings
+task e = task_by e.args.source.now e.args.settings
 
 sized : (e : tie.Start) → Sizes (plane e)
 sized e = sizes (plane e) (task e) e.requires.0
 
 samples : (e : tie.Start) → e.args.canvas.stride * e.args.canvas.rows ≤ length e.args.recon.now
-samples e = let a = e.args in recon-long (plane e) (task e) e.requires.0 a.out.now a.recon.now a.vx.now a.vy.now a.stated.now e.requires.1
+samples e = let a = e.args in recon_long (plane e) (task e) e.requires.0 a.out.now a.recon.now a.vx.now a.vy.now a.stated.now e.requires.1
 
 across : (e : tie.Start) → 4 * (e.args.canvas.rows / 16 * (e.args.canvas.stride / 16)) ≤ length e.args.vx.now
-across e = let a = e.args in vx-long (plane e) (task e) e.requires.0 a.out.now a.recon.now a.vx.now a.vy.now a.stated.now e.requires.1
+across e = let a = e.args in vx_long (plane e) (task e) e.requires.0 a.out.now a.recon.now a.vx.now a.vy.now a.stated.now e.requires.1
 
 down : (e : tie.Start) → 4 * (e.args.canvas.rows / 16 * (e.args.canvas.stride / 16)) ≤ length e.args.vy.now
-down e = let a = e.args in vy-long (plane e) (task e) e.requires.0 a.out.now a.recon.now a.vx.now a.vy.now a.stated.now e.requires.1
+down e = let a = e.args in vy_long (plane e) (task e) e.requires.0 a.out.now a.recon.now a.vx.now a.vy.now a.stated.now e.requires.1
 
 mul-samples : tie.Need-overflow-mul-samples
 mul-samples c = omega (arith, (sized c.before.before.before.before.before.before.before.before.before.before.before).small-area)
@@ -63,7 +63,7 @@ list-written-requires : tie.Need-list-written-requires
 list-written-requires c κs =
     let e = c.before.before.before.before.before.before.before.before.before.before.before.before.before.before.before.before.before.before.before in
     let a = e.args in
-    (e.requires.0, lent-empty (plane e) (task e) e.requires.0 a.out.now a.recon.now a.vx.now a.vy.now a.stated.now e.requires.1, e.requires.2)
+    (e.requires.0, lent_empty (plane e) (task e) e.requires.0 a.out.now a.recon.now a.vx.now a.vy.now a.stated.now e.requires.1, e.requires.2)
 
 same_length : tie.Need-same-length
 same_length c = search rules

@@ -22,7 +22,7 @@ slice-aggregate-list-into-5 c = search rules
 list-into-requires : tie.Need-list-into-requires
 list-into-requires c κs =
     let s = c.before.before.before.before.before.before.before.before.before.before.before in
-    (s.requires.0, record { output = refl; samples = refl; vectors-x = refl; vectors-y = refl; numbers = refl }, s.requires.1)
+    (s.requires.0, record { output = refl; samples = refl; vectors_x = refl; vectors_y = refl; numbers = refl }, s.requires.1)
 
 same_length : tie.Need-same-length
 same_length c = search rules

@@ -1,23 +1,23 @@
 -- What the writer leaves is put as its text. Assumes nothing.
 use Rattle.macroblock.specs.Macroblock.{Given}
 use Rattle.macroblock.specs.Choice.{Task}
-use Rattle.macroblock.specs.Slices.{slicesBy, Lent, lent_by}
-use Rattle.macroblock_choice.specs.ChosenNeeds.{taskBy}
-use Rattle.macroblock.specs.MacroblockNeeds.{givenBy}
-use Rattle.listing_text.specs.ListedLaws.{plane-ended, plane-text}
+use Rattle.macroblock.specs.Slices.{slices_by, Lent, lent_by}
+use Rattle.macroblock_choice.specs.ChosenNeeds.{task_by}
+use Rattle.macroblock.specs.MacroblockNeeds.{given_by}
+use Rattle.listing_text.specs.ListedLaws.{plane_ended, plane_text_lem}
 use borrow.Author.Rules.{rules}
 use Rattle.listing_text.proofs.listing.list_written.Statement.{statement}
 use Rattle.listing_text.proofs.listing.list_written.Tie as tie
 
 -- the plane, what is asked of it, and what is lent
 abbrev plane : tie.Start → Given
-plane e = let a = e.args in givenBy a.canvas a.reference.now a.book.now a.codebook.now
+plane e = let a = e.args in given_by a.canvas a.reference.now a.book.now a.codebook.now
 
 abbrev task : tie.Start → Task
-task e = taskBy e.args.source.now e.args.settings
+task e = task_by e.args.source.now e.args.settings
 
 abbrev lent : tie.Start → Lent
-lent e = let a = e.args in lent_by a.out.now (slicesBy a.recon.now a.vx.now a.vy.now)
+lent e = let a = e.args in lent_by a.out.now (slices_by a.recon.now a.vx.now a.vy.now)
 
 encode-inter-plane-stated-requires : tie.Need-encode-inter-plane-stated-requires
 encode-inter-plane-stated-requires c κs = search rules
@@ -26,7 +26,7 @@ put-plane-requires : tie.Need-put-plane-requires
 put-plane-requires c κs =
     let e = c.before.before.before.before.before.before.before.before.before.before.before.before.before.before.before.before.before.before.before.before.before.before.before.before.before.before.before.before.before in
     let w = c.before.before.before.before.before.before.before.before.before.before.before.before.before.encode-inter-plane-stated in
-    (plane-ended (plane e) (task e) e.requires.0 (lent e) e.args.stated.now e.requires.1 w.result _ _ w.ensures w.auto.1.1.1.1.1.1.1.1.0 w.auto.1.1.1.1.1.1.1.1.1.1.1.0, e.requires.2)
+    (plane_ended (plane e) (task e) e.requires.0 (lent e) e.args.stated.now e.requires.1 w.result _ _ w.ensures w.auto.1.1.1.1.1.1.1.1.0 w.auto.1.1.1.1.1.1.1.1.1.1.1.0, e.requires.2)
 
 same_length : tie.Need-same-length
 same_length c = search rules
@@ -50,7 +50,7 @@ returns : tie.Need-returns
 returns c =
     let e = c.before.before.before.before.before.before.before.before.before.before.before.before.before.before.before.before.before.before.before.before.before.before.before.before.before.before.before.before.before.before.before.before in
     let w = c.before.before.before.before.before.before.before.before.before.before.before.before.before.before.before.before.encode-inter-plane-stated in
-    rw (← plane-text (plane e) (task e) e.requires.0 (lent e) e.args.stated.now e.requires.1 w.result _ _ w.ensures) c.before.before.put-plane.ensures
+    rw (← plane_text_lem (plane e) (task e) e.requires.0 (lent e) e.args.stated.now e.requires.1 w.result _ _ w.ensures) c.before.before.put-plane.ensures
 
 pub list-written-spec : {M : Type 1} → statement M
 list-written-spec =

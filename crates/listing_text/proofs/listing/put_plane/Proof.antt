@@ -1,14 +1,14 @@
 -- A refusal, or the lines and the total behind them. Assumes nothing.
 use native.Mathlib.Omega.{arith}
 use Rattle.visible_error.specs.Visible.{ShownPlane}
-use Rattle.visible_error.specs.VisibleNeeds.{shownBy}
-use Rattle.listing_text.specs.ListedLaws.{put-refused-end, put-listed-end}
+use Rattle.visible_error.specs.VisibleNeeds.{shown_by}
+use Rattle.listing_text.specs.ListedLaws.{put_refused_end, put_listed_end}
 use borrow.Author.Rules.{rules}
 use Rattle.listing_text.proofs.listing.put_plane.Statement.{statement}
 use Rattle.listing_text.proofs.listing.put_plane.Tie as tie
 
 abbrev plane : tie.Start → ShownPlane
-plane e = let a = e.args in shownBy a.canvas a.source.now a.recon.now
+plane e = let a = e.args in shown_by a.canvas a.source.now a.recon.now
 
 put-refused-requires : tie.Need-put-refused-requires
 put-refused-requires c κs = search rules
@@ -20,7 +20,7 @@ returns : tie.Need-returns
 returns c =
     let e = c.before.before.before.before.before.before.before.before.before.before in
     let a = e.args in
-    put-refused-end (plane e) a.stated.now a.end a.text.now e.requires.1 _ _ c.before.before.before.before.if1.true c.before.before.put_refused.ensures
+    put_refused_end (plane e) a.stated.now a.end a.text.now e.requires.1 _ _ c.before.before.before.before.if1.true c.before.before.put_refused.ensures
 
 put-lines-requires : tie.Need-put-lines-requires
 put-lines-requires c κs =
@@ -46,7 +46,7 @@ returns-2 c =
     let e = c.before.before.before.before.before.before.before.before.before.before.before.before.before.before.before in
     let a = e.args in
     let p = e.requires.0 in
-    put-listed-end (plane e) a.stated.now a.end a.text.now e.requires.1 _ _ _ _ c.before.before.before.before.before.before.before.before.before.if1.false (omega (arith, p.done, p.few)) c.before.before.before.before.before.before.before.put-lines.ensures (rw c.before.before.before.before.visible-total.ensures at c.before.before.put-total-line.ensures)
+    put_listed_end (plane e) a.stated.now a.end a.text.now e.requires.1 _ _ _ _ c.before.before.before.before.before.before.before.before.before.if1.false (omega (arith, p.done, p.few)) c.before.before.before.before.before.before.before.put-lines.ensures (rw c.before.before.before.before.visible-total.ensures at c.before.before.put-total-line.ensures)
 
 pub put-plane-spec : {M : Type 1} → statement M
 put-plane-spec =

@@ -1,12 +1,12 @@
 // A macroblock as it was read, shown and laid into the result slices.
 ghost use Rattle.std.specs.Prelude.{◌≡◌, length};
-ghost use Rattle.canvas.specs.Canvas.{blocksAlong};
+ghost use Rattle.canvas.specs.Canvas.{blocks_along};
 ghost use Rattle.tree.specs.NodeForms.{tree_of};
-ghost use Rattle.macroblock.specs.Slices.{slicesBy};
+ghost use Rattle.macroblock.specs.Slices.{slices_by};
 ghost use Rattle.macroblock.specs.Macroblock.{half_of};
-ghost use Rattle.macroblock.specs.MotionForms.{motionOf};
+ghost use Rattle.macroblock.specs.MotionForms.{motion_of};
 ghost use Rattle.macroblock.specs.SampleNeeds.{Shows};
-ghost use Rattle.macroblock.specs.LayingNeeds.{ShowingIf, Laying, LaysChoice, choiceBy};
+ghost use Rattle.macroblock.specs.LayingNeeds.{ShowingIf, Laying, LaysChoice, choice_by};
 
 use super::super::super::svq1_enc_inter::MbMotion;
 use super::super::super::svq1_enc_inter::inner::samples::{lay_block, show_coded, take_block};
@@ -27,8 +27,8 @@ fn show_choice(
     base: &mut [u8; 256],
     out: &mut [u8; 256],
 )
-    requires { ShowingIf skip (record { samples = reference.now; stride = canvas.stride; rows = canvas.rows }) (blocksAlong canvas.width) k (length raised.now) (half_of (motionOf motion vectors)) (tree_of blocks) × (length base.old ≡ 256) × (length out.old ≡ 256) }
-    ensures { Shows canvas reference.now raised.now k (choiceBy skip (motionOf motion vectors) (tree_of blocks)) out.new }
+    requires { ShowingIf skip (record { samples = reference.now; stride = canvas.stride; rows = canvas.rows }) (blocks_along canvas.width) k (length raised.now) (half_of (motion_of motion vectors)) (tree_of blocks) × (length base.old ≡ 256) × (length out.old ≡ 256) }
+    ensures { Shows canvas reference.now raised.now k (choice_by skip (motion_of motion vectors) (tree_of blocks)) out.new }
 {
     if skip {
         let stride = canvas.stride;
@@ -57,9 +57,9 @@ fn lay_shown(
     base: &mut [u8; 256],
     out: &mut [u8; 256],
 )
-    requires showing_if { ShowingIf skip (record { samples = reference.now; stride = canvas.stride; rows = canvas.rows }) (blocksAlong canvas.width) k (length raised.now) (half_of (motionOf motion vectors)) (tree_of blocks) × (length base.old ≡ 256) × (length out.old ≡ 256) }
-    requires laying { Laying canvas k vectors (slicesBy recon.old vx.old vy.old) }
-    ensures { LaysChoice canvas reference.now raised.now k (choiceBy skip (motionOf motion vectors) (tree_of blocks)) vectors (slicesBy recon.old vx.old vy.old) (slicesBy recon.new vx.new vy.new) }
+    requires showing_if { ShowingIf skip (record { samples = reference.now; stride = canvas.stride; rows = canvas.rows }) (blocks_along canvas.width) k (length raised.now) (half_of (motion_of motion vectors)) (tree_of blocks) × (length base.old ≡ 256) × (length out.old ≡ 256) }
+    requires laying { Laying canvas k vectors (slices_by recon.old vx.old vy.old) }
+    ensures { LaysChoice canvas reference.now raised.now k (choice_by skip (motion_of motion vectors) (tree_of blocks)) vectors (slices_by recon.old vx.old vy.old) (slices_by recon.new vx.new vy.new) }
 {
     show_choice(
         canvas, reference, raised, k, skip, motion, vectors, blocks, base, out,
@@ -90,9 +90,9 @@ pub fn lay_choice(
     vx: &mut [u8],
     vy: &mut [u8],
 )
-    requires showing_if { ShowingIf skip (record { samples = reference.now; stride = canvas.stride; rows = canvas.rows }) (blocksAlong canvas.width) k (length raised.now) (half_of (motionOf motion vectors)) (tree_of blocks) }
-    requires laying { Laying canvas k vectors (slicesBy recon.old vx.old vy.old) }
-    ensures { LaysChoice canvas reference.now raised.now k (choiceBy skip (motionOf motion vectors) (tree_of blocks)) vectors (slicesBy recon.old vx.old vy.old) (slicesBy recon.new vx.new vy.new) }
+    requires showing_if { ShowingIf skip (record { samples = reference.now; stride = canvas.stride; rows = canvas.rows }) (blocks_along canvas.width) k (length raised.now) (half_of (motion_of motion vectors)) (tree_of blocks) }
+    requires laying { Laying canvas k vectors (slices_by recon.old vx.old vy.old) }
+    ensures { LaysChoice canvas reference.now raised.now k (choice_by skip (motion_of motion vectors) (tree_of blocks)) vectors (slices_by recon.old vx.old vy.old) (slices_by recon.new vx.new vy.new) }
 {
     let mut base = [0u8; 256];
     let mut out = [0u8; 256];

@@ -4,14 +4,14 @@ ghost use Rattle.bits.specs.Basics.{All};
 ghost use Rattle.mv_cache.specs.CacheNeeds.{VectorSlices, BlocksRoom};
 ghost use Rattle.mv_cache.specs.Grid.{part};
 ghost use Rattle.compensation.specs.MovedForms.{Placed};
-ghost use Rattle.canvas.specs.Canvas.{blocksAlong};
+ghost use Rattle.canvas.specs.Canvas.{blocks_along};
 ghost use Rattle.vectors.specs.VectorsLaws.{Inside};
 ghost use Rattle.vectors.specs.declared.svq1_motion_predictor.Svq1Mv.{Svq1Mv};
 ghost use Rattle.tree.specs.NodeForms.{tree_of};
-ghost use Rattle.macroblock.specs.Slices.{slicesBy};
+ghost use Rattle.macroblock.specs.Slices.{slices_by};
 ghost use Rattle.macroblock.specs.Macroblock.{coded, half_of, baseline};
-ghost use Rattle.macroblock.specs.MotionForms.{motionOf};
-ghost use Rattle.macroblock.specs.MacroblockNeeds.{givenBy};
+ghost use Rattle.macroblock.specs.MotionForms.{motion_of};
+ghost use Rattle.macroblock.specs.MacroblockNeeds.{given_by};
 ghost use Rattle.macroblock.specs.SampleNeeds.{Stands, Laid, Showing, Shows, quarters};
 
 use super::super::super::svq1_enc_inter::MbMotion;
@@ -84,8 +84,8 @@ pub fn baseline_of(
     vectors: [Svq1Mv; 4],
     out: &mut [u8; 256],
 )
-    requires { Stands (record { samples = reference.now; stride = canvas.stride; rows = canvas.rows }) (blocksAlong canvas.width) k × (length out.old ≡ 256) }
-    ensures { (book codebook : List ℕ) → out.new ≡ baseline (givenBy canvas reference.now book codebook) k (motionOf motion vectors) }
+    requires { Stands (record { samples = reference.now; stride = canvas.stride; rows = canvas.rows }) (blocks_along canvas.width) k × (length out.old ≡ 256) }
+    ensures { (book codebook : List ℕ) → out.new ≡ baseline (given_by canvas reference.now book codebook) k (motion_of motion vectors) }
 {
     let stride = canvas.stride;
     let rows = canvas.rows;
@@ -101,7 +101,7 @@ pub fn baseline_of(
 
 // The half that a motion's tree is of.
 pub fn half_of(motion: MbMotion) -> Svq1Half
-    ensures { (vectors : List Svq1Mv) → result ≡ half_of (motionOf motion vectors) }
+    ensures { (vectors : List Svq1Mv) → result ≡ half_of (motion_of motion vectors) }
 {
     match motion {
         MbMotion::None => Svq1Half::Intra,
@@ -122,8 +122,8 @@ pub fn show_coded(
     base: &mut [u8; 256],
     out: &mut [u8; 256],
 )
-    requires { Showing (record { samples = reference.now; stride = canvas.stride; rows = canvas.rows }) (blocksAlong canvas.width) k (length raised.now) (half_of (motionOf motion vectors)) (tree_of blocks) × (length base.old ≡ 256) × (length out.old ≡ 256) }
-    ensures { Shows canvas reference.now raised.now k (coded (motionOf motion vectors) (tree_of blocks)) out.new }
+    requires { Showing (record { samples = reference.now; stride = canvas.stride; rows = canvas.rows }) (blocks_along canvas.width) k (length raised.now) (half_of (motion_of motion vectors)) (tree_of blocks) × (length base.old ≡ 256) × (length out.old ≡ 256) }
+    ensures { Shows canvas reference.now raised.now k (coded (motion_of motion vectors) (tree_of blocks)) out.new }
 {
     let half = half_of(motion);
     baseline_of(canvas, reference, k, motion, vectors, base);
@@ -143,7 +143,7 @@ pub fn lay_block(
     vy: &mut [u8],
 )
     requires { BlocksRoom 16 cols k recon.old × VectorSlices cols rows vx.old vy.old × (k < rows * cols) × All Inside vectors }
-    ensures { Laid cols k samples.now vectors (slicesBy recon.old vx.old vy.old) (slicesBy recon.new vx.new vy.new) }
+    ensures { Laid cols k samples.now vectors (slices_by recon.old vx.old vy.old) (slices_by recon.new vx.new vy.new) }
 {
     let a = vectors[0];
     let b = vectors[1];

@@ -1,15 +1,15 @@
 // The ways to code a macroblock that are tried, what each weighs, and which of two is kept.
 ghost use Rattle.std.specs.Prelude.{◌≡◌, List, ℕ, ◌≤◌, length};
 ghost use Rattle.bits.specs.Basics.{pick};
-ghost use Rattle.book.specs.Book.{bookRefusal};
+ghost use Rattle.book.specs.Book.{book_refusal};
 ghost use Rattle.vectors.specs.declared.svq1_motion_predictor.Svq1Mv.{Svq1Mv};
 ghost use Rattle.mv_cache.specs.Neighbours.{Near};
-ghost use Rattle.mv_cache.specs.CacheNeeds.{nearFrom};
-ghost use Rattle.canvas.specs.Canvas.{blocksAlong};
-ghost use Rattle.macroblock.specs.Macroblock.{skipped, motionMode};
+ghost use Rattle.mv_cache.specs.CacheNeeds.{near_from};
+ghost use Rattle.canvas.specs.Canvas.{blocks_along};
+ghost use Rattle.macroblock.specs.Macroblock.{skipped, motion_mode};
 ghost use Rattle.macroblock.specs.MacroblockLaws.{Codables};
-ghost use Rattle.macroblock.specs.MotionForms.{motionOf, Differs};
-ghost use Rattle.macroblock.specs.MacroblockNeeds.{givenBy};
+ghost use Rattle.macroblock.specs.MotionForms.{motion_of, Differs};
+ghost use Rattle.macroblock.specs.MacroblockNeeds.{given_by};
 ghost use Rattle.macroblock.specs.SampleNeeds.{Stands};
 ghost use Rattle.macroblock_choice.specs.CandidateNeeds.{choice_of, preferred, Stated, Skipping, CandidateOf};
 
@@ -59,8 +59,8 @@ fn skip_over(
     target: &[u8],
     here: &mut [u8; 256],
 ) -> MbCandidate
-    requires { Stands (record { samples = reference.now; stride = canvas.stride; rows = canvas.rows }) (blocksAlong canvas.width) k × (bookRefusal book.now ≡ 0) × (length target.now ≡ 256) × (length here.old ≡ 256) }
-    ensures { (choice_of result ≡ skipped) × ((codebook : List ℕ) (n : Near) → Stated (givenBy canvas reference.now book.now codebook) target.now k n result) }
+    requires { Stands (record { samples = reference.now; stride = canvas.stride; rows = canvas.rows }) (blocks_along canvas.width) k × (book_refusal book.now ≡ 0) × (length target.now ≡ 256) × (length here.old ≡ 256) }
+    ensures { (choice_of result ≡ skipped) × ((codebook : List ℕ) (n : Near) → Stated (given_by canvas reference.now book.now codebook) target.now k n result) }
 {
     let stride = canvas.stride;
     let rows = canvas.rows;
@@ -77,8 +77,8 @@ pub fn skip_candidate(
     k: usize,
     target: &[u8],
 ) -> MbCandidate
-    requires { Stands (record { samples = reference.now; stride = canvas.stride; rows = canvas.rows }) (blocksAlong canvas.width) k × (bookRefusal book.now ≡ 0) × (length target.now ≡ 256) }
-    ensures { (choice_of result ≡ skipped) × ((codebook : List ℕ) (n : Near) → Stated (givenBy canvas reference.now book.now codebook) target.now k n result) }
+    requires { Stands (record { samples = reference.now; stride = canvas.stride; rows = canvas.rows }) (blocks_along canvas.width) k × (book_refusal book.now ≡ 0) × (length target.now ≡ 256) }
+    ensures { (choice_of result ≡ skipped) × ((codebook : List ℕ) (n : Near) → Stated (given_by canvas reference.now book.now codebook) target.now k n result) }
 {
     let mut here = [0u8; 256];
     skip_over(canvas, reference, book, k, target, &mut here)
@@ -86,7 +86,7 @@ pub fn skip_candidate(
 
 // The mode of a motion.
 fn mode_of(motion: MbMotion) -> Svq1MbMode
-    ensures { (vectors : List Svq1Mv) → result ≡ motionMode (motionOf motion vectors) }
+    ensures { (vectors : List Svq1Mv) → result ≡ motion_mode (motion_of motion vectors) }
 {
     match motion {
         MbMotion::None => Svq1MbMode::Intra,
@@ -105,8 +105,8 @@ pub fn candidate_of(
     bits: u32,
     error: u32,
 ) -> MbCandidate
-    requires { (bookRefusal book.now ≡ 0) × Codables (nearFrom near) (motionOf motion vectors) × Differs (nearFrom near) motion × (bits ≤ 65536) }
-    ensures { CandidateOf book.now (nearFrom near) motion vectors blocks bits error result }
+    requires { (book_refusal book.now ≡ 0) × Codables (near_from near) (motion_of motion vectors) × Differs (near_from near) motion × (bits ≤ 65536) }
+    ensures { CandidateOf book.now (near_from near) motion vectors blocks bits error result }
 {
     let mode = mode_of(motion);
     let head = mb_mode_bits(book, mode);

@@ -1,14 +1,14 @@
 // Which way a macroblock is coded: SKIP, and each motion with its plan.
 ghost use Rattle.std.specs.Prelude.{◌≡◌, length};
 ghost use Rattle.bits.specs.Basics.{All};
-ghost use Rattle.mv_cache.specs.CacheNeeds.{nearFrom};
+ghost use Rattle.mv_cache.specs.CacheNeeds.{near_from};
 ghost use Rattle.mv_cache.specs.NeighboursLaws.{Around};
 ghost use Rattle.macroblock.specs.MacroblockLaws.{Codables};
 ghost use Rattle.macroblock.specs.Limit.{Limit};
-ghost use Rattle.macroblock.specs.MacroblockNeeds.{givenBy};
-ghost use Rattle.macroblock_search.specs.SearchNeeds.{motionsOf};
+ghost use Rattle.macroblock.specs.MacroblockNeeds.{given_by};
+ghost use Rattle.macroblock_search.specs.SearchNeeds.{motions_of};
 ghost use Rattle.macroblock_choice.specs.CandidateNeeds.{Stated, Tried};
-ghost use Rattle.macroblock_choice.specs.ChosenNeeds.{Placing, Sourced, Carries, ChosenFor, ChosenBy, taskIn};
+ghost use Rattle.macroblock_choice.specs.ChosenNeeds.{Placing, Sourced, Carries, ChosenFor, ChosenBy, task_in};
 
 use super::super::super::svq1_enc_inter::inner::candidates::{MbCandidate, better, skip_candidate};
 use super::super::super::svq1_enc_inter::inner::plans::coded_candidate;
@@ -35,8 +35,8 @@ fn try_motion(
     best: MbCandidate,
     room: u64,
 ) -> MbCandidate
-    requires { Placing (givenBy canvas reference.now book.now codebook.now) raised.now k target.now × All (Codables (nearFrom near)) (motionsOf found) × Carries (nearFrom near) found.motion found.vectors × Stated (givenBy canvas reference.now book.now codebook.now) target.now k (nearFrom near) best }
-    ensures { Tried (givenBy canvas reference.now book.now codebook.now) target.now settings room k (nearFrom near) (motionsOf found) best result }
+    requires { Placing (given_by canvas reference.now book.now codebook.now) raised.now k target.now × All (Codables (near_from near)) (motions_of found) × Carries (near_from near) found.motion found.vectors × Stated (given_by canvas reference.now book.now codebook.now) target.now k (near_from near) best }
+    ensures { Tried (given_by canvas reference.now book.now codebook.now) target.now settings room k (near_from near) (motions_of found) best result }
 {
     if found.found {
         let motion = found.motion;
@@ -65,8 +65,8 @@ fn choose_for(
     target: &[u8],
     room: u64,
 ) -> MbCandidate
-    requires { Placing (givenBy canvas reference.now book.now codebook.now) raised.now k target.now × Around (nearFrom near) }
-    ensures { ChosenFor (givenBy canvas reference.now book.now codebook.now) target.now settings room k (nearFrom near) result }
+    requires { Placing (given_by canvas reference.now book.now codebook.now) raised.now k target.now × Around (near_from near) }
+    ensures { ChosenFor (given_by canvas reference.now book.now codebook.now) target.now settings room k (near_from near) result }
 {
     let skip = skip_candidate(canvas, reference, book, k, target);
     let one = single_motion(canvas, reference, target, near, k, settings.radius);
@@ -105,8 +105,8 @@ fn choose_over(
     target: &mut [u8],
     room: u64,
 ) -> MbCandidate
-    requires { Sourced (givenBy canvas reference.now book.now codebook.now) raised.now source.now k × Around (nearFrom near) × (length target.old ≡ 256) }
-    ensures { (l : Limit) → ChosenBy (givenBy canvas reference.now book.now codebook.now) (taskIn source.now settings l) room k (nearFrom near) result }
+    requires { Sourced (given_by canvas reference.now book.now codebook.now) raised.now source.now k × Around (near_from near) × (length target.old ≡ 256) }
+    ensures { (l : Limit) → ChosenBy (given_by canvas reference.now book.now codebook.now) (task_in source.now settings l) room k (near_from near) result }
 {
     block(canvas, source, k, target);
     choose_for(
@@ -126,8 +126,8 @@ pub fn choose_macroblock(
     near: NearBlocks,
     room: u64,
 ) -> MbCandidate
-    requires { Sourced (givenBy canvas reference.now book.now codebook.now) raised.now source.now k × Around (nearFrom near) }
-    ensures { (l : Limit) → ChosenBy (givenBy canvas reference.now book.now codebook.now) (taskIn source.now settings l) room k (nearFrom near) result }
+    requires { Sourced (given_by canvas reference.now book.now codebook.now) raised.now source.now k × Around (near_from near) }
+    ensures { (l : Limit) → ChosenBy (given_by canvas reference.now book.now codebook.now) (task_in source.now settings l) room k (near_from near) result }
 {
     let mut target = [0u8; 256];
     choose_over(

@@ -1,11 +1,11 @@
 // A motion with its plan, as a candidate.
 ghost use Rattle.std.specs.Prelude.{◌≡◌, length};
-ghost use Rattle.mv_cache.specs.CacheNeeds.{nearFrom};
+ghost use Rattle.mv_cache.specs.CacheNeeds.{near_from};
 ghost use Rattle.macroblock.specs.MacroblockLaws.{Codables};
-ghost use Rattle.macroblock.specs.Choice.{openTerms, planeTerms};
-ghost use Rattle.macroblock.specs.MotionForms.{motionOf};
-ghost use Rattle.macroblock.specs.MacroblockNeeds.{givenBy};
-ghost use Rattle.macroblock_choice.specs.ChosenNeeds.{planningBy, Placing, Carries, Made};
+ghost use Rattle.macroblock.specs.Choice.{open_terms, plane_terms};
+ghost use Rattle.macroblock.specs.MotionForms.{motion_of};
+ghost use Rattle.macroblock.specs.MacroblockNeeds.{given_by};
+ghost use Rattle.macroblock_choice.specs.ChosenNeeds.{planning_by, Placing, Carries, Made};
 ghost use Rattle.plan.specs.PlanNeeds.{PlanFound};
 
 use super::super::super::svq1_enc_inter::inner::candidates::{MbCandidate, candidate_of};
@@ -21,7 +21,7 @@ use vectors::svq1_motion_predictor::Svq1Mv;
 
 // Terms with every stage of a level open.
 fn open_terms(half: Svq1Half, skip: bool, margin: u32) -> LeafTerms
-    ensures { result ≡ openTerms half skip margin }
+    ensures { result ≡ open_terms half skip margin }
 {
     LeafTerms {
         half,
@@ -33,7 +33,7 @@ fn open_terms(half: Svq1Half, skip: bool, margin: u32) -> LeafTerms
 
 // In a plane leaves may skip in the inter half; the margin is the same in both.
 fn plane_terms(margin: u32, half: Svq1Half) -> LeafTerms
-    ensures { result ≡ planeTerms margin half }
+    ensures { result ≡ plane_terms margin half }
 {
     match half {
         Svq1Half::Intra => open_terms(half, false, margin),
@@ -55,8 +55,8 @@ fn plan_over(
     vectors: [Svq1Mv; 4],
     under: &mut [u8; 256],
 ) -> MbPlan
-    requires { Placing (givenBy canvas reference.now book.now codebook.now) raised.now k target.now × (length under.old ≡ 256) }
-    ensures { PlanFound (planningBy (givenBy canvas reference.now book.now codebook.now) target.now settings k (motionOf motion vectors)) result }
+    requires { Placing (given_by canvas reference.now book.now codebook.now) raised.now k target.now × (length under.old ≡ 256) }
+    ensures { PlanFound (planning_by (given_by canvas reference.now book.now codebook.now) target.now settings k (motion_of motion vectors)) result }
 {
     let terms = plane_terms(settings.margin, half_of(motion));
     baseline_of(canvas, reference, k, motion, vectors, under);
@@ -84,8 +84,8 @@ fn plan_motion(
     motion: MbMotion,
     vectors: [Svq1Mv; 4],
 ) -> MbPlan
-    requires { Placing (givenBy canvas reference.now book.now codebook.now) raised.now k target.now }
-    ensures { PlanFound (planningBy (givenBy canvas reference.now book.now codebook.now) target.now settings k (motionOf motion vectors)) result }
+    requires { Placing (given_by canvas reference.now book.now codebook.now) raised.now k target.now }
+    ensures { PlanFound (planning_by (given_by canvas reference.now book.now codebook.now) target.now settings k (motion_of motion vectors)) result }
 {
     let mut under = [0u8; 256];
     plan_over(
@@ -107,8 +107,8 @@ pub fn coded_candidate(
     motion: MbMotion,
     vectors: [Svq1Mv; 4],
 ) -> MbCandidate
-    requires { Placing (givenBy canvas reference.now book.now codebook.now) raised.now k target.now × Codables (nearFrom near) (motionOf motion vectors) × Carries (nearFrom near) motion vectors }
-    ensures { Made (givenBy canvas reference.now book.now codebook.now) target.now settings k (nearFrom near) (motionOf motion vectors) result }
+    requires { Placing (given_by canvas reference.now book.now codebook.now) raised.now k target.now × Codables (near_from near) (motion_of motion vectors) × Carries (near_from near) motion vectors }
+    ensures { Made (given_by canvas reference.now book.now codebook.now) target.now settings k (near_from near) (motion_of motion vectors) result }
 {
     let p = plan_motion(
         canvas, reference, book, codebook, raised, settings, k, target, motion, vectors,

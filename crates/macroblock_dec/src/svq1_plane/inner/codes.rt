@@ -1,16 +1,16 @@
 // Codes, modes and vectors, read from a bit string.
 ghost use Rattle.std.specs.Prelude.{◌≡◌, true, ◌<◌, ◌≤◌, length, drop};
 ghost use Rattle.bits.specs.Bits.{bits_of};
-ghost use Rattle.code_tables.specs.Codes.{codes_of, goodTable, takeCode};
+ghost use Rattle.code_tables.specs.Codes.{codes_of, good_table, take_code};
 ghost use Rattle.bits.specs.BitNeeds.{Fits};
-ghost use Rattle.book.specs.Book.{modeTable, vector_table};
-ghost use Rattle.vectors.specs.Vectors.{differenceAt};
+ghost use Rattle.book.specs.Book.{mode_table, vector_table};
+ghost use Rattle.vectors.specs.Vectors.{difference_at};
 ghost use Rattle.vectors.specs.VectorsLaws.{Inside};
 ghost use Rattle.tree.specs.WalkNeeds.{Reads};
-ghost use Rattle.macroblock.specs.Mode.{modePosition};
-ghost use Rattle.macroblock.specs.Reading.{readVector};
-ghost use Rattle.macroblock_dec.specs.FindingNeeds.{Found, PositionFound, differenceHere};
-ghost use Rattle.macroblock.specs.MacroblockNeeds.{byBook};
+ghost use Rattle.macroblock.specs.Mode.{mode_position};
+ghost use Rattle.macroblock.specs.Reading.{read_vector};
+ghost use Rattle.macroblock_dec.specs.FindingNeeds.{Found, PositionFound, difference_here};
+ghost use Rattle.macroblock.specs.MacroblockNeeds.{by_book};
 
 use book::inner::{mode_table, vector_table};
 use code_tables::svq1_vlc::CodeRead;
@@ -51,7 +51,7 @@ pub struct ReadMv {
 
 // The code of the table that stands at bit `at`.
 fn read_position(s: &[u8], at: usize, table: &[u8]) -> ReadPosition
-    requires { Fits (length s.now) at 0 × (goodTable table.now ≡ true) × (3 ≤ length table.now) }
+    requires { Fits (length s.now) at 0 × (good_table table.now ≡ true) × (3 ≤ length table.now) }
     ensures { PositionFound s.now at table.now result }
 {
     match code_tables::inner::read_code(s, at, table) {
@@ -76,7 +76,7 @@ fn read_position(s: &[u8], at: usize, table: &[u8]) -> ReadPosition
 // The mode whose code has this position.
 fn mode_at(k: usize) -> Svq1MbMode
     requires { k < 4 }
-    ensures { modePosition result ≡ k }
+    ensures { mode_position result ≡ k }
 {
     match k {
         0 => Svq1MbMode::Inter,
@@ -89,7 +89,7 @@ fn mode_at(k: usize) -> Svq1MbMode
 // The mode that stands at bit `at`.
 pub fn read_mb_mode(s: &[u8], at: usize, book: &[u8]) -> ReadMode
     requires { Reads book.now 5 (length s.now) at }
-    ensures { Found s.now (takeCode (codes_of (modeTable book.now)) (drop at (bits_of s.now))) result.refused (modePosition result.mode) result.next }
+    ensures { Found s.now (take_code (codes_of (mode_table book.now)) (drop at (bits_of s.now))) result.refused (mode_position result.mode) result.next }
 {
     let p = read_position(s, at, mode_table(book));
     ReadMode {
@@ -110,7 +110,7 @@ fn read_mv_component(s: &[u8], at: usize, book: &[u8]) -> ReadPosition
 // The positions of a difference's components, x before y.
 pub fn read_mv_differential(s: &[u8], at: usize, book: &[u8]) -> ReadPair
     requires { Reads book.now 5 (length s.now) at }
-    ensures { Found s.now (differenceHere s.now book.now at) result.refused (record { x = differenceAt result.x; y = differenceAt result.y }) result.next × (result.x < 64) × (result.y < 64) }
+    ensures { Found s.now (difference_here s.now book.now at) result.refused (record { x = difference_at result.x; y = difference_at result.y }) result.next × (result.x < 64) × (result.y < 64) }
 {
     let a = read_mv_component(s, at, book);
     if a.refused != 0 {
@@ -133,7 +133,7 @@ pub fn read_mv_differential(s: &[u8], at: usize, book: &[u8]) -> ReadPair
 // The difference whose code has this position.
 fn difference_at(k: usize) -> i32
     requires { k < 64 }
-    ensures { result ≡ differenceAt k }
+    ensures { result ≡ difference_at k }
 {
     k as i32 - 32
 }
@@ -141,7 +141,7 @@ fn difference_at(k: usize) -> i32
 // The vector that stands at bit `at`, against its predictor, and its difference as it stands there.
 pub fn read_vector(s: &[u8], at: usize, book: &[u8], predictor: Svq1Mv) -> ReadMv
     requires { Reads book.now 5 (length s.now) at }
-    ensures { Found s.now (readVector (byBook book.now) predictor (drop at (bits_of s.now))) result.refused result.mv result.next × Inside result.mv × Found s.now (differenceHere s.now book.now at) result.refused result.diff result.next }
+    ensures { Found s.now (read_vector (by_book book.now) predictor (drop at (bits_of s.now))) result.refused result.mv result.next × Inside result.mv × Found s.now (difference_here s.now book.now at) result.refused result.diff result.next }
 {
     let p = read_mv_differential(s, at, book);
     let x = difference_at(p.x);

@@ -3,18 +3,18 @@ ghost use Rattle.std.specs.Prelude.{◌≡◌, true, ◌*◌, ◌<◌, length, d
 ghost use Rattle.bits.specs.Basics.{All};
 ghost use Rattle.bits.specs.Bits.{bits_of};
 ghost use Rattle.book.specs.Book.{tables_of};
-ghost use Rattle.vectors.specs.Vectors.{zeroMv};
+ghost use Rattle.vectors.specs.Vectors.{zero_mv};
 ghost use Rattle.vectors.specs.VectorsLaws.{Inside};
-ghost use Rattle.mv_cache.specs.CacheNeeds.{nearFrom, VectorSlices};
-ghost use Rattle.mv_cache.specs.Neighbours.{nearOf};
-ghost use Rattle.tree.specs.TreeBits.{readTree};
+ghost use Rattle.mv_cache.specs.CacheNeeds.{near_from, VectorSlices};
+ghost use Rattle.mv_cache.specs.Neighbours.{near_of};
+ghost use Rattle.tree.specs.TreeBits.{read_tree};
 ghost use Rattle.tree.specs.WalkNeeds.{Reads};
-ghost use Rattle.macroblock.specs.Mode.{modePosition};
+ghost use Rattle.macroblock.specs.Mode.{mode_position};
 ghost use Rattle.macroblock_dec.specs.ReadNeeds.{ReadReady, MbRead};
-ghost use Rattle.macroblock.specs.MacroblockNeeds.{givenBy, byBook};
-ghost use Rattle.macroblock.specs.Reading.{readBehind, readMacroblock};
-ghost use Rattle.macroblock_dec.specs.FindingNeeds.{Found, MotionFound, TreeFound, ChoiceFound, skippedAt, readFour, readMotion, differenceHere, modeDifference};
-ghost use Rattle.macroblock.specs.Slices.{slicesBy};
+ghost use Rattle.macroblock.specs.MacroblockNeeds.{given_by, by_book};
+ghost use Rattle.macroblock.specs.Reading.{read_behind, read_macroblock};
+ghost use Rattle.macroblock_dec.specs.FindingNeeds.{Found, MotionFound, TreeFound, ChoiceFound, skipped_at, read_four, read_motion, difference_here, mode_difference};
+ghost use Rattle.macroblock.specs.Slices.{slices_by};
 
 use super::super::super::svq1_plane::inner::codes::{read_mb_mode, read_vector};
 use book::svq1_vlc::Svq1Half;
@@ -67,7 +67,7 @@ pub struct ReadMb {
 // The four vectors that stand at bit `at`, each predicted from those before it.
 fn read_four(s: &[u8], at: usize, book: &[u8], near: NearBlocks) -> ReadFour
     requires { Reads book.now 5 (length s.now) at }
-    ensures { Found s.now (readFour (byBook book.now) (nearFrom near) (drop at (bits_of s.now))) result.refused result.vectors result.next × All Inside result.vectors × (length result.vectors ≡ 4) }
+    ensures { Found s.now (read_four (by_book book.now) (near_from near) (drop at (bits_of s.now))) result.refused result.vectors result.next × All Inside result.vectors × (length result.vectors ≡ 4) }
 {
     let none = zero_vector();
     let a = read_vector(s, at, book, predict_first(near));
@@ -108,7 +108,7 @@ fn read_four(s: &[u8], at: usize, book: &[u8], near: NearBlocks) -> ReadFour
 
 // No motion, which takes no bits, and zero vectors.
 fn no_motion(at: usize) -> ReadMotion
-    ensures { result ≡ record { refused = 0; next = at; motion = MbMotion.None; vectors = replicate 4 zeroMv } }
+    ensures { result ≡ record { refused = 0; next = at; motion = MbMotion.None; vectors = replicate 4 zero_mv } }
 {
     let zero = zero_vector();
     let motion = MbMotion::None;
@@ -123,7 +123,7 @@ fn no_motion(at: usize) -> ReadMotion
 // The motion of a mode that stands at bit `at`; INTRA has none, and neither has SKIP.
 fn read_motion(s: &[u8], at: usize, book: &[u8], near: NearBlocks, mode: Svq1MbMode) -> ReadMotion
     requires { Reads book.now 5 (length s.now) at }
-    ensures { MotionFound s.now (readMotion (byBook book.now) (nearFrom near) (modePosition mode) (drop at (bits_of s.now))) (differenceHere s.now book.now at) result }
+    ensures { MotionFound s.now (read_motion (by_book book.now) (near_from near) (mode_position mode) (drop at (bits_of s.now))) (difference_here s.now book.now at) result }
 {
     match mode {
         Svq1MbMode::Inter => {
@@ -155,14 +155,14 @@ fn read_motion(s: &[u8], at: usize, book: &[u8], near: NearBlocks, mode: Svq1MbM
 // The tree of a macroblock that stands at bit `at`.
 fn decode_mb_block_tree(s: &[u8], at: usize, half: Svq1Half, book: &[u8]) -> ReadTree
     requires { Reads book.now 5 (length s.now) at }
-    ensures { TreeFound s.now (readTree (tables_of book.now half) 5 (drop at (bits_of s.now))) half result }
+    ensures { TreeFound s.now (read_tree (tables_of book.now half) 5 (drop at (bits_of s.now))) half result }
 {
     tree::svq1_enc_tree::inner::walk::read(s, at, half, book, 5)
 }
 
 // SKIP, which has nothing behind its mode, or a refusal.
 fn skipped_at(refused: u8, at: usize) -> ReadChoice
-    ensures { result ≡ skippedAt refused at }
+    ensures { result ≡ skipped_at refused at }
 {
     let none = zero_vector();
     let blocks = no_blocks();
@@ -178,8 +178,8 @@ fn skipped_at(refused: u8, at: usize) -> ReadChoice
 
 // What stands behind a mode other than SKIP: its motion and its tree.
 fn read_coded(s: &[u8], at: usize, book: &[u8], near: NearBlocks, mode: Svq1MbMode) -> ReadChoice
-    requires { Reads book.now 5 (length s.now) at × (modePosition mode < 3) }
-    ensures { ChoiceFound s.now (readBehind (byBook book.now) (nearFrom near) (modePosition mode) (drop at (bits_of s.now))) (differenceHere s.now book.now at) result }
+    requires { Reads book.now 5 (length s.now) at × (mode_position mode < 3) }
+    ensures { ChoiceFound s.now (read_behind (by_book book.now) (near_from near) (mode_position mode) (drop at (bits_of s.now))) (difference_here s.now book.now at) result }
 {
     let m = read_motion(s, at, book, near, mode);
     let motion = m.motion;
@@ -210,7 +210,7 @@ fn read_coded(s: &[u8], at: usize, book: &[u8], near: NearBlocks, mode: Svq1MbMo
 // What stands behind a mode: nothing behind SKIP.
 fn read_behind(s: &[u8], at: usize, book: &[u8], near: NearBlocks, mode: Svq1MbMode) -> ReadChoice
     requires { Reads book.now 5 (length s.now) at }
-    ensures { ChoiceFound s.now (readBehind (byBook book.now) (nearFrom near) (modePosition mode) (drop at (bits_of s.now))) (differenceHere s.now book.now at) result }
+    ensures { ChoiceFound s.now (read_behind (by_book book.now) (near_from near) (mode_position mode) (drop at (bits_of s.now))) (difference_here s.now book.now at) result }
 {
     if mode.position() < 3 {
         return read_coded(s, at, book, near, mode);
@@ -221,7 +221,7 @@ fn read_behind(s: &[u8], at: usize, book: &[u8], near: NearBlocks, mode: Svq1MbM
 // The macroblock that stands at bit `at`, among these neighbours.
 fn read_choice(s: &[u8], at: usize, book: &[u8], near: NearBlocks) -> ReadChoice
     requires { Reads book.now 5 (length s.now) at }
-    ensures { ChoiceFound s.now (readMacroblock (byBook book.now) (nearFrom near) (drop at (bits_of s.now))) (modeDifference s.now book.now at) result }
+    ensures { ChoiceFound s.now (read_macroblock (by_book book.now) (near_from near) (drop at (bits_of s.now))) (mode_difference s.now book.now at) result }
 {
     let m = read_mb_mode(s, at, book);
     let mode = m.mode;
@@ -243,7 +243,7 @@ fn read_among(
     k: usize,
 ) -> ReadChoice
     requires { Reads book.now 5 (length s.now) at × VectorSlices cols rows vx.now vy.now × (k < rows * cols) }
-    ensures { ChoiceFound s.now (readMacroblock (byBook book.now) (nearOf cols rows vx.now vy.now k) (drop at (bits_of s.now))) (modeDifference s.now book.now at) result }
+    ensures { ChoiceFound s.now (read_macroblock (by_book book.now) (near_of cols rows vx.now vy.now k) (drop at (bits_of s.now))) (mode_difference s.now book.now at) result }
 {
     let near = near_blocks(vx, vy, cols, rows, k);
     read_choice(s, at, book, near)
@@ -263,8 +263,8 @@ pub fn read_macroblock(
     vx: &mut [u8],
     vy: &mut [u8],
 ) -> ReadMb
-    requires { ReadReady (givenBy canvas reference.now book.now codebook.now) raised.now (slicesBy recon.old vx.old vy.old) k (length s.now) at }
-    ensures { MbRead (givenBy canvas reference.now book.now codebook.now) s.now at k (slicesBy recon.old vx.old vy.old) result (slicesBy recon.new vx.new vy.new) }
+    requires { ReadReady (given_by canvas reference.now book.now codebook.now) raised.now (slices_by recon.old vx.old vy.old) k (length s.now) at }
+    ensures { MbRead (given_by canvas reference.now book.now codebook.now) s.now at k (slices_by recon.old vx.old vy.old) result (slices_by recon.new vx.new vy.new) }
 {
     let c = read_among(s, at, book, vx, vy, canvas.stride / 16, canvas.rows / 16, k);
     let motion = c.motion;

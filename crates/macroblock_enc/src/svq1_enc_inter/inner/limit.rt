@@ -1,9 +1,9 @@
 // How many bits a plane may take, and how many its next macroblock.
 ghost use Rattle.std.specs.Prelude.{◌≡◌, ◌-◌, ◌*◌, length};
 ghost use Rattle.macroblock.specs.declared.svq1_enc_inter.Svq1MbMode.TheVariants.{Skip};
-ghost use Rattle.macroblock.specs.Macroblock.{modeBits};
-ghost use Rattle.macroblock.specs.MacroblockNeeds.{byBook};
-ghost use Rattle.macroblock_enc.specs.LimitForms.{roomUnder, Reserved, Reserving};
+ghost use Rattle.macroblock.specs.Macroblock.{mode_bits};
+ghost use Rattle.macroblock.specs.MacroblockNeeds.{by_book};
+ghost use Rattle.macroblock_enc.specs.LimitForms.{room_under, Reserved, Reserving};
 
 use macroblock::svq1_enc_inter::Svq1MbMode;
 use macroblock_bits::svq1_enc_inter::inner::mb_mode_bits;
@@ -18,7 +18,7 @@ pub enum BitLimit {
 // The bits that the next macroblock may take, with so many macroblocks left behind it in the plane; with no limit, more than any takes.
 fn room_of(limit: BitLimit, spent: u64, skip: u64, left: u64) -> u64
     requires { Reserved limit spent skip left }
-    ensures { result ≡ roomUnder limit spent skip left }
+    ensures { result ≡ room_under limit spent skip left }
 {
     match limit {
         BitLimit::Unlimited => 65536,
@@ -29,7 +29,7 @@ fn room_of(limit: BitLimit, spent: u64, skip: u64, left: u64) -> u64
 // The same for macroblock k.
 pub fn room_at(limit: BitLimit, spent: u64, book: &[u8], cols: usize, rows: usize, k: usize) -> u64
     requires { Reserving book.now limit cols rows k spent }
-    ensures { result ≡ roomUnder limit spent (length (modeBits (byBook book.now) Skip)) (rows * cols - k - 1) }
+    ensures { result ≡ room_under limit spent (length (mode_bits (by_book book.now) Skip)) (rows * cols - k - 1) }
 {
     let skip = mb_mode_bits(book, Svq1MbMode::Skip);
     let left = rows * cols - k - 1;

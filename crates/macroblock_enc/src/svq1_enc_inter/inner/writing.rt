@@ -2,17 +2,17 @@
 ghost use Rattle.std.specs.Prelude.{◌≡◌, ◌++◌, length};
 ghost use Rattle.bits.specs.BitNeeds.{Wrote};
 ghost use Rattle.book.specs.Book.{tables_of};
-ghost use Rattle.mv_cache.specs.CacheNeeds.{nearFrom};
+ghost use Rattle.mv_cache.specs.CacheNeeds.{near_from};
 ghost use Rattle.tree.specs.NodeForms.{tree_of};
-ghost use Rattle.tree.specs.TreeBits.{treeBits};
-ghost use Rattle.macroblock.specs.Macroblock.{half_of, motionBits, choiceBits};
-ghost use Rattle.macroblock.specs.MotionForms.{motionOf, Differs};
-ghost use Rattle.macroblock.specs.MacroblockNeeds.{byBook, givenBy};
+ghost use Rattle.tree.specs.TreeBits.{tree_bits};
+ghost use Rattle.macroblock.specs.Macroblock.{half_of, motion_bits, choice_bits};
+ghost use Rattle.macroblock.specs.MotionForms.{motion_of, Differs};
+ghost use Rattle.macroblock.specs.MacroblockNeeds.{by_book, given_by};
 ghost use Rattle.macroblock_choice.specs.CandidateNeeds.{skips, choice_of};
 ghost use Rattle.macroblock_enc.specs.WrittenNeeds.{CodedRoom, PutReady, LayReady, LaysCandidate, WriteReady, CandidateWritten, CandidateLaid, MbReady, MbWritten};
-ghost use Rattle.macroblock_enc.specs.LimitForms.{limitOf, Spends};
-ghost use Rattle.macroblock_choice.specs.ChosenNeeds.{taskIn};
-ghost use Rattle.macroblock.specs.Slices.{slicesBy, lent_by};
+ghost use Rattle.macroblock_enc.specs.LimitForms.{limit_of, Spends};
+ghost use Rattle.macroblock_choice.specs.ChosenNeeds.{task_in};
+ghost use Rattle.macroblock.specs.Slices.{slices_by, lent_by};
 
 use super::super::super::svq1_enc_inter::inner::limit::{BitLimit, room_at};
 use canvas::svq1_plane::Svq1PlaneCanvas;
@@ -50,8 +50,8 @@ fn put_coded(
     vectors: [Svq1Mv; 4],
     blocks: [Block; 63],
 ) -> usize
-    requires { CodedRoom book.now (nearFrom near) (motionOf motion vectors) (tree_of blocks) (length out.old) at × Differs (nearFrom near) motion }
-    ensures { Wrote out.old at (motionBits (byBook book.now) (nearFrom near) (motionOf motion vectors) ++ treeBits (tables_of book.now (half_of (motionOf motion vectors))) (tree_of blocks)) result out.new }
+    requires { CodedRoom book.now (near_from near) (motion_of motion vectors) (tree_of blocks) (length out.old) at × Differs (near_from near) motion }
+    ensures { Wrote out.old at (motion_bits (by_book book.now) (near_from near) (motion_of motion vectors) ++ tree_bits (tables_of book.now (half_of (motion_of motion vectors))) (tree_of blocks)) result out.new }
 {
     let half = half_of(motion);
     let p = put_motion(out, at, book, near, motion, vectors);
@@ -60,8 +60,8 @@ fn put_coded(
 
 // All bits of a candidate, from bit `at` on.
 fn put_candidate(out: &mut [u8], at: usize, book: &[u8], near: NearBlocks, c: MbCandidate) -> usize
-    requires { PutReady book.now (nearFrom near) c (length out.old) at }
-    ensures { Wrote out.old at (choiceBits (byBook book.now) (nearFrom near) (choice_of c)) result out.new }
+    requires { PutReady book.now (near_from near) c (length out.old) at }
+    ensures { Wrote out.old at (choice_bits (by_book book.now) (near_from near) (choice_of c)) result out.new }
 {
     let mode = c.mode;
     let p = put_mode(out, at, book, mode);
@@ -85,8 +85,8 @@ fn lay_candidate(
     vx: &mut [u8],
     vy: &mut [u8],
 )
-    requires { LayReady canvas reference.now (length raised.now) k c (slicesBy recon.old vx.old vy.old) }
-    ensures { LaysCandidate canvas reference.now raised.now k c (slicesBy recon.old vx.old vy.old) (slicesBy recon.new vx.new vy.new) }
+    requires { LayReady canvas reference.now (length raised.now) k c (slices_by recon.old vx.old vy.old) }
+    ensures { LaysCandidate canvas reference.now raised.now k c (slices_by recon.old vx.old vy.old) (slices_by recon.new vx.new vy.new) }
 {
     let mode = c.mode;
     let skip = is_skip(mode);
@@ -124,9 +124,9 @@ fn write_chosen(
     vx: &mut [u8],
     vy: &mut [u8],
 ) -> WrittenMb
-    requires { WriteReady book.now (nearFrom near) c (length out.old) at × LayReady canvas reference.now (length raised.now) k c (slicesBy recon.old vx.old vy.old) }
-    ensures candidate_written { CandidateWritten book.now (nearFrom near) c out.old at result out.new }
-    ensures candidate_laid { CandidateLaid canvas reference.now raised.now k c (length out.old) at (slicesBy recon.old vx.old vy.old) (slicesBy recon.new vx.new vy.new) }
+    requires { WriteReady book.now (near_from near) c (length out.old) at × LayReady canvas reference.now (length raised.now) k c (slices_by recon.old vx.old vy.old) }
+    ensures candidate_written { CandidateWritten book.now (near_from near) c out.old at result out.new }
+    ensures candidate_laid { CandidateLaid canvas reference.now raised.now k c (length out.old) at (slices_by recon.old vx.old vy.old) (slices_by recon.new vx.new vy.new) }
 {
     let mode = c.mode;
     let bits = c.bits;
@@ -170,8 +170,8 @@ pub fn write_macroblock(
     vx: &mut [u8],
     vy: &mut [u8],
 ) -> WrittenMb
-    requires { MbReady (givenBy canvas reference.now book.now codebook.now) raised.now source.now k (length out.old) at (slicesBy recon.old vx.old vy.old) × Spends (givenBy canvas reference.now book.now codebook.now) limit k spent }
-    ensures { MbWritten (givenBy canvas reference.now book.now codebook.now) (taskIn source.now settings (limitOf limit)) k spent at (lent_by out.old (slicesBy recon.old vx.old vy.old)) result (lent_by out.new (slicesBy recon.new vx.new vy.new)) }
+    requires { MbReady (given_by canvas reference.now book.now codebook.now) raised.now source.now k (length out.old) at (slices_by recon.old vx.old vy.old) × Spends (given_by canvas reference.now book.now codebook.now) limit k spent }
+    ensures { MbWritten (given_by canvas reference.now book.now codebook.now) (task_in source.now settings (limit_of limit)) k spent at (lent_by out.old (slices_by recon.old vx.old vy.old)) result (lent_by out.new (slices_by recon.new vx.new vy.new)) }
 {
     let cols = blocks_along(canvas.width);
     let rows = blocks_along(canvas.height);

@@ -2,9 +2,9 @@
 ghost use Rattle.std.specs.Prelude.{◌≡◌, []};
 ghost use Rattle.bits.specs.Basics.{pick};
 ghost use Rattle.mv_cache.specs.NeighboursLaws.{Around};
-ghost use Rattle.mv_cache.specs.CacheNeeds.{nearFrom};
-ghost use Rattle.macroblock.specs.Choice.{singleTried, fourTried};
-ghost use Rattle.macroblock_search.specs.SearchNeeds.{Searching, MotionsFound, oneFound, fourFound, noneFound, stillFound};
+ghost use Rattle.mv_cache.specs.CacheNeeds.{near_from};
+ghost use Rattle.macroblock.specs.Choice.{single_tried, four_tried};
+ghost use Rattle.macroblock_search.specs.SearchNeeds.{Searching, MotionsFound, one_found, four_found, none_found, still_found};
 
 use super::super::super::svq1_enc_inter::inner::searches::{
     corner_of, find_vector, first_pair, second_pair,
@@ -25,7 +25,7 @@ pub struct FoundMotion {
 
 // No motion to try.
 fn none_found() -> FoundMotion
-    ensures { result ≡ noneFound }
+    ensures { result ≡ none_found }
 {
     let z = zero_vector();
     FoundMotion {
@@ -37,7 +37,7 @@ fn none_found() -> FoundMotion
 
 // INTRA's: no vector, and zero stored.
 pub fn still_found() -> FoundMotion
-    ensures { result ≡ stillFound }
+    ensures { result ≡ still_found }
 {
     let z = zero_vector();
     FoundMotion {
@@ -48,7 +48,7 @@ pub fn still_found() -> FoundMotion
 }
 
 fn one_found(v: Svq1Mv, diff: Svq1Mv) -> FoundMotion
-    ensures { result ≡ oneFound v diff }
+    ensures { result ≡ one_found v diff }
 {
     FoundMotion {
         found: true,
@@ -58,7 +58,7 @@ fn one_found(v: Svq1Mv, diff: Svq1Mv) -> FoundMotion
 }
 
 fn four_found(a: Svq1Mv, b: Svq1Mv, c: Svq1Mv, d: Svq1Mv) -> FoundMotion
-    ensures { result ≡ fourFound a b c d }
+    ensures { result ≡ four_found a b c d }
 {
     FoundMotion {
         found: true,
@@ -76,8 +76,8 @@ pub fn single_motion(
     k: usize,
     radius: u8,
 ) -> FoundMotion
-    requires { Searching canvas reference.now target.now k × Around (nearFrom near) }
-    ensures { MotionsFound canvas reference.now target.now radius k (nearFrom near) (λ g t. singleTried g t k (nearFrom near)) result }
+    requires { Searching canvas reference.now target.now k × Around (near_from near) }
+    ensures { MotionsFound canvas reference.now target.now radius k (near_from near) (λ g t. single_tried g t k (near_from near)) result }
 {
     let p = predict_one(near);
     let at = corner_of(canvas, k);
@@ -100,8 +100,8 @@ pub fn four_motion(
     radius: u8,
     four: bool,
 ) -> FoundMotion
-    requires { Searching canvas reference.now target.now k × Around (nearFrom near) }
-    ensures { MotionsFound canvas reference.now target.now radius k (nearFrom near) (λ g t. pick four (fourTried g t k (nearFrom near)) []) result }
+    requires { Searching canvas reference.now target.now k × Around (near_from near) }
+    ensures { MotionsFound canvas reference.now target.now radius k (near_from near) (λ g t. pick four (four_tried g t k (near_from near)) []) result }
 {
     if !four {
         return none_found();

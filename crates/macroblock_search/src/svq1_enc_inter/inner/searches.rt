@@ -1,13 +1,13 @@
 // The searches for a macroblock's vectors.
 ghost use Rattle.std.specs.Prelude.{◌≡◌, false, ◌*◌, ◌/◌, ◌%◌, ◌<◌, length};
-ghost use Rattle.canvas.specs.Canvas.{largestSide, blocksAlong};
+ghost use Rattle.canvas.specs.Canvas.{largest_side, blocks_along};
 ghost use Rattle.motion.specs.Search.{searched};
 ghost use Rattle.motion.specs.SearchCallLaws.{Passes};
 ghost use Rattle.vectors.specs.VectorsLaws.{Inside};
 ghost use Rattle.mv_cache.specs.NeighboursLaws.{Around};
-ghost use Rattle.mv_cache.specs.Neighbours.{forFirst, forSecond, forThird, forFourth};
-ghost use Rattle.mv_cache.specs.CacheNeeds.{nearFrom};
-ghost use Rattle.macroblock_search.specs.SearchNeeds.{searchBy, quarterBy, Searching, Cornered, vectorFound, PairFound};
+ghost use Rattle.mv_cache.specs.Neighbours.{for_first, for_second, for_third, for_fourth};
+ghost use Rattle.mv_cache.specs.CacheNeeds.{near_from};
+ghost use Rattle.macroblock_search.specs.SearchNeeds.{search_by, quarter_by, Searching, Cornered, vector_found, PairFound};
 
 use canvas::svq1_plane::Svq1PlaneCanvas;
 use canvas::svq1_plane::inner::blocks_along;
@@ -42,7 +42,7 @@ pub struct Corner {
 
 pub fn corner_of(canvas: Svq1PlaneCanvas, k: usize) -> Corner
     requires { Cornered canvas k }
-    ensures { (result.x ≡ 16 * (k % blocksAlong canvas.width)) × (result.y ≡ 16 * (k / blocksAlong canvas.width)) × (result.x < largestSide) × (result.y < largestSide) }
+    ensures { (result.x ≡ 16 * (k % blocks_along canvas.width)) × (result.y ≡ 16 * (k / blocks_along canvas.width)) × (result.x < largest_side) × (result.y < largest_side) }
 {
     let cols = blocks_along(canvas.width);
     Corner {
@@ -62,8 +62,8 @@ pub fn find_vector(
     predictor: Svq1Mv,
     radius: u8,
 ) -> FoundMv
-    requires { Passes (searchBy canvas reference.now target.now side x y predictor radius) }
-    ensures { vectorFound result ≡ searched (searchBy canvas reference.now target.now side x y predictor radius) }
+    requires { Passes (search_by canvas reference.now target.now side x y predictor radius) }
+    ensures { vector_found result ≡ searched (search_by canvas reference.now target.now side x y predictor radius) }
 {
     let s = search_motion_vector(
         reference,
@@ -99,7 +99,7 @@ fn find_in(
     part: &mut [u8],
 ) -> FoundMv
     requires { Searching canvas reference.now target.now k × (j < 4) × Inside predictor × (length part.old ≡ 64) }
-    ensures { vectorFound result ≡ searched (quarterBy canvas reference.now target.now k j predictor radius) }
+    ensures { vector_found result ≡ searched (quarter_by canvas reference.now target.now k j predictor radius) }
 {
     let at = corner_of(canvas, k);
     gather_block(target, 16, 128 * (j / 2) + 8 * (j % 2), 8, 8, part);
@@ -125,7 +125,7 @@ fn find_quarter(
     radius: u8,
 ) -> FoundMv
     requires { Searching canvas reference.now target.now k × (j < 4) × Inside predictor }
-    ensures { vectorFound result ≡ searched (quarterBy canvas reference.now target.now k j predictor radius) }
+    ensures { vector_found result ≡ searched (quarter_by canvas reference.now target.now k j predictor radius) }
 {
     let mut part = [0u8; 64];
     find_in(
@@ -152,8 +152,8 @@ pub fn first_pair(
     k: usize,
     radius: u8,
 ) -> FoundPair
-    requires { Searching canvas reference.now target.now k × Around (nearFrom near) }
-    ensures { PairFound (quarterBy canvas reference.now target.now k 0 (forFirst (nearFrom near)) radius) (λ a. quarterBy canvas reference.now target.now k 1 (forSecond (nearFrom near) a) radius) result }
+    requires { Searching canvas reference.now target.now k × Around (near_from near) }
+    ensures { PairFound (quarter_by canvas reference.now target.now k 0 (for_first (near_from near)) radius) (λ a. quarter_by canvas reference.now target.now k 1 (for_second (near_from near) a) radius) result }
 {
     let p = predict_first(near);
     let v = find_quarter(canvas, reference, target, k, 0, p, radius);
@@ -182,8 +182,8 @@ pub fn second_pair(
     k: usize,
     radius: u8,
 ) -> FoundPair
-    requires { Searching canvas reference.now target.now k × Around (nearFrom near) × Inside a × Inside b }
-    ensures { PairFound (quarterBy canvas reference.now target.now k 2 (forThird (nearFrom near) a b) radius) (λ c. quarterBy canvas reference.now target.now k 3 (forFourth a b c) radius) result }
+    requires { Searching canvas reference.now target.now k × Around (near_from near) × Inside a × Inside b }
+    ensures { PairFound (quarter_by canvas reference.now target.now k 2 (for_third (near_from near) a b) radius) (λ c. quarter_by canvas reference.now target.now k 3 (for_fourth a b c) radius) result }
 {
     let p = predict_third(near, a, b);
     let v = find_quarter(canvas, reference, target, k, 2, p, radius);

@@ -3,7 +3,7 @@ use mathlib.Core.Path.{sym, ◌∙◌}
 use native.Mathlib.Omega.{arith}
 use borrow.Author.Tests.{lt-ltb, le-ltb, eq-eqb, ne_eqb, not-true, not-false}
 use native.Mathlib.Nat.{mul-le-mul}
-use Rattle.motion.specs.SearchCallLaws.{passing-side}
+use Rattle.motion.specs.SearchCallLaws.{passing_side}
 use borrow.Author.Rules.{rules}
 use Rattle.motion.proofs.svq1_enc_inter.block_ok.Statement.{statement}
 use Rattle.motion.proofs.svq1_enc_inter.block_ok.Tie as tie
@@ -16,7 +16,7 @@ returns c = simp (sym c.before.either_side.ensures ∙ not-true _ c.if1.true)
 
 rem-if2 : tie.Need-nonzero-rem-if2
 rem-if2 c =
-    let s = passing-side c.before.before.args.side (sym c.before.either_side.ensures ∙ not-false _ c.if1.false) in
+    let s = passing_side c.before.before.args.side (sym c.before.either_side.ensures ∙ not-false _ c.if1.false) in
     omega (arith, s)
 
 returns-2 : tie.Need-returns-2
@@ -24,7 +24,7 @@ returns-2 c = simp (sym c.before.before.either_side.ensures ∙ not-false _ c.be
 
 rem-if3 : tie.Need-nonzero-rem-if3
 rem-if3 c =
-    let s = passing-side c.before.before.before.args.side (sym c.before.before.either_side.ensures ∙ not-false _ c.before.if1.false) in
+    let s = passing_side c.before.before.before.args.side (sym c.before.before.either_side.ensures ∙ not-false _ c.before.if1.false) in
     omega (arith, s)
 
 returns-3 : tie.Need-returns-3
@@ -38,7 +38,7 @@ returns-5 c = simp (sym c.before.before.before.before.before.either_side.ensures
 
 mul-result : tie.Need-overflow-mul-result
 mul-result c =
-    let s = passing-side c.before.before.before.before.before.before.args.side (sym c.before.before.before.before.before.either_side.ensures ∙ not-false _ c.before.before.before.before.if1.false) in
+    let s = passing_side c.before.before.before.before.before.before.args.side (sym c.before.before.before.before.before.either_side.ensures ∙ not-false _ c.before.before.before.before.if1.false) in
     omega (arith, mul-le-mul s.most s.most)
 
 returns-6 : tie.Need-returns-6

@@ -4,7 +4,7 @@ use mir.ValLaws.{to_z-of_z}
 use mir.Val.{to_z, of_z}
 use mir.Syntax.{w32}
 use lib.IntN.{pos, ◌+ℤ◌}
-use Rattle.motion.specs.SearchCallLaws.{raisedOf, raised_is, raised-sum}
+use Rattle.motion.specs.SearchCallLaws.{raised_of, raised_is, raised-sum}
 use native.Mathlib.Omega.{arith}
 use Rattle.motion.proofs.svq1_enc_inter.raise.Statement.{statement}
 use Rattle.motion.proofs.svq1_enc_inter.raise.Tie as tie
@@ -23,7 +23,7 @@ cast-result c =
     let e = to_z-of_z w32 z c.ranges.z in
     let m = raised_is z c.requires in
     let s = raised-sum z c.requires in
-    let k : to_z w32 (of_z w32 (to_z w32 (of_z w32 z) +ℤ pos 1024)) ≡ pos (raisedOf z) = simp (e, s) (to_z-of_z w32 (pos (raisedOf z)) (record { sfits = omega arith })) in
+    let k : to_z w32 (of_z w32 (to_z w32 (of_z w32 z) +ℤ pos 1024)) ≡ pos (raised_of z) = simp (e, s) (to_z-of_z w32 (pos (raised_of z)) (record { sfits = omega arith })) in
     rw k (tt, omega arith)
 
 returns : tie.Need-returns
@@ -32,7 +32,7 @@ returns c =
     let e = to_z-of_z w32 z c.ranges.z in
     let m = raised_is z c.requires in
     let s = raised-sum z c.requires in
-    let k : to_z w32 (of_z w32 (to_z w32 (of_z w32 z) +ℤ pos 1024)) ≡ pos (raisedOf z) = simp (e, s) (to_z-of_z w32 (pos (raisedOf z)) (record { sfits = omega arith })) in
+    let k : to_z w32 (of_z w32 (to_z w32 (of_z w32 z) +ℤ pos 1024)) ≡ pos (raised_of z) = simp (e, s) (to_z-of_z w32 (pos (raised_of z)) (record { sfits = omega arith })) in
     rw k m
 
 pub raise-spec : {M : Type 1} → statement M

@@ -3,9 +3,9 @@ use mathlib.Core.Path.{sym, ◌∙◌, ap}
 use native.Mathlib.Omega.{arith}
 use mir.ValLaws.{to_z-of_z}
 use mir.Syntax.{w32}
-use Rattle.motion.specs.Search.{Search, Best, searchBest, vectorOf, vectorAnswer}
+use Rattle.motion.specs.Search.{Search, Best, search_best, vector_of, vector_answer}
 use Rattle.motion.specs.SearchCall.{Raised}
-use Rattle.motion.specs.SearchCallLaws.{passes, ready, spot_is, answer-refused, answer-found}
+use Rattle.motion.specs.SearchCallLaws.{passes, ready, spot_is, answer_refused, answer_found}
 use borrow.Author.Rules.{rules}
 use Rattle.motion.proofs.svq1_enc_inter.search_motion_vector.Statement.{statement}
 use Rattle.motion.proofs.svq1_enc_inter.search_motion_vector.Tie as tie
@@ -17,7 +17,7 @@ returns : tie.Need-returns
 returns c =
     let a = c.before.before.before.before.args in
     let g : Search = record { reference = record { samples = a.reference.now; stride = a.stride; rows = a.rows }; width = a.width; height = a.height; target = a.target.now; side = a.side; x = a.x; y = a.y; predictor = a.predictor; radius = a.radius } in
-    answer-refused g _ c.before.search-refusal.ensures c.if1.true
+    answer_refused g _ c.before.search-refusal.ensures c.if1.true
 
 raise-requires : tie.Need-raise-requires
 raise-requires c κs =
@@ -52,8 +52,8 @@ returns-2 c =
     let q : Raised a.predictor.y c.before.before.raise2.result = simp (to_z-of_z w32 a.predictor.y (record { sfits = c.before.before.before.struct-told2.given.1.0.1 })) at c.before.before.raise2.ensures in
     let e = sym c.before.before.before.before.before.before.before.search-refusal.ensures ∙ c.before.before.before.before.before.before.if1.false in
     c.answered.ensures
-    ∙ ap (λ (f : Best). vectorAnswer (vectorOf f)) (c.before.search-best.ensures.0 ∙ ap searchBest (spot_is g _ _ p q))
-    ∙ answer-found g e
+    ∙ ap (λ (f : Best). vector_answer (vector_of f)) (c.before.search-best.ensures.0 ∙ ap search_best (spot_is g _ _ p q))
+    ∙ answer_found g e
 
 pub search-motion-vector-spec : {M : Type 1} → statement M
 search-motion-vector-spec =

@@ -6,11 +6,11 @@ use mir.Syntax.{w32}
 use borrow.Author.Tests.{not-true, not-false}
 use Rattle.bits.specs.BasicsLaws.{both_true}
 use Rattle.vectors.specs.Vectors.{in_range}
-use Rattle.compensation.specs.RowForms.{bestOrNone}
+use Rattle.compensation.specs.RowForms.{best_or_none}
 use Rattle.motion.specs.Search.{Search}
 use Rattle.motion.specs.SearchCall.{Raised}
 use Rattle.motion.specs.SearchCallLaws.{passes, ready, spot_is}
-use Rattle.motion.specs.SumCallLaws.{vector-is, sum-refused, sum-beyond, spot-told}
+use Rattle.motion.specs.SumCallLaws.{vector_is, sum_refused, sum_beyond, spot_told}
 use borrow.Author.Rules.{rules}
 use Rattle.motion.proofs.svq1_enc_inter.sum_motion_vector.Statement.{statement}
 use Rattle.motion.proofs.svq1_enc_inter.sum_motion_vector.Tie as tie
@@ -22,7 +22,7 @@ returns : tie.Need-returns
 returns c =
     let a = c.before.before.before.before.args in
     let g : Search = record { reference = record { samples = a.reference.now; stride = a.stride; rows = a.rows }; width = a.width; height = a.height; target = a.target.now; side = a.side; x = a.x; y = a.y; predictor = a.predictor; radius = 0 } in
-    sum-refused g a.v (bestOrNone a.best) _ c.before.search-refusal.ensures c.if1.true
+    sum_refused g a.v (best_or_none a.best) _ c.before.search-refusal.ensures c.if1.true
 
 vector-ok-requires : tie.Need-vector-ok-requires
 vector-ok-requires c κs = search rules
@@ -32,7 +32,7 @@ returns-2 c =
     let a = c.before.before.before.before.before.before.args in
     let g : Search = record { reference = record { samples = a.reference.now; stride = a.stride; rows = a.rows }; width = a.width; height = a.height; target = a.target.now; side = a.side; x = a.x; y = a.y; predictor = a.predictor; radius = 0 } in
     let e = sym c.before.before.before.search-refusal.ensures ∙ c.before.before.if1.false in
-    sum-beyond g a.v (bestOrNone a.best) e (sym c.before.vector_ok.ensures ∙ not-true _ c.if2.true)
+    sum_beyond g a.v (best_or_none a.best) e (sym c.before.vector_ok.ensures ∙ not-true _ c.if2.true)
 
 raise-requires : tie.Need-raise-requires
 raise-requires c κs =
@@ -78,7 +78,7 @@ returns-3 c =
     let ux : Raised a.v.x c.before.before.before.raise3.result = simp (to_z-of_z w32 a.v.x (record { sfits = c.before.before.before.before.struct-told3.given.0.1 })) at c.before.before.before.raise3.ensures in
     let uy : Raised a.v.y c.before.raise4.result = simp (to_z-of_z w32 a.v.y (record { sfits = c.before.before.struct-told4.given.1.0.1 })) at c.before.raise4.ensures in
     let e = sym c.before.before.before.before.before.before.before.before.before.before.before.before.search-refusal.ensures ∙ c.before.before.before.before.before.before.before.before.before.before.before.if1.false in
-    c.summed.ensures ∙ spot-told _ g _ a.v (bestOrNone a.best) (spot_is g _ _ p q) (vector-is a.v _ _ ux uy) e
+    c.summed.ensures ∙ spot_told _ g _ a.v (best_or_none a.best) (spot_is g _ _ p q) (vector_is a.v _ _ ux uy) e
 
 pub sum-motion-vector-spec : {M : Type 1} → statement M
 sum-motion-vector-spec =

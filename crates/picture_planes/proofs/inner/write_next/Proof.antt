@@ -1,7 +1,7 @@
 -- Written, or not reached. Assumes nothing.
-use Rattle.macroblock.specs.Slices.{slicesBy}
-use Rattle.picture.specs.Picture.{Shared, sharedBy, PlaneIn, planeBy, resultsBy}
-use Rattle.picture.specs.PictureLaws.{through-unreached, through-reached}
+use Rattle.macroblock.specs.Slices.{slices_by}
+use Rattle.picture.specs.Picture.{Shared, shared_by, PlaneIn, plane_by, results_by}
+use Rattle.picture.specs.PictureLaws.{through_unreached, through_reached}
 use borrow.Author.Rules.{rules}
 use Rattle.picture_planes.proofs.inner.write_next.Statement.{statement}
 use Rattle.picture_planes.proofs.inner.write_next.Tie as tie
@@ -9,9 +9,9 @@ use Rattle.picture_planes.proofs.inner.write_next.Tie as tie
 returns : tie.Need-returns
 returns c =
     let a = c.before.before.before.before.before.before.before.before.before.before.args in
-    let s : Shared = sharedBy a.book.now a.codebook.now a.settings in
-    let p : PlaneIn = planeBy a.canvas a.source.now a.reference.now (resultsBy a.recon.now a.vx.now a.vy.now a.stated.now) in
-    through-unreached s p a.behind a.out.now a.start a.remaining a.before c.if1.true
+    let s : Shared = shared_by a.book.now a.codebook.now a.settings in
+    let p : PlaneIn = plane_by a.canvas a.source.now a.reference.now (results_by a.recon.now a.vx.now a.vy.now a.stated.now) in
+    through_unreached s p a.behind a.out.now a.start a.remaining a.before c.if1.true
 
 write-accepted-requires : tie.Need-write-accepted-requires
 write-accepted-requires c κs = let r = c.before.before.before.before.before.before.before.before.before.before.before.before.before.before.before.requires in (r.plane, r.samples, r.spends)
@@ -34,9 +34,9 @@ same-length-5 c = c.before.stated.given
 returns-2 : tie.Need-returns-2
 returns-2 c =
     let a = c.before.before.before.before.before.before.before.before.before.before.before.before.before.before.before.before.before.before.before.before.before.before.before.before.before.before.args in
-    let s : Shared = sharedBy a.book.now a.codebook.now a.settings in
-    let p : PlaneIn = planeBy a.canvas a.source.now a.reference.now (resultsBy a.recon.now a.vx.now a.vy.now a.stated.now) in
-    through-reached s p a.behind a.out.now a.start a.remaining a.before c.before.before.before.before.before.before.before.before.before.before.before.before.before.before.before.before.if1.false _ _ _ _ c.before.before.before.before.before.before.before.before.before.before.write-accepted.ensures
+    let s : Shared = shared_by a.book.now a.codebook.now a.settings in
+    let p : PlaneIn = plane_by a.canvas a.source.now a.reference.now (results_by a.recon.now a.vx.now a.vy.now a.stated.now) in
+    through_reached s p a.behind a.out.now a.start a.remaining a.before c.before.before.before.before.before.before.before.before.before.before.before.before.before.before.before.before.if1.false _ _ _ _ c.before.before.before.before.before.before.before.before.before.before.write-accepted.ensures
 
 pub write-next-spec : {M : Type 1} → statement M
 write-next-spec =

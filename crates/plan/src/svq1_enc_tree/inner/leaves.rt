@@ -4,7 +4,7 @@ ghost use Rattle.book.specs.Level.{width};
 ghost use Rattle.tree.specs.Blocks.{level, block_of};
 ghost use Rattle.tree_samples.specs.SubtreeForms.{in_tree, BlockPlaced};
 ghost use Rattle.plan.specs.PlannedFormsLaws.{LeafAt};
-ghost use Rattle.plan.specs.PlanNeeds.{LeafReady, Scratch, BlockLeaf, PlanReady, BlockReady, planningIn, leafRecord};
+ghost use Rattle.plan.specs.PlanNeeds.{LeafReady, Scratch, BlockLeaf, PlanReady, BlockReady, planning_in, leaf_record};
 
 use super::super::super::svq1_enc_tree::PlannedBlock;
 use book::inner::level_at;
@@ -140,7 +140,7 @@ fn leaf_in(
 
 // A leaf choice and its bits. That there are six stage indices is known here, where they come as an array.
 fn as_leaf(code: LeafCode, stages: [u8; 6], bits: u32, error: u32) -> PlannedBlock
-    ensures { (result ≡ leafRecord code stages bits error) × (length stages ≡ 6) }
+    ensures { (result ≡ leaf_record code stages bits error) × (length stages ≡ 6) }
 {
     PlannedBlock {
         split: false,
@@ -163,7 +163,7 @@ pub fn plan_leaf(
     i: usize,
 ) -> PlannedBlock
     requires { PlanReady terms book.now codebook.now raised.now d target.now predictor.now × BlockReady d i }
-    ensures { LeafAt (planningIn terms book.now codebook.now 0 d target.now predictor.now) i result }
+    ensures { LeafAt (planning_in terms book.now codebook.now 0 d target.now predictor.now) i result }
 {
     let half = terms.half;
     let c = leaf_in(terms, raised, d, target, predictor, i);

@@ -2,13 +2,13 @@
 // Functions that only the crates of this repository call. Most have a `requires`: the caller, proved too, meets it.
 ghost use Rattle.std.specs.Prelude.{◌≡◌, ◌<◌, ◌≤◌, length};
 ghost use Rattle.bits.specs.BitNeeds.{Fits, Wrote};
-ghost use Rattle.book.specs.Book.{bookBytes, stageFamily, stageTable, tables_of};
-ghost use Rattle.leaf.specs.LeafBits.{leafBits};
-ghost use Rattle.leaf.specs.LeafForms.{leafOf};
+ghost use Rattle.book.specs.Book.{book_bytes, stage_family, stage_table, tables_of};
+ghost use Rattle.leaf.specs.LeafBits.{leaf_bits};
+ghost use Rattle.leaf.specs.LeafForms.{leaf_of};
 ghost use Rattle.tree.specs.Blocks.{first};
-ghost use Rattle.tree.specs.TreeBits.{isSplit, reached, nodeBits, treeBits};
+ghost use Rattle.tree.specs.TreeBits.{is_split, reached, node_bits, tree_bits};
 ghost use Rattle.tree.specs.NodeForms.{node_of, tree_of};
-ghost use Rattle.tree.specs.WalkNeeds.{leafFlag, LeafRoom, NodeRoom, TreeRoom, Reads, LeafHere, NodeHere, TreeHere};
+ghost use Rattle.tree.specs.WalkNeeds.{leaf_flag, LeafRoom, NodeRoom, TreeRoom, Reads, LeafHere, NodeHere, TreeHere};
 
 use super::super::super::svq1_enc_tree::inner::level_of;
 use super::super::super::svq1_enc_tree::{Block, TreeNode};
@@ -21,8 +21,8 @@ use leaf::svq1_plane::inner::read_leaf;
 
 // A half's stage table of a level, of a book.
 pub fn stage_table(book: &[u8], half: Svq1Half, d: usize) -> &[u8]
-    requires { (length book.now ≡ bookBytes) × (d ≤ 5) }
-    ensures { result.now ≡ stageTable d (stageFamily half book.now) }
+    requires { (length book.now ≡ book_bytes) × (d ≤ 5) }
+    ensures { result.now ≡ stage_table d (stage_family half book.now) }
 {
     let level = level_at(d);
     book::inner::stage_table(book, half, level)
@@ -30,7 +30,7 @@ pub fn stage_table(book: &[u8], half: Svq1Half, d: usize) -> &[u8]
 
 // Whether a block is split.
 pub fn is_split(b: Block) -> bool
-    ensures { result ≡ isSplit (node_of b) }
+    ensures { result ≡ is_split (node_of b) }
 {
     let n = b.node;
     match n {
@@ -57,8 +57,8 @@ pub fn is_reached(blocks: [Block; 63], root: usize, i: usize) -> bool
 
 // The flag before a leaf: none at L0.
 fn put_flag(out: &mut [u8], at: usize, d: usize) -> usize
-    requires { Fits (length out.old) at (length (leafFlag d)) }
-    ensures { Wrote out.old at (leafFlag d) result out.new }
+    requires { Fits (length out.old) at (length (leaf_flag d)) }
+    ensures { Wrote out.old at (leaf_flag d) result out.new }
 {
     if d == 0 {
         return at;
@@ -76,8 +76,8 @@ fn put_leaf_at(
     half: Svq1Half,
     book: &[u8],
 ) -> usize
-    requires { LeafRoom book.now half d (leafOf code stages) (length out.old) at }
-    ensures { Wrote out.old at (leafBits (tables_of book.now half) d (leafOf code stages)) result out.new }
+    requires { LeafRoom book.now half d (leaf_of code stages) (length out.old) at }
+    ensures { Wrote out.old at (leaf_bits (tables_of book.now half) d (leaf_of code stages)) result out.new }
 {
     let stage = stage_table(book, half, d);
     let means = mean_table(book, half);
@@ -87,7 +87,7 @@ fn put_leaf_at(
 // A block of level d: nothing where the tree does not reach it, the flag of a split, or a leaf behind its flag.
 fn put_node(out: &mut [u8], at: usize, b: Block, d: usize, half: Svq1Half, book: &[u8]) -> usize
     requires { NodeRoom book.now half d (node_of b) (length out.old) at }
-    ensures { Wrote out.old at (nodeBits (tables_of book.now half) d (node_of b)) result out.new }
+    ensures { Wrote out.old at (node_bits (tables_of book.now half) d (node_of b)) result out.new }
 {
     let n = b.node;
     let stages = b.stages;
@@ -104,7 +104,7 @@ fn put_node(out: &mut [u8], at: usize, b: Block, d: usize, half: Svq1Half, book:
 // The bits of a tree, from bit `at` on: its blocks by number, which is level by level.
 pub fn emit(blocks: [Block; 63], half: Svq1Half, book: &[u8], out: &mut [u8], at: usize) -> usize
     requires { TreeRoom book.now half (tree_of blocks) (length out.old) at }
-    ensures { Wrote out.old at (treeBits (tables_of book.now half) (tree_of blocks)) result out.new }
+    ensures { Wrote out.old at (tree_bits (tables_of book.now half) (tree_of blocks)) result out.new }
 {
     let mut k = at;
     let mut i = 0;

@@ -1,10 +1,10 @@
 // The samples that a tree of 63 block records shows.
 // Functions that only the crates of this repository call. Most have a `requires`: the caller, proved too, meets it.
 ghost use Rattle.std.specs.Prelude.{◌≡◌, ◌<◌, length};
-ghost use Rattle.leaf.specs.LeafForms.{leafOf};
-ghost use Rattle.tree.specs.Blocks.{paintAt};
+ghost use Rattle.leaf.specs.LeafForms.{leaf_of};
+ghost use Rattle.tree.specs.Blocks.{paint_at};
 ghost use Rattle.tree.specs.NodeForms.{node_of, tree_of};
-ghost use Rattle.tree_samples.specs.RebuildNeeds.{Cells, Drawing, DrawingNode, Rebuilding, leafAs, nodeAt, rebuiltBy};
+ghost use Rattle.tree_samples.specs.RebuildNeeds.{Cells, Drawing, DrawingNode, Rebuilding, leaf_as, node_at, rebuilt_by};
 
 use super::super::super::svq1_enc_tree::inner::{gather_block, paint_block, place_of};
 use book::inner::level_at;
@@ -31,9 +31,9 @@ fn paint_leaf(
     sums: &mut [u16],
     over: &mut [u8],
 )
-    requires drawing { Drawing half (leafOf code stages) (length predictor.now) (length raised.now) s d i (length out.old) }
+    requires drawing { Drawing half (leaf_of code stages) (length predictor.now) (length raised.now) s d i (length out.old) }
     requires cells { Cells d (length under.old) (length sums.old) (length over.old) }
-    ensures { out.new ≡ paintAt s d i (leafAs raised.now half s predictor.now i (leafOf code stages)) out.old }
+    ensures { out.new ≡ paint_at s d i (leaf_as raised.now half s predictor.now i (leaf_of code stages)) out.old }
 {
     let level = level_at(d);
     let dims = level.block_dims();
@@ -61,9 +61,9 @@ fn paint_cut(
     sums: &mut [u16],
     over: &mut [u8],
 )
-    requires drawing { Drawing half (leafOf code stages) (length predictor.now) (length raised.now) s d i (length out.old) }
+    requires drawing { Drawing half (leaf_of code stages) (length predictor.now) (length raised.now) s d i (length out.old) }
     requires under_len { (length under.old ≡ 256) × (length sums.old ≡ 256) × (length over.old ≡ 256) }
-    ensures { out.new ≡ paintAt s d i (leafAs raised.now half s predictor.now i (leafOf code stages)) out.old }
+    ensures { out.new ≡ paint_at s d i (leaf_as raised.now half s predictor.now i (leaf_of code stages)) out.old }
 {
     let level = level_at(d);
     let n = level.vector_length();
@@ -95,8 +95,8 @@ fn paint_code(
     i: usize,
     out: &mut [u8],
 )
-    requires { Drawing half (leafOf code stages) (length predictor.now) (length raised.now) s d i (length out.old) }
-    ensures { out.new ≡ paintAt s d i (leafAs raised.now half s predictor.now i (leafOf code stages)) out.old }
+    requires { Drawing half (leaf_of code stages) (length predictor.now) (length raised.now) s d i (length out.old) }
+    ensures { out.new ≡ paint_at s d i (leaf_as raised.now half s predictor.now i (leaf_of code stages)) out.old }
 {
     let mut under = [0u8; 256];
     let mut sums = [0u16; 256];
@@ -118,7 +118,7 @@ fn paint_node(
     out: &mut [u8],
 )
     requires { DrawingNode half (node_of b) (length predictor.now) (length raised.now) s d i (length out.old) }
-    ensures { out.new ≡ paintAt s d i (nodeAt raised.now half s predictor.now i (node_of b)) out.old }
+    ensures { out.new ≡ paint_at s d i (node_at raised.now half s predictor.now i (node_of b)) out.old }
 {
     let n = b.node;
     let stages = b.stages;
@@ -142,7 +142,7 @@ pub fn rebuild(
     out: &mut [u8],
 )
     requires { Rebuilding half (tree_of blocks) (length predictor.now) (length raised.now) s level i (length out.old) }
-    ensures { out.new ≡ rebuiltBy raised.now half s predictor.now (tree_of blocks) level i out.old }
+    ensures { out.new ≡ rebuilt_by raised.now half s predictor.now (tree_of blocks) level i out.old }
 {
     let b = blocks[i];
     if 0 < level {

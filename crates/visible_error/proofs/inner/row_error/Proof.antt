@@ -4,20 +4,20 @@ use Prim.Native.Nat.{◌+◌, ◌*◌, ◌≤◌}
 use native.Mathlib.Omega.{arith}
 use lib.ListN.{length}
 use Rattle.visible_error.specs.Visible.{ShownPlane}
-use Rattle.visible_error.specs.VisibleNeeds.{shownBy}
-use Rattle.visible_error.specs.VisibleLaws.{source-end, recon-end, row_is, row-most}
+use Rattle.visible_error.specs.VisibleNeeds.{shown_by}
+use Rattle.visible_error.specs.VisibleLaws.{source_end, recon_end, row_is, row_most}
 use borrow.Author.Rules.{rules}
 use Rattle.visible_error.proofs.inner.row_error.Statement.{statement}
 use Rattle.visible_error.proofs.inner.row_error.Tie as tie
 
 abbrev plane : tie.Start → ShownPlane
-plane e = let a = e.args in shownBy a.canvas a.source.now a.recon.now
+plane e = let a = e.args in shown_by a.canvas a.source.now a.recon.now
 
 in_source : (e : tie.Start) → e.args.y * (plane e).width + e.args.x + e.args.n ≤ length (plane e).source
-in_source e = source-end (plane e) e.requires.0 e.args.x e.args.y e.args.n e.requires.2 e.requires.3
+in_source e = source_end (plane e) e.requires.0 e.args.x e.args.y e.args.n e.requires.2 e.requires.3
 
 in-recon : (e : tie.Start) → e.args.y * (plane e).recon.stride + e.args.x + e.args.n ≤ length (plane e).recon.samples
-in-recon e = recon-end (plane e) e.requires.0 e.args.x e.args.y e.args.n e.requires.2 e.requires.3
+in-recon e = recon_end (plane e) e.requires.0 e.args.x e.args.y e.args.n e.requires.2 e.requires.3
 
 mul-a : tie.Need-overflow-mul-a
 mul-a c = omega (arith, in_source c.before.before.before)
@@ -63,7 +63,7 @@ returns c =
     let e = c.before.before.before.before.before.before.before in
     let a = e.args in
     let sum = c.distance-of.ensures ∙ row_is (plane e) e.requires.0 a.x a.y a.n e.requires.2 e.requires.3 in
-    (sum, rw sum (row-most (plane e) e.requires.0 (λ k. (c.before.before.before.before.before.before.shared-slice-known.given k).fits) (λ k. (c.before.before.before.before.before.shared-slice-known2.given k).fits) a.x a.y a.n))
+    (sum, rw sum (row_most (plane e) e.requires.0 (λ k. (c.before.before.before.before.before.before.shared-slice-known.given k).fits) (λ k. (c.before.before.before.before.before.shared-slice-known2.given k).fits) a.x a.y a.n))
 
 pub row-error-spec : {M : Type 1} → statement M
 row-error-spec =

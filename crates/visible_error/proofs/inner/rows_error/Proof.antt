@@ -3,8 +3,8 @@ use mathlib.Core.Path.{◌≡◌, refl}
 use Prim.Native.Nat.{◌+◌, ◌-◌, ◌*◌, ◌≤◌}
 use Rattle.bits.specs.Basics.{sum as total}
 use Rattle.bits.specs.SumLaws.{sum_more}
-use Rattle.visible_error.specs.Visible.{squareAt}
-use Rattle.visible_error.specs.VisibleNeeds.{shownBy}
+use Rattle.visible_error.specs.Visible.{square_at}
+use Rattle.visible_error.specs.VisibleNeeds.{shown_by}
 use native.Mathlib.Omega.{arith}
 use borrow.Author.Rules.{rules}
 use Rattle.visible_error.proofs.inner.rows_error.Statement.{statement}
@@ -12,7 +12,7 @@ use Rattle.visible_error.proofs.inner.rows_error.Tie as tie
 
 abbrev invariant-loop : tie.invariant-loop
 invariant-loop canvas source recon x y n m sum₀ j₀ sum j =
-    (j ≤ m) × (sum ≡ total (λ q. total (λ i. squareAt (shownBy canvas source recon) (x + i) (y + q)) n) j) × (sum ≤ 1040400 * j)
+    (j ≤ m) × (sum ≡ total (λ q. total (λ i. square_at (shown_by canvas source recon) (x + i) (y + q)) n) j) × (sum ≤ 1040400 * j)
 
 abbrev decreases-loop : tie.decreases-loop
 decreases-loop canvas source recon x y n m sum₀ j₀ sum j = m - j

@@ -1,6 +1,6 @@
 -- `Svq1Level::family_part` meets its contract. The part from byte 24 × level on.
 use borrow.Author.Rules.{rules}
-use Rattle.book.specs.LevelLaws.{family-part-is, family-part-none}
+use Rattle.book.specs.LevelLaws.{family_part_is, family_part_none}
 use Rattle.book.proofs.svq1_blocktree.Svq1Level.family_part.Statement.{statement}
 use Rattle.book.proofs.svq1_blocktree.Svq1Level.family_part.Tie as tie
 
@@ -14,7 +14,7 @@ part-result-end : tie.Need-slice-bounds-result-end
 part-result-end c = search rules
 
 returns : tie.Need-returns
-returns c = family-part-none _ _ c.before.if1.true
+returns c = family_part_none _ _ c.before.if1.true
 
 number-requires : tie.Need-number-requires
 number-requires c κs = search rules
@@ -37,7 +37,7 @@ part-result-end-2 c = search rules
 returns-2 : tie.Need-returns-2
 returns-2 c =
     let n = c.before.number in
-    rw (← n.ensures.0) (family-part-is n.result _ c.before.before.if1.false)
+    rw (← n.ensures.0) (family_part_is n.result _ c.before.before.if1.false)
 
 pub family-part-spec : {M : Type 1} → statement M
 family-part-spec =

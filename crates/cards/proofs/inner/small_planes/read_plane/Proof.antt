@@ -2,7 +2,7 @@
 use mathlib.Core.Path.{ap}
 use borrow.Author.Rules.{rules}
 use Rattle.macroblock.specs.Slices.{Slices}
-use Rattle.cards.specs.Planes.{smallGiven}
+use Rattle.cards.specs.Planes.{small_given}
 use Rattle.cards.proofs.inner.small_planes.read_plane.Statement.{statement}
 use Rattle.cards.proofs.inner.small_planes.read_plane.Tie as tie
 
@@ -22,7 +22,7 @@ same_length : tie.Need-same-length
 same_length c = search rules
 
 returns : tie.Need-returns
-unfolding smallGiven
+unfolding small_given
 returns c =
     let e = c.before.before.before.before.decode-inter-plane.ensures in
     record { answer = e.answer; left = ap (λ (s : Slices). s.recon) e.left-slices }

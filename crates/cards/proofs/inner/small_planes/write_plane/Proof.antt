@@ -1,6 +1,6 @@
 -- The writer's answer and output. Assumes nothing.
 use borrow.Author.Rules.{rules}
-use Rattle.cards.specs.Planes.{smallGiven, smallTask, freshSlices}
+use Rattle.cards.specs.Planes.{small_given, small_task, fresh_slices}
 use Rattle.cards.proofs.inner.small_planes.write_plane.Statement.{statement}
 use Rattle.cards.proofs.inner.small_planes.write_plane.Tie as tie
 
@@ -26,7 +26,7 @@ same_length : tie.Need-same-length
 same_length c = search rules
 
 returns : tie.Need-returns
-unfolding smallGiven smallTask freshSlices
+unfolding small_given small_task fresh_slices
 returns c =
     let e = c.before.before.before.before.before.encode-inter-plane.ensures in
     record { answer = e.answer; left = e.left_out }

@@ -4,7 +4,7 @@ use mathlib.Core.Path.{◌≡◌, sym, ap, ◌∙◌}
 use native.Mathlib.Omega.{arith}
 use lib.ListN.{length}
 use borrow.Author.Rules.{rules}
-use Rattle.cards.specs.NumbersLaws.{count_none, count-more}
+use Rattle.cards.specs.NumbersLaws.{count_none, count_more}
 use Rattle.cards.specs.Numbers.{count_to}
 use Rattle.cards.proofs.inner.sums.count_of.Statement.{statement}
 use Rattle.cards.proofs.inner.sums.count_of.Tie as tie
@@ -38,7 +38,7 @@ loop-again c =
     let l = c.before.before.before.loop in
     let a = c.before.before.before.before.before.args in
     let o = c.one-if.ensures in
-    (omega arith, omega (arith, o.1), rw (l.invariant.2, o.0) (sym (count-more a.v a.s.now l.i)))
+    (omega arith, omega (arith, o.1), rw (l.invariant.2, o.0) (sym (count_more a.v a.s.now l.i)))
 
 returns : tie.Need-returns invariant-loop decreases-loop
 returns c =

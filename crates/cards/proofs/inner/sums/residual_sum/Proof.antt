@@ -2,7 +2,7 @@
 use mathlib.Core.Path.{sym}
 use native.Mathlib.Omega.{arith}
 use borrow.Author.Rules.{rules}
-use Rattle.leaf_samples.specs.RaisedLaws.{residual-sums}
+use Rattle.leaf_samples.specs.RaisedLaws.{residual_sums}
 use Rattle.cards.specs.NumbersLaws.{less}
 use Rattle.cards.proofs.inner.sums.residual_sum.Statement.{statement}
 use Rattle.cards.proofs.inner.sums.residual_sum.Tie as tie
@@ -26,7 +26,7 @@ returns : tie.Need-returns
 returns c =
     let a = c.before.before.before.before.args in
     let d = (less c.before.sum_of.result c.sum-of2.result (omega arith) (omega arith)).same in
-    rw (d, c.before.sum_of.ensures.0, c.sum-of2.ensures.0) (sym (residual-sums a.target.now a.predictor.now (omega arith)))
+    rw (d, c.before.sum_of.ensures.0, c.sum-of2.ensures.0) (sym (residual_sums a.target.now a.predictor.now (omega arith)))
 
 pub residual-sum-spec : {M : Type 1} → statement M
 residual-sum-spec =

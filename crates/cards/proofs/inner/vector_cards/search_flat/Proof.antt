@@ -1,6 +1,6 @@
 -- The search of the two flat blocks. Assumes nothing.
 use borrow.Author.Rules.{rules}
-use Rattle.cards.specs.Planes.{cardSearch}
+use Rattle.cards.specs.Planes.{card_search}
 use Rattle.cards.proofs.inner.vector_cards.search_flat.Statement.{statement}
 use Rattle.cards.proofs.inner.vector_cards.search_flat.Tie as tie
 
@@ -14,7 +14,7 @@ search-motion-vector-requires : tie.Need-search-motion-vector-requires
 search-motion-vector-requires c κs = search rules
 
 returns : tie.Need-returns
-unfolding cardSearch
+unfolding card_search
 returns c = c.search-motion-vector.ensures
 
 pub search-flat-spec : {M : Type 1} → statement M

@@ -1,6 +1,6 @@
 -- The writer's answer and output. Assumes nothing.
 use borrow.Author.Rules.{rules}
-use Rattle.cards.specs.Planes.{wideSlices}
+use Rattle.cards.specs.Planes.{wide_slices}
 use Rattle.cards.proofs.inner.wide_planes.write_plane.Statement.{statement}
 use Rattle.cards.proofs.inner.wide_planes.write_plane.Tie as tie
 
@@ -20,7 +20,7 @@ same-length-2 : tie.Need-same-length-2
 same-length-2 c = search rules
 
 returns : tie.Need-returns
-unfolding wideSlices
+unfolding wide_slices
 returns c =
     let e = c.before.before.before.before.before.before.encode-inter-plane.ensures in
     record { answer = e.answer; left = e.left_out }

@@ -3,7 +3,7 @@ use mathlib.Core.Path.{◌≡◌, sym, ◌∙◌}
 use Prim.Native.Nat.{◌+◌, ◌-◌, ◌*◌, ◌≤◌}
 use native.Mathlib.Omega.{arith}
 use Rattle.codebook.specs.RaiseNeeds.{RaisedTo}
-use Rattle.codebook.specs.RaiseNeedsLaws.{vector-in, vector-begins, vector-next}
+use Rattle.codebook.specs.RaiseNeedsLaws.{vector_in, vector-begins, vector_next}
 use borrow.Author.Rules.{rules}
 use Rattle.codebook.proofs.svq1_codebook.inner.raise_level.Statement.{statement}
 use Rattle.codebook.proofs.svq1_codebook.inner.raise_level.Tie as tie
@@ -21,10 +21,10 @@ loop-holds c =
     (omega arith, rw z c.before.before.requires.2)
 
 mul-raise-vector : tie.Need-overflow-mul-raise-vector invariant-loop decreases-loop
-mul-raise-vector c = omega (arith, vector-in _ _ _ _ c.before.before.before.before.before.requires.1 _ c.before.loop-test.true)
+mul-raise-vector c = omega (arith, vector_in _ _ _ _ c.before.before.before.before.before.requires.1 _ c.before.loop-test.true)
 
 add-raise-vector : tie.Need-overflow-add-raise-vector invariant-loop decreases-loop
-add-raise-vector c = omega (arith, vector-in _ _ _ _ c.before.before.before.before.before.requires.1 _ c.before.loop-test.true)
+add-raise-vector c = omega (arith, vector_in _ _ _ _ c.before.before.before.before.before.requires.1 _ c.before.loop-test.true)
 
 raise-vector-requires : tie.Need-raise-vector-requires invariant-loop decreases-loop
 raise-vector-requires c κs =
@@ -38,7 +38,7 @@ loop-less : tie.Need-loop-smaller invariant-loop decreases-loop
 loop-less c = search rules
 
 loop-again : tie.Need-loop-preserved invariant-loop decreases-loop
-loop-again c = (omega arith, vector-next _ _ _ _ _ c.before.before.raise-vector.ensures)
+loop-again c = (omega arith, vector_next _ _ _ _ _ c.before.before.raise-vector.ensures)
 
 same_length : tie.Need-same-length invariant-loop decreases-loop
 same_length c = c.before.loop.invariant.1.size ∙ sym c.before.before.before.before.requires.2.size

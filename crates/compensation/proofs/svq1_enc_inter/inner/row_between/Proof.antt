@@ -2,7 +2,7 @@
 use mathlib.Core.Path.{◌∙◌}
 use native.Mathlib.Omega.{arith}
 use Rattle.canvas.specs.Canvas.{Canvas}
-use Rattle.compensation.specs.RowFormsLaws.{row-two, row-four}
+use Rattle.compensation.specs.RowFormsLaws.{row_two, row_four}
 use borrow.Author.Rules.{rules}
 use Rattle.compensation.proofs.svq1_enc_inter.inner.row_between.Statement.{statement}
 use Rattle.compensation.proofs.svq1_enc_inter.inner.row_between.Tie as tie
@@ -66,7 +66,7 @@ returns c =
     let s = c.before.before.before.before.before.before.before in
     let a = s.args in
     let v : Canvas = record { samples = a.reference.now; stride = a.stride; rows = a.rows } in
-    (c.sum-two.ensures.0 ∙ row-two a.t.now v a.n a.ox a.oy a.ti a.p s.requires.1 s.requires.2 (omega (arith, s.requires.3, c.before.before.before.before.if1.true)), c.sum-two.ensures.1)
+    (c.sum-two.ensures.0 ∙ row_two a.t.now v a.n a.ox a.oy a.ti a.p s.requires.1 s.requires.2 (omega (arith, s.requires.3, c.before.before.before.before.if1.true)), c.sum-two.ensures.1)
 
 add-sum-four : tie.Need-overflow-add-sum-four
 add-sum-four c = search rules
@@ -136,7 +136,7 @@ returns-2 c =
     let s = c.before.before.before.before.before.before.before.before.before in
     let a = s.args in
     let v : Canvas = record { samples = a.reference.now; stride = a.stride; rows = a.rows } in
-    (c.sum-four.ensures.0 ∙ row-four a.t.now v a.n a.ox a.oy a.ti a.p (omega (arith, s.requires)) (omega (arith, s.requires)), c.sum-four.ensures.1)
+    (c.sum-four.ensures.0 ∙ row_four a.t.now v a.n a.ox a.oy a.ti a.p (omega (arith, s.requires)) (omega (arith, s.requires)), c.sum-four.ensures.1)
 
 pub row-between-spec : {M : Type 1} → statement M
 row-between-spec =

@@ -3,7 +3,7 @@ use Prim.Native.Nat.{◌+◌}
 use mathlib.Core.Path.{◌≡◌, ◌∙◌}
 use native.Mathlib.Omega.{arith}
 use Rattle.canvas.specs.Canvas.{Canvas}
-use Rattle.compensation.specs.RowFormsLaws.{row-full}
+use Rattle.compensation.specs.RowFormsLaws.{row_full}
 use borrow.Author.Rules.{rules}
 use Rattle.compensation.proofs.svq1_enc_inter.inner.row_error.Statement.{statement}
 use Rattle.compensation.proofs.svq1_enc_inter.inner.row_error.Tie as tie
@@ -53,7 +53,7 @@ returns-2 c =
     let a = s.args in
     let v : Canvas = record { samples = a.reference.now; stride = a.stride; rows = a.rows } in
     let none : a.ox + a.oy ≡ 0 = omega (arith, c.before.before.before.if1.false) in
-    (c.sad.ensures.0 ∙ row-full a.t.now v a.n a.ox a.oy a.ti a.p (omega (arith, none)) (omega (arith, none)), c.sad.ensures.1)
+    (c.sad.ensures.0 ∙ row_full a.t.now v a.n a.ox a.oy a.ti a.p (omega (arith, none)) (omega (arith, none)), c.sad.ensures.1)
 
 pub row-error-spec : {M : Type 1} → statement M
 row-error-spec =

@@ -3,14 +3,14 @@ use mathlib.Core.Path.{◌≡◌, refl, ◌∙◌}
 use Prim.Native.Nat.{◌-◌, ◌*◌, ◌≤◌}
 use Rattle.bits.specs.Basics.{sum}
 use Rattle.bits.specs.SumLaws.{sum_more}
-use Rattle.compensation.specs.RowForms.{againstFour}
+use Rattle.compensation.specs.RowForms.{against_four}
 use native.Mathlib.Omega.{arith}
 use borrow.Author.Rules.{rules}
 use Rattle.compensation.proofs.svq1_enc_inter.inner.sum_four.Statement.{statement}
 use Rattle.compensation.proofs.svq1_enc_inter.inner.sum_four.Tie as tie
 
 abbrev invariant-loop : tie.invariant-loop
-invariant-loop t a b c d n total₀ i₀ total i = (i ≤ n) × (total ≡ againstFour t a b c d i) × (total ≤ 255 * i)
+invariant-loop t a b c d n total₀ i₀ total i = (i ≤ n) × (total ≡ against_four t a b c d i) × (total ≤ 255 * i)
 
 abbrev decreases-loop : tie.decreases-loop
 decreases-loop t a b c d n total₀ i₀ total i = n - i

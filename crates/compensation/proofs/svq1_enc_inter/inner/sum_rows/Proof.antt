@@ -2,8 +2,8 @@
 use Rattle.canvas.specs.Canvas.{Canvas}
 use mathlib.Core.Path.{◌≡◌}
 use Prim.Native.Nat.{◌+◌, ◌-◌, ◌*◌, ◌≤◌, ◌<◌}
-use Rattle.compensation.specs.Error.{sumRows}
-use Rattle.compensation.specs.RowForms.{noBest, bestOrNone, row_at, ReadIn}
+use Rattle.compensation.specs.Error.{sum_rows}
+use Rattle.compensation.specs.RowForms.{no_best, best_or_none, row_at, ReadIn}
 use Rattle.compensation.specs.RowFormsLaws.{RowIn, row_in}
 use Rattle.compensation.specs.EarlyLaws.{begin, turn, stop, end}
 use native.Mathlib.Omega.{arith}
@@ -12,7 +12,7 @@ use Rattle.compensation.proofs.svq1_enc_inter.inner.sum_rows.Statement.{statemen
 use Rattle.compensation.proofs.svq1_enc_inter.inner.sum_rows.Tie as tie
 
 abbrev invariant-loop : tie.invariant-loop
-invariant-loop t reference x0 y0 stride rows n ox oy best sum₀ i₀ sum i = (i ≤ n) × (sumRows (row_at t (record { samples = reference; stride = stride; rows = rows }) n ox oy x0 y0) (bestOrNone best) (n - i) i sum ≡ sumRows (row_at t (record { samples = reference; stride = stride; rows = rows }) n ox oy x0 y0) (bestOrNone best) n 0 0) × (sum ≤ 4080 * i)
+invariant-loop t reference x0 y0 stride rows n ox oy best sum₀ i₀ sum i = (i ≤ n) × (sum_rows (row_at t (record { samples = reference; stride = stride; rows = rows }) n ox oy x0 y0) (best_or_none best) (n - i) i sum ≡ sum_rows (row_at t (record { samples = reference; stride = stride; rows = rows }) n ox oy x0 y0) (best_or_none best) n 0 0) × (sum ≤ 4080 * i)
 
 abbrev decreases-loop : tie.decreases-loop
 decreases-loop t reference x0 y0 stride rows n ox oy best sum₀ i₀ sum i = n - i
@@ -59,7 +59,7 @@ returns c =
     let a = c.before.before.before.before.before.before.args in
     let l = c.before.before.before.loop in
     let v : Canvas = record { samples = a.reference.now; stride = a.stride; rows = a.rows } in
-    let small : l.sum + c.before.row-error.result < noBest = omega (arith, c.before.before.before.before.before.before.requires.side) in
+    let small : l.sum + c.before.row-error.result < no_best = omega (arith, c.before.before.before.before.before.before.requires.side) in
     record {
       answer = stop (row_at a.t.now v a.n a.ox a.oy a.x0 a.y0) a.best a.n l.i l.sum _ l.invariant.1 _ c.before.row-error.ensures.0 c.before.before.loop-test.true small c.if1.true;
       small = small;
@@ -74,7 +74,7 @@ loop-again c =
     let a = c.before.before.before.before.before.before.args in
     let l = c.before.before.before.loop in
     let v : Canvas = record { samples = a.reference.now; stride = a.stride; rows = a.rows } in
-    let small : l.sum + c.before.row-error.result < noBest = omega (arith, c.before.before.before.before.before.before.requires.side) in (
+    let small : l.sum + c.before.row-error.result < no_best = omega (arith, c.before.before.before.before.before.before.requires.side) in (
       omega arith,
       turn (row_at a.t.now v a.n a.ox a.oy a.x0 a.y0) a.best a.n l.i l.sum _ l.invariant.1 _ c.before.row-error.ensures.0 c.before.before.loop-test.true small c.if1.false,
       omega (arith, c.before.before.before.before.before.before.requires.side),

@@ -3,14 +3,14 @@ use mathlib.Core.Path.{◌≡◌, refl, ◌∙◌}
 use Prim.Native.Nat.{◌-◌, ◌*◌, ◌≤◌}
 use Rattle.bits.specs.Basics.{sum}
 use Rattle.bits.specs.SumLaws.{sum_more}
-use Rattle.compensation.specs.RowForms.{againstTwo}
+use Rattle.compensation.specs.RowForms.{against_two}
 use native.Mathlib.Omega.{arith}
 use borrow.Author.Rules.{rules}
 use Rattle.compensation.proofs.svq1_enc_inter.inner.sum_two.Statement.{statement}
 use Rattle.compensation.proofs.svq1_enc_inter.inner.sum_two.Tie as tie
 
 abbrev invariant-loop : tie.invariant-loop
-invariant-loop t a b n total₀ i₀ total i = (i ≤ n) × (total ≡ againstTwo t a b i) × (total ≤ 255 * i)
+invariant-loop t a b n total₀ i₀ total i = (i ≤ n) × (total ≡ against_two t a b i) × (total ≤ 255 * i)
 
 abbrev decreases-loop : tie.decreases-loop
 decreases-loop t a b n total₀ i₀ total i = n - i

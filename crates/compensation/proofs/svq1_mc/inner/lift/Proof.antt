@@ -4,7 +4,7 @@ use mir.ValLaws.{to_z-of_z}
 use mir.Val.{SFits, to_z, of_z}
 use mir.Syntax.{w32, w64}
 use lib.IntN.{pos, ◌+ℤ◌}
-use Rattle.compensation.specs.MovedFormsLaws.{liftOf, lifted, lift-sum}
+use Rattle.compensation.specs.MovedFormsLaws.{lift_of, lifted, lift_sum}
 use native.Mathlib.Omega.{arith}
 use Rattle.compensation.proofs.svq1_mc.inner.lift.Statement.{statement}
 use Rattle.compensation.proofs.svq1_mc.inner.lift.Tie as tie
@@ -19,7 +19,7 @@ add-result c =
     let w : SFits w64 z = record { sfits = omega (arith, c.ranges.z.sfits) } in
     let f = to_z-of_z w64 z w in
     let m = lifted z c.ranges.z.sfits in
-    let s = lift-sum z c.ranges.z.sfits in
+    let s = lift_sum z c.ranges.z.sfits in
     simp (e, f, s) (record { sfits = omega (arith, m.most) })
 
 cast-result-2 : tie.Need-overflow-cast-result-2
@@ -29,8 +29,8 @@ cast-result-2 c =
     let w : SFits w64 z = record { sfits = omega (arith, c.ranges.z.sfits) } in
     let f = to_z-of_z w64 z w in
     let m = lifted z c.ranges.z.sfits in
-    let s = lift-sum z c.ranges.z.sfits in
-    let k : to_z w64 (of_z w64 (to_z w64 (of_z w64 (to_z w32 (of_z w32 z))) +ℤ pos 4294967296)) ≡ pos (liftOf z) = simp (e, f, s) (to_z-of_z w64 (pos (liftOf z)) (record { sfits = omega (arith, m.most) })) in
+    let s = lift_sum z c.ranges.z.sfits in
+    let k : to_z w64 (of_z w64 (to_z w64 (of_z w64 (to_z w32 (of_z w32 z))) +ℤ pos 4294967296)) ≡ pos (lift_of z) = simp (e, f, s) (to_z-of_z w64 (pos (lift_of z)) (record { sfits = omega (arith, m.most) })) in
     rw k (tt, record { fits = omega (arith, m.most) })
 
 returns : tie.Need-returns
@@ -40,8 +40,8 @@ returns c =
     let w : SFits w64 z = record { sfits = omega (arith, c.ranges.z.sfits) } in
     let f = to_z-of_z w64 z w in
     let m = lifted z c.ranges.z.sfits in
-    let s = lift-sum z c.ranges.z.sfits in
-    let k : to_z w64 (of_z w64 (to_z w64 (of_z w64 (to_z w32 (of_z w32 z))) +ℤ pos 4294967296)) ≡ pos (liftOf z) = simp (e, f, s) (to_z-of_z w64 (pos (liftOf z)) (record { sfits = omega (arith, m.most) })) in
+    let s = lift_sum z c.ranges.z.sfits in
+    let k : to_z w64 (of_z w64 (to_z w64 (of_z w64 (to_z w32 (of_z w32 z))) +ℤ pos 4294967296)) ≡ pos (lift_of z) = simp (e, f, s) (to_z-of_z w64 (pos (lift_of z)) (record { sfits = omega (arith, m.most) })) in
     rw k m
 
 pub lift-spec : {M : Type 1} → statement M

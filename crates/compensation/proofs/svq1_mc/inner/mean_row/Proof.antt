@@ -4,7 +4,7 @@ use Prim.Native.Nat.{◌+◌, ◌-◌, ◌≤◌}
 use lib.ListN.{get_or}
 use Rattle.compensation.specs.Compensation.{mean2}
 use Rattle.mv_cache.specs.Grid.{row_set}
-use Rattle.mv_cache.specs.PutLaws.{row-none, row_more}
+use Rattle.mv_cache.specs.PutLaws.{row_none, row_more}
 use native.Mathlib.Omega.{arith}
 use borrow.Author.Rules.{rules}
 use Rattle.compensation.proofs.svq1_mc.inner.mean_row.Statement.{statement}
@@ -17,7 +17,7 @@ abbrev decreases-loop : tie.decreases-loop
 decreases-loop out₀ reference o a b n i₀ out i = n - i
 
 loop-holds : tie.Need-loop-init invariant-loop decreases-loop
-loop-holds c = (omega arith, row-none _ _ _)
+loop-holds c = (omega arith, row_none _ _ _)
 
 add-mean2 : tie.Need-overflow-add-mean2 invariant-loop decreases-loop
 add-mean2 c = search rules

@@ -3,24 +3,24 @@ use mathlib.Core.Path.{◌≡◌, ◌∙◌, ap}
 use Prim.Native.Nat.{ℕ, ◌-◌, ◌*◌, ◌≤◌}
 use Rattle.canvas.specs.Canvas.{Canvas}
 use Rattle.mv_cache.specs.Grid.{entry_of}
-use Rattle.mv_cache.specs.PutLaws.{putTo, put-none, put-more, Steps}
-use Rattle.compensation.specs.MovedForms.{downMv, Placed}
-use Rattle.compensation.specs.MovedFormsLaws.{moved-is, part-steps, square-most, side-some, cols-some, partValues, part-value, part-done}
+use Rattle.mv_cache.specs.PutLaws.{put_to, put_none, put_more, Steps}
+use Rattle.compensation.specs.MovedForms.{down_mv, Placed}
+use Rattle.compensation.specs.MovedFormsLaws.{moved_is, part_steps, square_most, side_some, cols_some, part_values, part_value, part_done}
 use native.Mathlib.Omega.{arith}
 use Rattle.compensation.proofs.svq1_mc.inner.part_clamped.Statement.{statement}
 use Rattle.compensation.proofs.svq1_mc.inner.part_clamped.Tie as tie
 
 abbrev invariant-loop : tie.invariant-loop
-invariant-loop out₀ reference stride rows x y ux uy s cols q n j₀ out j = (j ≤ s * s) × (out ≡ putTo s cols q (partValues (record { samples = reference; stride = stride; rows = rows }) x y (downMv ux uy) s cols q) j out₀)
+invariant-loop out₀ reference stride rows x y ux uy s cols q n j₀ out j = (j ≤ s * s) × (out ≡ put_to s cols q (part_values (record { samples = reference; stride = stride; rows = rows }) x y (down_mv ux uy) s cols q) j out₀)
 
 abbrev decreases-loop : tie.decreases-loop
 decreases-loop out₀ reference stride rows x y ux uy s cols q n j₀ out j = s * s - j
 
 mul-n : tie.Need-overflow-mul-n invariant-loop decreases-loop
-mul-n c = let a = c.before.args in omega (arith, square-most a.s a.cols a.q c.before.requires.1)
+mul-n c = let a = c.before.args in omega (arith, square_most a.s a.cols a.q c.before.requires.1)
 
 loop-holds : tie.Need-loop-init invariant-loop decreases-loop
-loop-holds c = (omega arith, put-none _ _ _ _ _)
+loop-holds c = (omega arith, put_none _ _ _ _ _)
 
 -- a turn's sample: its place in the part, and a macroblock and a vector that are not large
 known : (c : tie.In-loop invariant-loop decreases-loop)
@@ -30,16 +30,16 @@ known : (c : tie.In-loop invariant-loop decreases-loop)
 known c =
     let a = c.before.before.before.args in
     let r = c.before.before.before.requires in
-    (part-steps a.s a.cols a.q r.1 c.before.loop.j c.loop-test.true, r.0, r.2, r.3)
+    (part_steps a.s a.cols a.q r.1 c.before.loop.j c.loop-test.true, r.0, r.2, r.3)
 
 div-i : tie.Need-nonzero-div-i invariant-loop decreases-loop
-div-i c = let a = c.before.before.before.args in cols-some a.s a.cols a.q c.before.before.before.requires.1
+div-i c = let a = c.before.before.before.args in cols_some a.s a.cols a.q c.before.before.before.requires.1
 
 mul-i : tie.Need-overflow-mul-i invariant-loop decreases-loop
 mul-i c = omega (arith, known c)
 
 div-i-2 : tie.Need-nonzero-div-i-2 invariant-loop decreases-loop
-div-i-2 c = let a = c.before.before.before.args in side-some a.s a.cols a.q c.before.before.before.requires.1
+div-i-2 c = let a = c.before.before.before.args in side_some a.s a.cols a.q c.before.before.before.requires.1
 
 add-i : tie.Need-overflow-add-i invariant-loop decreases-loop
 add-i c = omega (arith, known c)
@@ -51,13 +51,13 @@ mul-i-3 : tie.Need-overflow-mul-i-3 invariant-loop decreases-loop
 mul-i-3 c = omega (arith, known c)
 
 rem-i : tie.Need-nonzero-rem-i invariant-loop decreases-loop
-rem-i c = let a = c.before.before.before.args in cols-some a.s a.cols a.q c.before.before.before.requires.1
+rem-i c = let a = c.before.before.before.args in cols_some a.s a.cols a.q c.before.before.before.requires.1
 
 mul-i-4 : tie.Need-overflow-mul-i-4 invariant-loop decreases-loop
 mul-i-4 c = omega (arith, known c)
 
 rem-i-2 : tie.Need-nonzero-rem-i-2 invariant-loop decreases-loop
-rem-i-2 c = let a = c.before.before.before.args in side-some a.s a.cols a.q c.before.before.before.requires.1
+rem-i-2 c = let a = c.before.before.before.args in side_some a.s a.cols a.q c.before.before.before.requires.1
 
 add-i-2 : tie.Need-overflow-add-i-2 invariant-loop decreases-loop
 add-i-2 c = omega (arith, known c)
@@ -92,7 +92,7 @@ element-write-out : tie.Need-element-write-out invariant-loop decreases-loop
 element-write-out c = (known c.before).0.all
 
 add-j : tie.Need-overflow-add-j invariant-loop decreases-loop
-add-j c = let a = c.before.before.before.before.args in omega (arith, square-most a.s a.cols a.q c.before.before.before.before.requires.1)
+add-j c = let a = c.before.before.before.before.args in omega (arith, square_most a.s a.cols a.q c.before.before.before.before.requires.1)
 
 loop-less : tie.Need-loop-smaller invariant-loop decreases-loop
 loop-less c = omega arith
@@ -103,8 +103,8 @@ loop-again c =
     let l = c.before.before.loop in
     let v : Canvas = record { samples = a.reference.now; stride = a.stride; rows = a.rows } in (
       omega arith,
-      put-more a.s a.cols a.q _ l.j _ _ _ l.invariant.1
-          (c.sample-halfpel.ensures ∙ moved-is v a.x a.y a.ux a.uy (entry_of a.s a.cols a.q l.j) ∙ part-value v a.x a.y (downMv a.ux a.uy) a.s a.cols a.q l.j c.before.loop-test.true),
+      put_more a.s a.cols a.q _ l.j _ _ _ l.invariant.1
+          (c.sample-halfpel.ensures ∙ moved_is v a.x a.y a.ux a.uy (entry_of a.s a.cols a.q l.j) ∙ part_value v a.x a.y (down_mv a.ux a.uy) a.s a.cols a.q l.j c.before.loop-test.true),
     )
 
 returns : tie.Need-returns invariant-loop decreases-loop
@@ -114,8 +114,8 @@ returns c =
     let v : Canvas = record { samples = a.reference.now; stride = a.stride; rows = a.rows } in
     let e : l.j ≡ a.s * a.s = omega arith in
     l.invariant.1
-    ∙ ap (λ (m : ℕ). putTo a.s a.cols a.q (partValues v a.x a.y (downMv a.ux a.uy) a.s a.cols a.q) m a.out.now) e
-    ∙ part-done v a.x a.y (downMv a.ux a.uy) a.s a.cols a.q a.out.now c.before.before.before.requires.1
+    ∙ ap (λ (m : ℕ). put_to a.s a.cols a.q (part_values v a.x a.y (down_mv a.ux a.uy) a.s a.cols a.q) m a.out.now) e
+    ∙ part_done v a.x a.y (down_mv a.ux a.uy) a.s a.cols a.q a.out.now c.before.before.before.requires.1
 
 pub part-clamped-spec : {M : Type 1} → statement M
 part-clamped-spec =

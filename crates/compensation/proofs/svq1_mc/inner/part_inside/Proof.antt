@@ -1,19 +1,19 @@
 -- The first s times i samples of the part are put; a row of them is one run of the output and one of the canvas.
-use Rattle.bits.specs.Basics.{valuesFrom}
+use Rattle.bits.specs.Basics.{values_from}
 use Rattle.compensation.specs.RowForms.{cell}
 use mathlib.Core.Path.{◌≡◌, ◌∙◌, ap}
 use Prim.Native.Nat.{ℕ, ◌+◌, ◌-◌, ◌*◌, ◌/◌, ◌%◌, ◌<◌, ◌≤◌}
 use lib.ListN.{length}
 use Rattle.canvas.specs.Canvas.{Canvas}
-use Rattle.mv_cache.specs.PutLaws.{putTo}
-use Rattle.compensation.specs.MovedFormsLaws.{cols-some}
-use Rattle.compensation.specs.InsideLaws.{cellValues, part-begin, part-next, part_end, row-place, row_first, row_read}
+use Rattle.mv_cache.specs.PutLaws.{put_to}
+use Rattle.compensation.specs.MovedFormsLaws.{cols_some}
+use Rattle.compensation.specs.InsideLaws.{cell_values, part-begin, part_next, part_end, row_place, row_first, row_read}
 use native.Mathlib.Omega.{arith}
 use Rattle.compensation.proofs.svq1_mc.inner.part_inside.Statement.{statement}
 use Rattle.compensation.proofs.svq1_mc.inner.part_inside.Tie as tie
 
 abbrev invariant-loop : tie.invariant-loop
-invariant-loop out₀ reference stride rows x0 y0 ox oy s cols q i₀ out i = (i ≤ s) × (out ≡ putTo s cols q (valuesFrom (λ j. cell (record { samples = reference; stride = stride; rows = rows }) ox oy ((y0 + j / s) * stride + x0 + j % s)) (s * s) 0) (s * i) out₀)
+invariant-loop out₀ reference stride rows x0 y0 ox oy s cols q i₀ out i = (i ≤ s) × (out ≡ put_to s cols q (values_from (λ j. cell (record { samples = reference; stride = stride; rows = rows }) ox oy ((y0 + j / s) * stride + x0 + j % s)) (s * s) 0) (s * i) out₀)
 
 abbrev decreases-loop : tie.decreases-loop
 decreases-loop out₀ reference stride rows x0 y0 ox oy s cols q i₀ out i = s - i
@@ -37,12 +37,12 @@ row c =
     let i = c.before.loop.i in
     let h = c.loop-test.true in (
       row_first d a.ox a.oy a.x0 a.y0 a.s a.cols a.q r.1 i h,
-      row-place d a.ox a.oy a.x0 a.y0 a.s a.cols a.q r.1 i h,
+      row_place d a.ox a.oy a.x0 a.y0 a.s a.cols a.q r.1 i h,
       row_read d a.ox a.oy a.x0 a.y0 a.s a.cols a.q r.1 i h r.0,
     )
 
 div-o : tie.Need-nonzero-div-o invariant-loop decreases-loop
-div-o c = let s = c.before.before.before in cols-some s.args.s s.args.cols s.args.q s.requires.1
+div-o c = let s = c.before.before.before in cols_some s.args.s s.args.cols s.args.q s.requires.1
 
 mul-o : tie.Need-overflow-mul-o invariant-loop decreases-loop
 mul-o c = omega (arith, row c)
@@ -57,7 +57,7 @@ mul-o-3 : tie.Need-overflow-mul-o-3 invariant-loop decreases-loop
 mul-o-3 c = omega (arith, row c)
 
 rem-o : tie.Need-nonzero-rem-o invariant-loop decreases-loop
-rem-o c = let s = c.before.before.before in cols-some s.args.s s.args.cols s.args.q s.requires.1
+rem-o c = let s = c.before.before.before in cols_some s.args.s s.args.cols s.args.q s.requires.1
 
 mul-o-4 : tie.Need-overflow-mul-o-4 invariant-loop decreases-loop
 mul-o-4 c = omega (arith, row c)
@@ -90,7 +90,7 @@ loop-again c =
     let d : Canvas = record { samples = a.reference.now; stride = a.stride; rows = a.rows } in
     let i = c.before.before.before.loop.i in
     let h = c.before.before.loop-test.true in
-    (omega arith, part-next d a.ox a.oy a.x0 a.y0 a.s a.cols a.q r.1 i _ _ _ h c.before.before.before.loop.invariant.1 c.part-row.ensures)
+    (omega arith, part_next d a.ox a.oy a.x0 a.y0 a.s a.cols a.q r.1 i _ _ _ h c.before.before.before.loop.invariant.1 c.part-row.ensures)
 
 returns : tie.Need-returns invariant-loop decreases-loop
 returns c =
@@ -100,7 +100,7 @@ returns c =
     let l = c.before.loop in
     let e : l.i ≡ a.s = omega arith in
     l.invariant.1
-    ∙ ap (λ (m : ℕ). putTo a.s a.cols a.q (cellValues d a.ox a.oy a.x0 a.y0 a.s a.cols a.q r.1) (a.s * m) a.out.now) e
+    ∙ ap (λ (m : ℕ). put_to a.s a.cols a.q (cell_values d a.ox a.oy a.x0 a.y0 a.s a.cols a.q r.1) (a.s * m) a.out.now) e
     ∙ part_end d a.ox a.oy a.x0 a.y0 a.s a.cols a.q r.1 a.out.now
 
 pub part-inside-spec : {M : Type 1} → statement M

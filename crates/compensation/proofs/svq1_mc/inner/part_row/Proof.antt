@@ -4,7 +4,7 @@ use Prim.Native.Nat.{◌*◌, ◌≤◌}
 use native.Mathlib.Omega.{arith}
 use Rattle.canvas.specs.Canvas.{Canvas}
 use Rattle.compensation.specs.RowFormsLaws.{one_of}
-use Rattle.compensation.specs.InsideLaws.{cells-full, cells-across, cells-down, cells-both}
+use Rattle.compensation.specs.InsideLaws.{cells_full, cells_across, cells-down, cells_both}
 use borrow.Author.Rules.{rules}
 use Rattle.compensation.proofs.svq1_mc.inner.part_row.Statement.{statement}
 use Rattle.compensation.proofs.svq1_mc.inner.part_row.Tie as tie
@@ -16,7 +16,7 @@ returns : tie.Need-returns
 returns c =
     let a = c.before.before.before.before.before.args in
     let d : Canvas = record { samples = a.reference.now; stride = a.stride; rows = a.rows } in
-    c.copy-row.ensures ∙ cells-full d a.ox a.oy a.o a.p a.n a.out.now c.before.before.if2.true c.before.before.before.if1.true
+    c.copy-row.ensures ∙ cells_full d a.ox a.oy a.o a.p a.n a.out.now c.before.before.if2.true c.before.before.before.if1.true
 
 add-mean-row : tie.Need-overflow-add-mean-row
 add-mean-row c = search rules
@@ -28,7 +28,7 @@ returns-2 : tie.Need-returns-2
 returns-2 c =
     let a = c.before.before.before.before.before.args in
     let d : Canvas = record { samples = a.reference.now; stride = a.stride; rows = a.rows } in
-    c.mean-row.ensures ∙ cells-across d a.ox a.oy a.o a.p a.n a.out.now c.before.before.if2.false c.before.before.before.if1.true
+    c.mean-row.ensures ∙ cells_across d a.ox a.oy a.o a.p a.n a.out.now c.before.before.if2.false c.before.before.before.if1.true
 
 add-mean-row-2 : tie.Need-overflow-add-mean-row-2
 add-mean-row-2 c =
@@ -69,7 +69,7 @@ returns-4 : tie.Need-returns-4
 returns-4 c =
     let a = c.before.before.before.before.before.args in
     let d : Canvas = record { samples = a.reference.now; stride = a.stride; rows = a.rows } in
-    c.mean4-row.ensures ∙ cells-both d a.ox a.oy a.o a.p a.n a.out.now c.before.before.if3.false c.before.before.before.if1.false
+    c.mean4-row.ensures ∙ cells_both d a.ox a.oy a.o a.p a.n a.out.now c.before.before.if3.false c.before.before.before.if1.false
 
 pub part-row-spec : {M : Type 1} → statement M
 part-row-spec =

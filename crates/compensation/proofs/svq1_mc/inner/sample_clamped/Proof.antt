@@ -1,6 +1,6 @@
 -- Both numbers are clamped into the canvas, so the place is below its length.
 use native.Mathlib.Omega.{arith}
-use Rattle.compensation.specs.Compensation.{sampleAt}
+use Rattle.compensation.specs.Compensation.{sample_at}
 use Rattle.compensation.specs.MovedFormsLaws.{place_in}
 use borrow.Author.Rules.{rules}
 use Rattle.compensation.proofs.svq1_mc.inner.sample_clamped.Statement.{statement}
@@ -28,7 +28,7 @@ shared-slice-read-result c =
     omega (arith, place_in c.before.before.clamped.result c.before.clamped2.result a.stride a.rows c.before.before.clamped.ensures.1 c.before.clamped2.ensures.1)
 
 returns : tie.Need-returns
-unfolding sampleAt
+unfolding sample_at
 returns c = simp (c.before.before.clamped.ensures.0, c.before.clamped2.ensures.0)
 
 pub sample-clamped-spec : {M : Type 1} → statement M

@@ -3,8 +3,8 @@ use mathlib.Core.Path.{◌≡◌, sym}
 use native.Mathlib.Omega.{arith}
 use mir.ValLaws.{to_z-of_z}
 use mir.Syntax.{w16}
-use Rattle.codebook.specs.Mean.{meanPosition}
-use Rattle.leaf.specs.LentNeedsLaws.{coded-entries, coded-size}
+use Rattle.codebook.specs.Mean.{mean_position}
+use Rattle.leaf.specs.LentNeedsLaws.{coded_entries, coded_size}
 use borrow.Author.Rules.{rules}
 use Rattle.leaf.proofs.svq1_enc_leaf.inner.coded_bits.Statement.{statement}
 use Rattle.leaf.proofs.svq1_enc_leaf.inner.coded_bits.Tie as tie
@@ -25,18 +25,18 @@ entry-len-requires-2 : tie.Need-entry-len-requires-2
 entry-len-requires-2 c κs =
     let s = c.before.before.before.before.before in
     let a = s.args in
-    let k : c.before.before.mean-position.result ≡ meanPosition a.half a.mean = simp (to_z-of_z w16 a.mean s.ranges.mean) at c.before.before.mean-position.ensures in
+    let k : c.before.before.mean-position.result ≡ mean_position a.half a.mean = simp (to_z-of_z w16 a.mean s.ranges.mean) at c.before.before.mean-position.ensures in
     let n = c.before.stage-count.ensures in
-    let g = coded-entries a.half a.stage.now a.means.now s.requires.0 a.mean a.count _ _ s.requires.1 n k in
+    let g = coded_entries a.half a.stage.now a.means.now s.requires.0 a.mean a.count _ _ s.requires.1 n k in
     g.1.there
 
 add-result : tie.Need-overflow-add-result
 add-result c =
     let s = c.before.before.before.before.before.before in
     let a = s.args in
-    let k : c.before.before.before.mean-position.result ≡ meanPosition a.half a.mean = simp (to_z-of_z w16 a.mean s.ranges.mean) at c.before.before.before.mean-position.ensures in
+    let k : c.before.before.before.mean-position.result ≡ mean_position a.half a.mean = simp (to_z-of_z w16 a.mean s.ranges.mean) at c.before.before.before.mean-position.ensures in
     let n = c.before.before.stage-count.ensures in
-    let g = coded-entries a.half a.stage.now a.means.now s.requires.0 a.mean a.count _ _ s.requires.1 n k in
+    let g = coded_entries a.half a.stage.now a.means.now s.requires.0 a.mean a.count _ _ s.requires.1 n k in
     record { fits = omega (arith, g.0.long, g.1.long, c.before.entry-len.ensures, c.entry-len2.ensures) }
 
 cast-result : tie.Need-overflow-cast-result
@@ -49,20 +49,20 @@ add-result-2 : tie.Need-overflow-add-result-2
 add-result-2 c =
     let s = c.before.before.before.before.before.before in
     let a = s.args in
-    let k : c.before.before.before.mean-position.result ≡ meanPosition a.half a.mean = simp (to_z-of_z w16 a.mean s.ranges.mean) at c.before.before.before.mean-position.ensures in
+    let k : c.before.before.before.mean-position.result ≡ mean_position a.half a.mean = simp (to_z-of_z w16 a.mean s.ranges.mean) at c.before.before.before.mean-position.ensures in
     let n = c.before.before.stage-count.ensures in
-    let g = coded-entries a.half a.stage.now a.means.now s.requires.0 a.mean a.count _ _ s.requires.1 n k in
+    let g = coded_entries a.half a.stage.now a.means.now s.requires.0 a.mean a.count _ _ s.requires.1 n k in
     record { fits = omega (arith, n, g.0.long, g.1.long, c.before.entry-len.ensures, c.entry-len2.ensures) }
 
 returns : tie.Need-returns
 returns c =
     let s = c.before.before.before.before.before.before in
     let a = s.args in
-    let k : c.before.before.before.mean-position.result ≡ meanPosition a.half a.mean = simp (to_z-of_z w16 a.mean s.ranges.mean) at c.before.before.before.mean-position.ensures in
+    let k : c.before.before.before.mean-position.result ≡ mean_position a.half a.mean = simp (to_z-of_z w16 a.mean s.ranges.mean) at c.before.before.before.mean-position.ensures in
     let n = c.before.before.stage-count.ensures in
     λ js six.
     rw (c.before.entry-len.ensures, c.entry-len2.ensures)
-    (sym (coded-size a.half a.stage.now a.means.now js s.requires.0 six a.mean a.count _ _ s.requires.1 n k))
+    (sym (coded_size a.half a.stage.now a.means.now js s.requires.0 six a.mean a.count _ _ s.requires.1 n k))
 
 pub coded-bits-spec : {M : Type 1} → statement M
 coded-bits-spec =

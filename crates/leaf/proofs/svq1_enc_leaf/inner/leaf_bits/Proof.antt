@@ -2,7 +2,7 @@
 use mathlib.Core.Path.{◌∙◌, sym}
 use mir.ValLaws.{to_z-of_z}
 use mir.Syntax.{w16}
-use Rattle.leaf.specs.LentNeedsLaws.{skip-size}
+use Rattle.leaf.specs.LentNeedsLaws.{skip_size}
 use borrow.Author.Rules.{rules}
 use Rattle.leaf.proofs.svq1_enc_leaf.inner.leaf_bits.Statement.{statement}
 use Rattle.leaf.proofs.svq1_enc_leaf.inner.leaf_bits.Tie as tie
@@ -28,7 +28,7 @@ returns : tie.Need-returns
 returns c =
     let s = c.before.before.before.before.before in
     let a = s.args in
-    rw c.before.enum_told.given.1 (λ js six. c.entry-len.ensures ∙ sym (skip-size a.half a.stage.now a.means.now js s.requires.0))
+    rw c.before.enum_told.given.1 (λ js six. c.entry-len.ensures ∙ sym (skip_size a.half a.stage.now a.means.now js s.requires.0))
 
 returns-2 : tie.Need-returns-2
 returns-2 c =

@@ -2,7 +2,7 @@
 use lib.IntN.{pos, ◌+ℤ◌}
 use mir.ValLaws.{to_z-of_z}
 use mir.Syntax.{w16, w32}
-use Rattle.leaf.specs.SignedLaws.{wider, wider-sum}
+use Rattle.leaf.specs.SignedLaws.{wider, wider_sum}
 use borrow.Author.Rules.{rules}
 use Rattle.leaf.proofs.svq1_enc_leaf.inner.mean_position.Statement.{statement}
 use Rattle.leaf.proofs.svq1_enc_leaf.inner.mean_position.Tie as tie
@@ -22,7 +22,7 @@ enum-told-2 c = search rules
 add-not-negative : tie.Need-overflow-add-not-negative
 add-not-negative c =
     let s = c.before.before in
-    rw (to_z-of_z w16 s.args.mean s.ranges.mean, to_z-of_z w32 s.args.mean (wider s.args.mean s.ranges.mean)) (wider-sum s.args.mean s.ranges.mean)
+    rw (to_z-of_z w16 s.args.mean s.ranges.mean, to_z-of_z w32 s.args.mean (wider s.args.mean s.ranges.mean)) (wider_sum s.args.mean s.ranges.mean)
 
 not-negative-requires-2 : tie.Need-not-negative-requires-2
 not-negative-requires-2 c κs = search rules
@@ -38,7 +38,7 @@ returns-2 c =
     let m = c.before.before.before.args.mean in
     let f = c.before.before.before.ranges.mean in
     rw c.before.enum-told2.given.1
-    (simp (to_z-of_z w16 m f, to_z-of_z w32 m (wider m f), to_z-of_z w32 (m +ℤ pos 256) (wider-sum m f)) at c.not-negative2.ensures)
+    (simp (to_z-of_z w16 m f, to_z-of_z w32 m (wider m f), to_z-of_z w32 (m +ℤ pos 256) (wider_sum m f)) at c.not-negative2.ensures)
 
 pub mean-position-spec : {M : Type 1} → statement M
 mean-position-spec =

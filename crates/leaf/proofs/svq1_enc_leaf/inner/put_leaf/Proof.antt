@@ -1,7 +1,7 @@
 -- A leaf, by its code. Assumes nothing.
 use mir.ValLaws.{to_z-of_z}
 use mir.Syntax.{w16}
-use Rattle.leaf.specs.LentNeedsLaws.{skip-entry, skip-size, skip-wrote}
+use Rattle.leaf.specs.LentNeedsLaws.{skip_entry, skip_size, skip_wrote}
 use borrow.Author.Rules.{rules}
 use Rattle.leaf.proofs.svq1_enc_leaf.inner.put_leaf.Statement.{statement}
 use Rattle.leaf.proofs.svq1_enc_leaf.inner.put_leaf.Tie as tie
@@ -15,7 +15,7 @@ put-code-requires c κs =
     let a = s.args in
     let t = s.requires.tables in
     let room = rw c.before.enum_told.given.1 at s.requires.room in
-    (skip-entry a.half a.stage.now a.means.now a.stages t, rw (skip-size a.half a.stage.now a.means.now a.stages t) at room)
+    (skip_entry a.half a.stage.now a.means.now a.stages t, rw (skip_size a.half a.stage.now a.means.now a.stages t) at room)
 
 enum-known-code : tie.Need-enum-known-code
 enum-known-code c = search rules
@@ -36,7 +36,7 @@ returns c =
     let s = c.before.before.before.before.before.before.before.before.before in
     let a = s.args in
     rw c.before.before.before.before.enum_told.given.1
-    (skip-wrote a.half a.stage.now a.means.now a.stages s.requires.tables a.out.now _ a.at _ c.before.before.put-code.ensures)
+    (skip_wrote a.half a.stage.now a.means.now a.stages s.requires.tables a.out.now _ a.at _ c.before.before.put-code.ensures)
 
 same-length-2 : tie.Need-same-length-2
 same-length-2 c = search rules

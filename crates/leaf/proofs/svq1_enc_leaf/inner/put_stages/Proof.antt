@@ -3,22 +3,22 @@ use mathlib.Core.Path.{◌≡◌, refl, ◌∙◌}
 use Prim.Native.Nat.{◌≤◌, ◌-◌, ◌+◌, ◌*◌}
 use lib.ListN.{length, take, get_or}
 use Rattle.bits.specs.BitNeeds.{Wrote}
-use Rattle.bits.specs.BitsLaws.{length-msb}
-use Rattle.leaf.specs.LeafBits.{stageBits}
-use Rattle.leaf.specs.LentNeedsLaws.{wrote-start, stage-put}
+use Rattle.bits.specs.BitsLaws.{length_msb}
+use Rattle.leaf.specs.LeafBits.{stage_bits}
+use Rattle.leaf.specs.LentNeedsLaws.{wrote_start, stage_put}
 use native.Mathlib.Omega.{arith}
 use borrow.Author.Rules.{rules}
 use Rattle.leaf.proofs.svq1_enc_leaf.inner.put_stages.Statement.{statement}
 use Rattle.leaf.proofs.svq1_enc_leaf.inner.put_stages.Tie as tie
 
 abbrev invariant-loop : tie.invariant-loop
-invariant-loop out₀ at count stages p₀ i₀ out p i = (i ≤ count) × (length out ≡ length out₀) × (p ≡ at + 4 * i) × Wrote out₀ at (stageBits (take i stages)) p out
+invariant-loop out₀ at count stages p₀ i₀ out p i = (i ≤ count) × (length out ≡ length out₀) × (p ≡ at + 4 * i) × Wrote out₀ at (stage_bits (take i stages)) p out
 
 abbrev decreases-loop : tie.decreases-loop
 decreases-loop out₀ at count stages p₀ i₀ out p i = count - i
 
 loop-holds : tie.Need-loop-init invariant-loop decreases-loop
-loop-holds c = (search rules, refl, omega arith, wrote-start c.before.args.out.now c.before.args.at)
+loop-holds c = (search rules, refl, omega arith, wrote_start c.before.args.out.now c.before.args.at)
 
 array-read-put-bits : tie.Need-array-read-put-bits invariant-loop decreases-loop
 array-read-put-bits c = search rules
@@ -43,8 +43,8 @@ loop-again c =
     let six : length s.args.t4 ≡ 6 = s.well-formed.1.1.1.0.1.0.1 in (
       search rules,
       w.auto.0 ∙ l.invariant.1,
-      omega (arith, w.ensures.behind, length-msb 4 (get_or s.args.t4 l.i 0), l.invariant.2),
-      stage-put s.args.t4 l.i (get_or s.args.t4 l.i 0) (omega arith) refl (search rules) l.invariant.3 w.ensures,
+      omega (arith, w.ensures.behind, length_msb 4 (get_or s.args.t4 l.i 0), l.invariant.2),
+      stage_put s.args.t4 l.i (get_or s.args.t4 l.i 0) (omega arith) refl (search rules) l.invariant.3 w.ensures,
     )
 
 same_length : tie.Need-same-length invariant-loop decreases-loop

@@ -5,7 +5,7 @@ use native.Mathlib.Omega.{arith}
 use lib.ListN.{take, drop}
 use Rattle.bits.specs.Bits.{val_of, bits_of}
 use Rattle.leaf.specs.LentNeeds.{padded, nibbles}
-use Rattle.leaf.specs.LentReadLaws.{nibbles-start, nibble-put}
+use Rattle.leaf.specs.LentReadLaws.{nibbles_start, nibble_put}
 use borrow.Author.Rules.{rules}
 use Rattle.leaf.proofs.svq1_plane.inner.get_stages.Statement.{statement}
 use Rattle.leaf.proofs.svq1_plane.inner.get_stages.Tie as tie
@@ -18,7 +18,7 @@ decreases-loop s at count stages₀ p₀ i₀ stages p i = count - i
 
 loop-holds : tie.Need-loop-init invariant-loop decreases-loop
 loop-holds c =
-    (search rules, omega arith, nibbles-start (bits_of c.before.args.s.now) c.before.args.at)
+    (search rules, omega arith, nibbles_start (bits_of c.before.args.s.now) c.before.args.at)
 
 get-nibble-requires : tie.Need-get-nibble-requires invariant-loop decreases-loop
 get-nibble-requires c κs =
@@ -42,7 +42,7 @@ loop-again c =
     let s = c.before.before.before.before in
     let l = c.before.before.loop in
     let v : c.get-nibble.result ≡ val_of (take 4 (drop (s.args.at + 4 * l.i) (bits_of s.args.s.now))) = rw l.invariant.1 at c.get-nibble.ensures in
-    (search rules, omega (arith, l.invariant.1), nibble-put (bits_of s.args.s.now) l.stages s.args.at l.i c.get-nibble.result (search rules) l.invariant.2 v)
+    (search rules, omega (arith, l.invariant.1), nibble_put (bits_of s.args.s.now) l.stages s.args.at l.i c.get-nibble.result (search rules) l.invariant.2 v)
 
 returns : tie.Need-returns invariant-loop decreases-loop
 returns c =

@@ -3,7 +3,7 @@ use native.Mathlib.Omega.{arith}
 use lib.IntN.{sub_ℕ}
 use mir.ValLaws.{to_z-of_z}
 use mir.Syntax.{w16}
-use Rattle.leaf.specs.SignedLaws.{to_pos, sub-sfits}
+use Rattle.leaf.specs.SignedLaws.{to_pos, sub_sfits}
 use borrow.Author.Rules.{rules}
 use Rattle.leaf.proofs.svq1_plane.inner.mean_at.Statement.{statement}
 use Rattle.leaf.proofs.svq1_plane.inner.mean_at.Tie as tie
@@ -31,7 +31,7 @@ returns c =
 returns-2 : tie.Need-returns-2
 returns-2 c =
     let k = c.before.before.before.args.k in
-    rw (c.before.enum-told2.given.1, c.signed-mean.ensures) (to_z-of_z w16 (sub_ℕ k 256) (sub-sfits k 256 (omega arith) (omega arith)))
+    rw (c.before.enum-told2.given.1, c.signed-mean.ensures) (to_z-of_z w16 (sub_ℕ k 256) (sub_sfits k 256 (omega arith) (omega arith)))
 
 pub mean-at-spec : {M : Type 1} → statement M
 mean-at-spec =

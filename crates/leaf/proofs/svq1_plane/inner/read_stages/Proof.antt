@@ -4,8 +4,8 @@ use native.Mathlib.Omega.{arith}
 use mir.ValLaws.{to_z-of_z}
 use mir.Syntax.{w16}
 use Rattle.bits.specs.Bits.{bits_of}
-use Rattle.bits.specs.BitsLaws.{length-bitsOf}
-use Rattle.leaf.specs.LentReadLaws.{stages-short, refused-read, coded-read}
+use Rattle.bits.specs.BitsLaws.{length_bits_of}
+use Rattle.leaf.specs.LentReadLaws.{stages_short, refused_read, coded_read}
 use borrow.Author.Rules.{rules}
 use Rattle.leaf.proofs.svq1_plane.inner.read_stages.Statement.{statement}
 use Rattle.leaf.proofs.svq1_plane.inner.read_stages.Tie as tie
@@ -26,8 +26,8 @@ returns : tie.Need-returns
 returns c =
     let s = c.before.before.before in
     let b = bits_of s.args.s.now in
-    let n = length-bitsOf s.args.s.now in
-    rw (c.refused-leaf.ensures, stages-short b s.args.at s.args.count (omega (arith, n)) (omega (arith, n))) (refused-read 24 b (omega arith))
+    let n = length_bits_of s.args.s.now in
+    rw (c.refused-leaf.ensures, stages_short b s.args.at s.args.count (omega (arith, n)) (omega (arith, n))) (refused_read 24 b (omega arith))
 
 get-stages-requires : tie.Need-get-stages-requires
 get-stages-requires c κs = search rules
@@ -45,9 +45,9 @@ returns-2 : tie.Need-returns-2
 returns-2 c =
     let s = c.before.before.before in
     let b = bits_of s.args.s.now in
-    let n = length-bitsOf s.args.s.now in
+    let n = length_bits_of s.args.s.now in
     rw (to_z-of_z w16 s.args.mean s.ranges.mean, c.get-stages.ensures)
-    (coded-read b s.args.at s.args.count s.args.mean _ (search rules) (omega (arith, n)) refl)
+    (coded_read b s.args.at s.args.count s.args.mean _ (search rules) (omega (arith, n)) refl)
 
 pub read-stages-spec : {M : Type 1} → statement M
 read-stages-spec =

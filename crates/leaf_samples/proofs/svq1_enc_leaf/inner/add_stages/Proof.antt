@@ -1,6 +1,6 @@
 -- The stages' vectors, one after the other. Assumes nothing.
 use Rattle.leaf_samples.specs.RaisedLaws.{part_room}
-use Rattle.leaf_samples.specs.ShowNeedsLaws.{Added, stage-added, all-added}
+use Rattle.leaf_samples.specs.ShowNeedsLaws.{Added, stage_added, all_added}
 use lib.ListN.{length}
 use mathlib.Core.Path.{refl}
 use Prim.Native.Nat.{◌-◌, ◌*◌}
@@ -54,7 +54,7 @@ loop-again c =
     let s = c.before.before.before.before.before.before.before.before in
     let l = c.before.before.before.before.before.loop in
     let d = c.before.before.add-stage in
-    stage-added s.args.a.now s.args.book.now s.args.base s.args.count _ l.a l.at l.k l.invariant (search rules) (omega (arith, s.requires.stages.most)) _ refl _ d.ensures.0 d.auto.0 d.ensures.1
+    stage_added s.args.a.now s.args.book.now s.args.base s.args.count _ l.a l.at l.k l.invariant (search rules) (omega (arith, s.requires.stages.most)) _ refl _ d.ensures.0 d.auto.0 d.ensures.1
 
 same_length : tie.Need-same-length invariant-loop decreases-loop
 same_length c = c.before.loop.invariant.same
@@ -63,7 +63,7 @@ returns : tie.Need-returns invariant-loop decreases-loop
 returns c =
     let s = c.before.before.before.before in
     let l = c.before.loop in
-    all-added s.args.a.now s.args.book.now s.args.base s.args.count _ l.a l.at l.k l.invariant c.loop-test.false
+    all_added s.args.a.now s.args.book.now s.args.base s.args.count _ l.a l.at l.k l.invariant c.loop-test.false
 
 pub add-stages-spec : {M : Type 1} → statement M
 add-stages-spec =

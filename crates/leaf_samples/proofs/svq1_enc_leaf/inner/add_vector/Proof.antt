@@ -4,8 +4,8 @@ use mathlib.Core.Path.{◌≡◌, refl, ◌∙◌}
 use mathlib.Core.List.{◌++◌}
 use Prim.Native.Nat.{◌≤◌, ◌-◌}
 use lib.ListN.{length, take, drop, length-set}
-use Rattle.leaf.specs.LeafForms.{plusN}
-use Rattle.leaf_samples.specs.RaisedLaws.{plusN-step, plusN-done, plusN-le, drop-next, front_same, drop_more}
+use Rattle.leaf.specs.LeafForms.{plus_n}
+use Rattle.leaf_samples.specs.RaisedLaws.{plus_n-step, plus_n_done, plus_n_le, drop_next, front_same, drop_more}
 use borrow.Author.Rules.{rules}
 use Rattle.leaf_samples.proofs.svq1_enc_leaf.inner.add_vector.Statement.{statement}
 use Rattle.leaf_samples.proofs.svq1_enc_leaf.inner.add_vector.Tie as tie
@@ -13,7 +13,7 @@ use Rattle.leaf_samples.proofs.svq1_enc_leaf.inner.add_vector.Tie as tie
 abbrev invariant-loop : tie.invariant-loop
 invariant-loop a₀ w i₀ a i =
     (i ≤ length a) × (length a ≡ length a₀) × (drop i a ≡ drop i a₀) ×
-    (take i a ++ plusN (drop i a) (drop i w) ≡ plusN a₀ w)
+    (take i a ++ plus_n (drop i a) (drop i w) ≡ plus_n a₀ w)
 
 abbrev decreases-loop : tie.decreases-loop
 decreases-loop a₀ w i₀ a i = length a - i
@@ -58,8 +58,8 @@ loop-again c =
     let e : length s.args.w.now ≡ length l.a = omega arith in (
       simp length-set (search rules),
       simp length-set l.invariant.1,
-      drop-next l.a l.i _ ∙ drop_more l.a s.args.a.now l.i l.invariant.2,
-      rw c.wide.ensures.0 (plusN-step l.a s.args.w.now l.i (search rules) e ∙ l.invariant.3),
+      drop_next l.a l.i _ ∙ drop_more l.a s.args.a.now l.i l.invariant.2,
+      rw c.wide.ensures.0 (plus_n-step l.a s.args.w.now l.i (search rules) e ∙ l.invariant.3),
     )
 
 same_length : tie.Need-same-length invariant-loop decreases-loop
@@ -69,8 +69,8 @@ returns : tie.Need-returns invariant-loop decreases-loop
 returns c =
     let l = c.before.loop in
     let a = c.before.before.before.before.args in
-    let e : l.a ≡ plusN a.a.now a.w.now = plusN-done l.a a.w.now _ l.i (omega arith) l.invariant.3 in
-    (e, rw e (plusN-le a.a.now a.w.now (λ i. omega (arith, c.before.before.shared-slice-known.given i))))
+    let e : l.a ≡ plus_n a.a.now a.w.now = plus_n_done l.a a.w.now _ l.i (omega arith) l.invariant.3 in
+    (e, rw e (plus_n_le a.a.now a.w.now (λ i. omega (arith, c.before.before.shared-slice-known.given i))))
 
 pub add-vector-spec : {M : Type 1} → statement M
 add-vector-spec =

@@ -2,7 +2,7 @@
 use mathlib.Core.Path.{◌∙◌}
 use native.Mathlib.Omega.{arith}
 use borrow.Author.Rules.{rules}
-use Rattle.bits.specs.FillLaws.{sets-all}
+use Rattle.bits.specs.FillLaws.{sets_all}
 use Rattle.leaf_samples.proofs.svq1_enc_leaf.inner.copy.Statement.{statement}
 use Rattle.leaf_samples.proofs.svq1_enc_leaf.inner.copy.Tie as tie
 
@@ -13,7 +13,7 @@ same_length : tie.Need-same-length
 same_length c = search rules
 
 returns : tie.Need-returns
-returns c = c.before.before.put-row.ensures ∙ sets-all _ _ c.before.before.before.before.before.before.requires
+returns c = c.before.before.put-row.ensures ∙ sets_all _ _ c.before.before.before.before.before.before.requires
 
 pub copy_spec : {M : Type 1} → statement M
 copy_spec =

@@ -5,7 +5,7 @@ use mathlib.Core.List.{List, ◌++◌}
 use Prim.Native.Nat.{ℕ, ◌≤◌, ◌-◌}
 use lib.ListN.{length, take, drop, get_or, length-set}
 use Rattle.leaf.specs.LeafForms.{less}
-use Rattle.leaf_samples.specs.RaisedLaws.{raised, raised-step, raised-done, raised-less, raised-le}
+use Rattle.leaf_samples.specs.RaisedLaws.{raised, raised-step, raised_done, raised-less, raised_le}
 use borrow.Author.Rules.{rules}
 use Rattle.leaf_samples.proofs.svq1_enc_leaf.inner.seed.Statement.{statement}
 use Rattle.leaf_samples.proofs.svq1_enc_leaf.inner.seed.Tie as tie
@@ -59,9 +59,9 @@ returns c =
     let l = c.before.loop in
     let s = c.before.before.before.before in
     let a = s.args in
-    let e : l.a ≡ raised a.mean a.p.now = raised-done l.a a.p.now _ a.mean l.i (omega arith) (omega arith) l.invariant.2 in (
+    let e : l.a ≡ raised a.mean a.p.now = raised_done l.a a.p.now _ a.mean l.i (omega arith) (omega arith) l.invariant.2 in (
       ap (less 256) e ∙ raised-less a.p.now a.mean,
-      λ i. omega (arith, ap (λ (x : List ℕ). get_or x i 0) e, raised-le a.p.now a.mean (λ k. omega (arith, c.before.before.shared-slice-known.given k)) i),
+      λ i. omega (arith, ap (λ (x : List ℕ). get_or x i 0) e, raised_le a.p.now a.mean (λ k. omega (arith, c.before.before.shared-slice-known.given k)) i),
     )
 
 pub seed-spec : {M : Type 1} → statement M

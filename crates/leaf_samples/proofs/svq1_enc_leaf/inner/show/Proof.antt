@@ -5,7 +5,7 @@ use lib.ListN.{length, take, length-set}
 use Rattle.bits.specs.FillLaws.{fill_step, fill_end}
 use Rattle.leaf.specs.Leaf.{samples}
 use Rattle.leaf.specs.LeafForms.{less}
-use Rattle.leaf_samples.specs.RaisedLaws.{samples-at, length-shown-sums}
+use Rattle.leaf_samples.specs.RaisedLaws.{samples_at, length_shown_sums}
 use native.Mathlib.Omega.{arith}
 use borrow.Author.Rules.{rules}
 use Rattle.leaf_samples.proofs.svq1_enc_leaf.inner.show.Statement.{statement}
@@ -46,11 +46,11 @@ loop-again c =
     let l = c.before.before.before.before.loop in
     let a = c.before.before.before.before.before.before.before.args in
     let w = samples (less a.bias a.a.now) in
-    let n = length-shown-sums a.bias a.a.now in (
+    let n = length_shown_sums a.bias a.a.now in (
       simp length-set (omega arith),
       simp length-set l.invariant.1,
       fill_step w l.out l.i c.narrow.result (search rules) (omega arith) l.invariant.2
-          (c.narrow.ensures ∙ c.before.shown.ensures ∙ sym (samples-at a.bias a.a.now l.i (omega arith))),
+          (c.narrow.ensures ∙ c.before.shown.ensures ∙ sym (samples_at a.bias a.a.now l.i (omega arith))),
     )
 
 same_length : tie.Need-same-length invariant-loop decreases-loop
@@ -60,7 +60,7 @@ returns : tie.Need-returns invariant-loop decreases-loop
 returns c =
     let l = c.before.loop in
     let a = c.before.before.before.before.args in
-    let n = length-shown-sums a.bias a.a.now in
+    let n = length_shown_sums a.bias a.a.now in
     fill_end (samples (less a.bias a.a.now)) l.out l.i (omega arith) (omega arith) l.invariant.2
 
 pub show-spec : {M : Type 1} → statement M

@@ -1,5 +1,5 @@
 -- Seed, stages and samples. Assumes nothing.
-use Rattle.leaf_samples.specs.ShowNeedsLaws.{coded-shown}
+use Rattle.leaf_samples.specs.ShowNeedsLaws.{coded_shown}
 use mathlib.Core.Path.{◌∙◌}
 use native.Mathlib.Omega.{arith}
 use borrow.Author.Rules.{rules}
@@ -31,7 +31,7 @@ returns : tie.Need-returns
 returns c =
     let s = c.before.before.before.before.before.before.before.before.before.before.before.before.before.before.before.before.before.before in
     let d = c.before.before.before.before.before.before.before.before.before.before.before.before.seed in
-    coded-shown s.args.p.now s.args.book.now _ _ s.args.base s.args.mean s.args.count _ _ _ (d.auto.0 ∙ s.requires.1.sums) d.ensures.0
+    coded_shown s.args.p.now s.args.book.now _ _ s.args.base s.args.mean s.args.count _ _ _ (d.auto.0 ∙ s.requires.1.sums) d.ensures.0
     c.before.before.before.before.before.before.before.before.add-stages.ensures c.before.before.before.before.bias-of.ensures c.before.before.show.ensures
 
 pub show-coded-spec : {M : Type 1} → statement M

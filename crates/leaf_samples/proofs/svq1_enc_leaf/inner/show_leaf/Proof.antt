@@ -1,5 +1,5 @@
 -- A leaf by its code. Assumes nothing.
-use Rattle.leaf_samples.specs.ShowNeedsLaws.{shown-skip, shown-coded}
+use Rattle.leaf_samples.specs.ShowNeedsLaws.{shown_skip, shown_coded}
 use mir.Syntax.{w16}
 use mir.ValLaws.{to_z-of_z}
 use borrow.Author.Rules.{rules}
@@ -36,7 +36,7 @@ same_length c = search rules
 
 returns : tie.Need-returns
 returns c =
-    shown-skip _ _ _ _ _ c.before.before.before.before.enum_told.given.1 c.before.before.copy.ensures
+    shown_skip _ _ _ _ _ c.before.before.before.before.enum_told.given.1 c.before.before.copy.ensures
 
 same-length-2 : tie.Need-same-length-2
 same-length-2 c = search rules
@@ -48,7 +48,7 @@ returns-2 : tie.Need-returns-2
 returns-2 c =
     let y = c.before.before.before.before.before.before.before.before.before.before.code.given in
     let e = to_z-of_z w16 y.0.0 (record { sfits = c.before.before.before.before.before.before.before.before.before.known-told.given.0.1 }) in
-    shown-coded _ _ _ _ _ _ _ _ _ y.1 (simp e at c.before.before.before.before.before.before.before.before.raised-mean.ensures.0) (search rules) c.before.before.before.before.before.before.before.stage-count.ensures c.before.before.before.before.show-coded.ensures
+    shown_coded _ _ _ _ _ _ _ _ _ y.1 (simp e at c.before.before.before.before.before.before.before.before.raised-mean.ensures.0) (search rules) c.before.before.before.before.before.before.before.stage-count.ensures c.before.before.before.before.show-coded.ensures
 
 pub show-leaf-spec : {M : Type 1} → statement M
 show-leaf-spec =

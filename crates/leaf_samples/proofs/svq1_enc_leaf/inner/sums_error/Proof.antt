@@ -1,4 +1,4 @@
--- The sums with a vector of zeros added (`zero-vector-adds`). Assumes nothing.
+-- The sums with a vector of zeros added (`zero_vector_adds`). Assumes nothing.
 use mathlib.Core.Path.{◌≡◌, sym, ap, ◌∙◌}
 use mathlib.Core.List.{List}
 use Prim.Native.Nat.{◌+◌, ◌-◌}
@@ -7,7 +7,7 @@ use lib.IntN.{ℤ}
 use lib.ListN.{replicate}
 use lib.Seq.{length-take-le}
 use Rattle.leaf.specs.Leaf.{sse, samples}
-use Rattle.leaf_samples.specs.RaisedLaws.{zero-vector-adds}
+use Rattle.leaf_samples.specs.RaisedLaws.{zero_vector_adds}
 use borrow.Author.Rules.{rules}
 use Rattle.leaf_samples.proofs.svq1_enc_leaf.inner.sums_error.Statement.{statement}
 use Rattle.leaf_samples.proofs.svq1_enc_leaf.inner.sums_error.Tie as tie
@@ -30,7 +30,7 @@ returns : tie.Need-returns
 returns c =
     let s = c.before.before.before.before in
     let e : s.args.bias + 128 - 128 ≡ s.args.bias = omega arith in
-    (rw e at c.vector-sse.ensures) ∙ ap (λ (z : List ℤ). sse s.args.t.now (samples z)) (rw s.requires.1 at (zero-vector-adds 256 s.args.bias s.args.a.now (omega arith)))
+    (rw e at c.vector-sse.ensures) ∙ ap (λ (z : List ℤ). sse s.args.t.now (samples z)) (rw s.requires.1 at (zero_vector_adds 256 s.args.bias s.args.a.now (omega arith)))
 
 pub sums-error-spec : {M : Type 1} → statement M
 sums-error-spec =

@@ -4,8 +4,8 @@ use Prim.Native.Nat.{◌-◌}
 use lib.ListN.{length}
 use Rattle.leaf.specs.Leaf.{plus, samples}
 use Rattle.leaf.specs.LeafForms.{less}
-use Rattle.leaf_samples.specs.RaisedLaws.{vector-at}
-use Rattle.leaf_samples.specs.TotalsLaws.{Totals, one_more, all-summed}
+use Rattle.leaf_samples.specs.RaisedLaws.{vector_at_lem}
+use Rattle.leaf_samples.specs.TotalsLaws.{Totals, one_more, all_summed}
 use borrow.Author.Rules.{rules}
 use Rattle.leaf_samples.proofs.svq1_enc_leaf.inner.vector_sse.Statement.{statement}
 use Rattle.leaf_samples.proofs.svq1_enc_leaf.inner.vector_sse.Tie as tie
@@ -58,7 +58,7 @@ loop-again : tie.Need-loop-preserved invariant-loop decreases-loop
 loop-again c =
     let l = c.before.before.before.before.before.before.loop in
     let s = c.before.before.before.before.before.before.before.before.before.before in
-    let v = vector-at s.args.a.now s.args.w.now s.args.bias l.i (search rules) (search rules) s.requires.4 in
+    let v = vector_at_lem s.args.a.now s.args.w.now s.args.bias l.i (search rules) (search rules) s.requires.4 in
     one_more l.invariant c.error-at.result (search rules) v.0 (rw (v.1, ← c.before.wide.ensures.0) c.error-at.ensures.0) c.error-at.ensures.1
 
 cast-result : tie.Need-overflow-cast-result invariant-loop decreases-loop
@@ -74,7 +74,7 @@ add-result : tie.Need-overflow-add-result invariant-loop decreases-loop
 add-result c = search rules
 
 returns : tie.Need-returns invariant-loop decreases-loop
-returns c = all-summed c.before.loop.invariant (search rules)
+returns c = all_summed c.before.loop.invariant (search rules)
 
 pub vector-sse-spec : {M : Type 1} → statement M
 vector-sse-spec =

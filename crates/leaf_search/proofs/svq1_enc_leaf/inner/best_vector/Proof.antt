@@ -4,16 +4,16 @@ use mathlib.Core.Path.{◌≡◌, refl, sym, ◌∙◌, ap}
 use mathlib.Core.Logic.{⊎_elim}
 use Prim.Native.Nat.{◌≤◌, ◌<◌, ◌-◌}
 use Rattle.leaf.specs.Leaf.{argmin}
-use Rattle.leaf.specs.LeafForms.{less, vectorError}
-use Rattle.leaf_samples.specs.RaisedLaws.{argmin-take, argmin-keep}
+use Rattle.leaf.specs.LeafForms.{less, vector_error}
+use Rattle.leaf_samples.specs.RaisedLaws.{argmin-take, argmin_keep}
 use borrow.Author.Rules.{rules}
 use Rattle.leaf_search.proofs.svq1_enc_leaf.inner.best_vector.Statement.{statement}
 use Rattle.leaf_search.proofs.svq1_enc_leaf.inner.best_vector.Tie as tie
 
 abbrev invariant-loop : tie.invariant-loop
 invariant-loop t a book base bias error₀ index₀ j₀ error index j =
-    (1 ≤ j) × (j ≤ 16) × (index ≡ argmin (vectorError t (less bias a) book base) (j - 1)) ×
-    (error ≡ vectorError t (less bias a) book base index) ×
+    (1 ≤ j) × (j ≤ 16) × (index ≡ argmin (vector_error t (less bias a) book base) (j - 1)) ×
+    (error ≡ vector_error t (less bias a) book base index) ×
     (index < j)
 
 abbrev decreases-loop : tie.decreases-loop
@@ -39,7 +39,7 @@ loop-again : tie.Need-loop-preserved invariant-loop decreases-loop
 loop-again c =
     let l = c.before.before.before.loop in
     let a = c.before.before.before.before.before.before.before.before.args in
-    let f = vectorError a.t.now (less a.bias a.a.now) a.book.now a.base in
+    let f = vector_error a.t.now (less a.bias a.a.now) a.book.now a.base in
     let e = c.before.vector-error2.ensures in
     ⊎_elim
     (λ w.
@@ -54,7 +54,7 @@ loop-again c =
     let h : f l.index ≤ f l.j = omega arith in (
       search rules,
       search rules,
-      w.2 ∙ argmin-keep f l.j l.index l.invariant.0 l.invariant.2 h,
+      w.2 ∙ argmin_keep f l.j l.index l.invariant.0 l.invariant.2 h,
       w.1 ∙ l.invariant.3 ∙ ap f (sym w.2),
       omega arith,
     ))

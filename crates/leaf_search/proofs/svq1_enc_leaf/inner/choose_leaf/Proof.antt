@@ -1,7 +1,7 @@
 -- One leaf: skip where it is open and no worse, else the coded one. Assumes nothing.
 use mathlib.Core.Path.{refl}
 use native.Mathlib.Omega.{arith}
-use Rattle.leaf_search.specs.InnerLaws.{skip-wins, skip-loses, skip_closed}
+use Rattle.leaf_search.specs.InnerLaws.{skip_wins, skip_loses, skip_closed}
 use borrow.Author.Rules.{rules}
 use Rattle.leaf_search.proofs.svq1_enc_leaf.inner.choose_leaf.Statement.{statement}
 use Rattle.leaf_search.proofs.svq1_enc_leaf.inner.choose_leaf.Tie as tie
@@ -25,7 +25,7 @@ returns : tie.Need-returns
 returns c =
     let a = c.before.before.before.before.before.before.before.before.before.before.before.before.before.before.before.before.before.before.before.before.args in
     let s = c.before.before.before.before.before.before.before.before.before.before.before.before.search-coded in
-    skip-wins a.terms a.t.now a.p.now a.book.now a.base s.result.code s.result.stages s.result.error _ s.ensures _ _ c.before.before.before.before.before.before.distance-of.result
+    skip_wins a.terms a.t.now a.p.now a.book.now a.base s.result.code s.result.stages s.result.error _ s.ensures _ _ c.before.before.before.before.before.before.distance-of.result
     c.before.before.before.before.before.before.before.if1.true c.before.before.before.before.before.before.distance-of.ensures (omega (arith, c.before.before.before.before.if2.true)) c.before.before.copy.ensures refl
 
 same-length-3 : tie.Need-same-length-3
@@ -38,7 +38,7 @@ returns-2 : tie.Need-returns-2
 returns-2 c =
     let a = c.before.before.before.before.before.before.before.before.before.before.before.before.before.before.before.before.args in
     let s = c.before.before.before.before.before.before.before.before.search-coded in
-    skip-loses a.terms a.t.now a.p.now a.book.now a.base s.result.code s.result.stages s.result.error _ s.ensures c.before.before.distance-of.result
+    skip_loses a.terms a.t.now a.p.now a.book.now a.base s.result.code s.result.stages s.result.error _ s.ensures c.before.before.distance-of.result
     c.before.before.before.if1.true c.before.before.distance-of.ensures (omega (arith, c.if2.false))
 
 same-length-5 : tie.Need-same-length-5

@@ -1,12 +1,12 @@
 -- One leaf, at the front of longer slices. Assumes nothing.
-use Rattle.book.specs.Level.{levelNumber}
+use Rattle.book.specs.Level.{level_number}
 use lib.ListN.{length, drop}
 use lib.Seq.{length-take-le, take_at, drop_at}
-use Rattle.leaf.specs.Leaf.{termsAt}
-use Rattle.codebook.specs.CodebookForms.{pageStart}
-use Rattle.leaf.specs.AgreeLaws.{page-room}
-use Rattle.bits.specs.BasicsLaws.{front-size}
-use Rattle.leaf_search.specs.LevelLeafNeedsLaws.{area-range, cap-small}
+use Rattle.leaf.specs.Leaf.{terms_at}
+use Rattle.codebook.specs.CodebookForms.{page_start}
+use Rattle.leaf.specs.AgreeLaws.{page_room}
+use Rattle.bits.specs.BasicsLaws.{front_size}
+use Rattle.leaf_search.specs.LevelLeafNeedsLaws.{area_range, cap_small}
 use mathlib.Core.Path.{◌≡◌, ◌∙◌, sym, ap}
 use Prim.Native.Nat.{ℕ, ◌≤◌}
 use native.Mathlib.Omega.{arith}
@@ -28,7 +28,7 @@ slice-relend-prefix-choose-leaf c =
     let s = c.before.before.before.before.before.before.before.before in
     let a = s.args in
     let q = s.requires in
-    let m = area-range (levelNumber a.level) q.level in
+    let m = area_range (level_number a.level) q.level in
     let n = length a.t.now in
     omega (arith, q.sums, q.target, m.1)
 
@@ -37,7 +37,7 @@ slice-aggregate-choose-leaf c =
     let s = c.before.before.before.before.before.before.before.before.before in
     let a = s.args in
     let q = s.requires in
-    let m = area-range (levelNumber a.level) q.level in
+    let m = area_range (level_number a.level) q.level in
     let n = length a.t.now in
     sym (length-take-le n a.a.now (omega (arith, q.sums, q.target, m.1)))
 
@@ -46,7 +46,7 @@ slice-relend-prefix-choose-leaf-2 c =
     let s = c.before.before.before.before.before.before.before.before.before in
     let a = s.args in
     let q = s.requires in
-    let m = area-range (levelNumber a.level) q.level in
+    let m = area_range (level_number a.level) q.level in
     let n = length a.t.now in
     omega (arith, q.samples, q.target, m.1)
 
@@ -55,7 +55,7 @@ slice-aggregate-choose-leaf-2 c =
     let s = c.before.before.before.before.before.before.before.before.before.before in
     let a = s.args in
     let q = s.requires in
-    let m = area-range (levelNumber a.level) q.level in
+    let m = area_range (level_number a.level) q.level in
     let n = length a.t.now in
     sym (length-take-le n a.out.now (omega (arith, q.samples, q.target, m.1)))
 
@@ -64,19 +64,19 @@ choose-leaf-requires c κs =
     let s = c.before.before.before.before.before.before.before.before.before.before in
     let a = s.args in
     let q = s.requires in
-    let m = area-range (levelNumber a.level) q.level in
+    let m = area_range (level_number a.level) q.level in
     let n = length a.t.now in
-    let d = levelNumber a.level in
-    let e = c.before.before.before.page-start.ensures ∙ ap (pageStart a.terms.half) c.before.before.before.before.number.ensures.0 in
-    let f = c.before.before.terms-at.ensures ∙ ap (λ (k : ℕ). termsAt k a.terms) c.before.before.before.before.number.ensures.0 in
+    let d = level_number a.level in
+    let e = c.before.before.before.page-start.ensures ∙ ap (page_start a.terms.half) c.before.before.before.before.number.ensures.0 in
+    let f = c.before.before.terms-at.ensures ∙ ap (λ (k : ℕ). terms_at k a.terms) c.before.before.before.before.number.ensures.0 in
     record {
       few = omega (arith, q.target, m.1);
       some = omega (arith, q.target, m.0);
       predictor = q.predictor ∙ sym q.target;
       sums = length-take-le n a.a.now (omega (arith, q.sums, q.target, m.1));
       shown = length-take-le n a.out.now (omega (arith, q.samples, q.target, m.1));
-      stages = rw f (cap-small d a.terms.cap q.stages);
-      page = rw (e, f, q.target, q.copy) (page-room a.terms.half d a.terms.cap q.stages);
+      stages = rw f (cap_small d a.terms.cap q.stages);
+      page = rw (e, f, q.target, q.copy) (page_room a.terms.half d a.terms.cap q.stages);
     }
 
 same_length : tie.Need-same-length
@@ -84,33 +84,33 @@ same_length c =
     let s = c.before.before.before.before.before.before.before.before.before.before.before.before.before.before.before in
     let a = s.args in
     let q = s.requires in
-    let m = area-range (levelNumber a.level) q.level in
+    let m = area_range (level_number a.level) q.level in
     let n = length a.t.now in
     let w = c.before.before.before.before.choose-leaf in
     let room : n ≤ length a.a.now = omega (arith, q.sums, q.target, m.1) in
-    front-size w.new.1.1.1.0 a.a.now n (w.auto.1.1.1.0 ∙ length-take-le n a.a.now room) room
+    front_size w.new.1.1.1.0 a.a.now n (w.auto.1.1.1.0 ∙ length-take-le n a.a.now room) room
 
 same-length-2 : tie.Need-same-length-2
 same-length-2 c =
     let s = c.before.before.before.before.before.before.before.before.before.before.before.before.before.before.before in
     let a = s.args in
     let q = s.requires in
-    let m = area-range (levelNumber a.level) q.level in
+    let m = area_range (level_number a.level) q.level in
     let n = length a.t.now in
     let w = c.before.before.before.before.choose-leaf in
     let room : n ≤ length a.out.now = omega (arith, q.samples, q.target, m.1) in
-    front-size w.new.1.1.1.1.0 a.out.now n (w.auto.1.1.1.1.0 ∙ length-take-le n a.out.now room) room
+    front_size w.new.1.1.1.1.0 a.out.now n (w.auto.1.1.1.1.0 ∙ length-take-le n a.out.now room) room
 
 returns : tie.Need-returns
 returns c =
     let s = c.before.before.before.before.before.before.before.before.before.before.before.before.before.before.before in
     let a = s.args in
     let q = s.requires in
-    let m = area-range (levelNumber a.level) q.level in
+    let m = area_range (level_number a.level) q.level in
     let n = length a.t.now in
-    let d = levelNumber a.level in
-    let e = c.before.before.before.before.before.before.before.before.page-start.ensures ∙ ap (pageStart a.terms.half) c.before.before.before.before.before.before.before.before.before.number.ensures.0 in
-    let f = c.before.before.before.before.before.before.before.terms-at.ensures ∙ ap (λ (k : ℕ). termsAt k a.terms) c.before.before.before.before.before.before.before.before.before.number.ensures.0 in
+    let d = level_number a.level in
+    let e = c.before.before.before.before.before.before.before.before.page-start.ensures ∙ ap (page_start a.terms.half) c.before.before.before.before.before.before.before.before.before.number.ensures.0 in
+    let f = c.before.before.before.before.before.before.before.terms-at.ensures ∙ ap (λ (k : ℕ). terms_at k a.terms) c.before.before.before.before.before.before.before.before.before.number.ensures.0 in
     let w = c.before.before.before.before.choose-leaf in
     let new = w.new.1.1.1.1.0 in
     let size : length new ≡ n = w.auto.1.1.1.1.0 ∙ length-take-le n a.out.now (omega (arith, q.samples, q.target, m.1)) in

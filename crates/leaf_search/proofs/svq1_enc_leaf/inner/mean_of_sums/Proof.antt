@@ -3,8 +3,8 @@ use native.Mathlib.Omega.{arith}
 use mathlib.Core.Path.{◌≡◌, sym, ◌∙◌, ap}
 use Prim.Native.Nat.{ℕ, ◌-◌, ◌+◌, ◌/◌, min}
 use lib.IntN.{pos, sub_ℕ}
-use Rattle.bits.specs.DifferenceLaws.{sub-over}
-use Rattle.leaf_samples.specs.RaisedLaws.{mean-up, mean-down-intra, mean-down-inter}
+use Rattle.bits.specs.DifferenceLaws.{sub_over}
+use Rattle.leaf_samples.specs.RaisedLaws.{mean_up, mean_down_intra, mean_down_inter}
 use borrow.Author.Rules.{rules}
 use Rattle.leaf_search.proofs.svq1_enc_leaf.inner.mean_of_sums.Statement.{statement}
 use Rattle.leaf_search.proofs.svq1_enc_leaf.inner.mean_of_sums.Tie as tie
@@ -47,24 +47,24 @@ returns c =
     let a = c.before.before.args in
     let q = (a.st - a.sp + a.n / 2) / a.n in
     let e : min 255 q ≡ q = omega arith in
-    (sub-over 256 q ∙ sym (mean-up a.half a.st a.sp a.n c.before.if1.true ∙ ap pos e), search rules)
+    (sub_over 256 q ∙ sym (mean_up a.half a.st a.sp a.n c.before.if1.true ∙ ap pos e), search rules)
 
 returns-2 : tie.Need-returns-2
 returns-2 c =
     let a = c.before.before.args in
     let q = (a.st - a.sp + a.n / 2) / a.n in
     let e : min 255 q ≡ 255 = omega arith in
-    (sym (mean-up a.half a.st a.sp a.n c.before.if1.true ∙ ap pos e), search rules)
+    (sym (mean_up a.half a.st a.sp a.n c.before.if1.true ∙ ap pos e), search rules)
 
 returns-3 : tie.Need-returns-3
 returns-3 c =
     let a = c.before.before.before.args in
-    (rw c.enum_told.given.1 (sym (mean-down-intra a.st a.sp a.n c.before.before.if1.false)), search rules)
+    (rw c.enum_told.given.1 (sym (mean_down_intra a.st a.sp a.n c.before.before.if1.false)), search rules)
 
 returns-4 : tie.Need-returns-4
 returns-4 c =
     let a = c.before.before.before.before.args in (
-      rw c.before.enum-told2.given.1 (sym (mean-down-inter a.st a.sp a.n c.before.before.before.if1.false)),
+      rw c.before.enum-told2.given.1 (sym (mean_down_inter a.st a.sp a.n c.before.before.before.if1.false)),
       search rules,
     )
 
@@ -75,7 +75,7 @@ returns-5 c =
     let e : 256 - q ≡ 0 = omega arith in (
       rw c.before.enum-told2.given.1
           (sym
-          (mean-down-inter a.st a.sp a.n c.before.before.before.if1.false
+          (mean_down_inter a.st a.sp a.n c.before.before.before.if1.false
           ∙ ap (λ (x : ℕ). sub_ℕ x 256) e)),
       search rules,
     )

@@ -1,6 +1,6 @@
 -- The sum of the differences is the difference of the two sums.
 use borrow.Author.Rules.{rules}
-use Rattle.leaf_samples.specs.RaisedLaws.{residual-sums}
+use Rattle.leaf_samples.specs.RaisedLaws.{residual_sums}
 use Rattle.leaf_search.proofs.svq1_enc_leaf.inner.residual_mean.Statement.{statement}
 use Rattle.leaf_search.proofs.svq1_enc_leaf.inner.residual_mean.Tie as tie
 
@@ -19,7 +19,7 @@ mean-of-sums-requires c κs = search rules
 returns : tie.Need-returns
 returns c =
     let s = c.before.before.before.before.before in (
-      rw (residual-sums s.args.t.now s.args.p.now s.requires.2, ← c.before.sum-of2.ensures.0, ← c.before.before.sum_of.ensures.0)
+      rw (residual_sums s.args.t.now s.args.p.now s.requires.2, ← c.before.sum-of2.ensures.0, ← c.before.before.sum_of.ensures.0)
           c.mean-of-sums.ensures.0,
       c.mean-of-sums.ensures.1,
     )

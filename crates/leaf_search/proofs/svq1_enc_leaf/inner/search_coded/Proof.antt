@@ -6,8 +6,8 @@ use mir.Syntax.{w16}
 use mir.Val.{to_z, of_z}
 use mir.ValLaws.{to_z-of_z}
 use lib.IntN.{sub_ℕ}
-use Rattle.leaf_search.specs.InnerLaws.{coded-done}
-use Rattle.leaf.specs.SignedLaws.{sub-sfits}
+use Rattle.leaf_search.specs.InnerLaws.{coded_done}
+use Rattle.leaf.specs.SignedLaws.{sub_sfits}
 use borrow.Author.Rules.{rules}
 use Rattle.leaf_search.proofs.svq1_enc_leaf.inner.search_coded.Statement.{statement}
 use Rattle.leaf_search.proofs.svq1_enc_leaf.inner.search_coded.Tie as tie
@@ -56,8 +56,8 @@ returns c =
     let mean = m.result in
     let small : mean < 32768 = omega (arith, m.ensures.1) in
     let stored : to_z w16 (of_z w16 c.signed-mean.result) ≡ sub_ℕ mean 256 =
-    rw c.signed-mean.ensures (to_z-of_z w16 (sub_ℕ mean 256) (sub-sfits mean 256 small (omega arith))) in
-    coded-done a.terms a.t.now a.p.now a.book.now _ _ _ a.base mean c.before.before.before.before.before.bias-of.result (to_z w16 (of_z w16 c.signed-mean.result)) s.result
+    rw c.signed-mean.ensures (to_z-of_z w16 (sub_ℕ mean 256) (sub_sfits mean 256 small (omega arith))) in
+    coded_done a.terms a.t.now a.p.now a.book.now _ _ _ a.base mean c.before.before.before.before.before.bias-of.result (to_z w16 (of_z w16 c.signed-mean.result)) s.result
     m.ensures.0 d.seed.ensures.0 s.ensures stored c.before.before.before.before.before.bias-of.ensures c.before.before.before.show.ensures
     (omega (arith, s.ensures.counted, q.requires.stages))
 

@@ -5,7 +5,7 @@ use Prim.Native.Nat.{◌-◌}
 use lib.ListN.{length}
 use borrow.Author.Tests.{not-true, not-false}
 use Rattle.leaf_samples.specs.RaisedLaws.{part_room}
-use Rattle.leaf_search.specs.StagesLaws.{StagesGoing, all-taken, stopped, taken}
+use Rattle.leaf_search.specs.StagesLaws.{StagesGoing, all_taken, stopped, taken}
 use borrow.Author.Rules.{rules}
 use Rattle.leaf_search.proofs.svq1_enc_leaf.inner.search_stages.Statement.{statement}
 use Rattle.leaf_search.proofs.svq1_enc_leaf.inner.search_stages.Tie as tie
@@ -99,7 +99,7 @@ same-length-2 : tie.Need-same-length-2 invariant-loop decreases-loop
 same-length-2 c = omega arith
 
 returns-2 : tie.Need-returns-2 invariant-loop decreases-loop
-returns-2 c = all-taken c.before.before.loop.invariant (search rules)
+returns-2 c = all_taken c.before.before.loop.invariant (search rules)
 
 pub search-stages-spec : {M : Type 1} → statement M
 search-stages-spec =

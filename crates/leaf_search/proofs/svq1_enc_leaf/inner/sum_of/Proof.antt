@@ -4,14 +4,14 @@ use mathlib.Core.Path.{◌≡◌}
 use Prim.Native.Nat.{◌≤◌, ◌*◌, ◌-◌, ◌+◌}
 use lib.ListN.{length, drop}
 use lib.Seq.{drop-length}
-use Rattle.leaf.specs.LeafForms.{sampleSum}
+use Rattle.leaf.specs.LeafForms.{sample_sum}
 use Rattle.leaf_samples.specs.RaisedLaws.{total-step}
 use borrow.Author.Rules.{rules}
 use Rattle.leaf_search.proofs.svq1_enc_leaf.inner.sum_of.Statement.{statement}
 use Rattle.leaf_search.proofs.svq1_enc_leaf.inner.sum_of.Tie as tie
 
 abbrev invariant-loop : tie.invariant-loop
-invariant-loop t sum₀ i₀ sum i = (i ≤ length t) × (sum ≤ 255 * i) × (sum + sampleSum (drop i t) ≡ sampleSum t)
+invariant-loop t sum₀ i₀ sum i = (i ≤ length t) × (sum ≤ 255 * i) × (sum + sample_sum (drop i t) ≡ sample_sum t)
 
 abbrev decreases-loop : tie.decreases-loop
 decreases-loop t sum₀ i₀ sum i = length t - i
@@ -44,7 +44,7 @@ loop-again c =
     omega (arith, total-step a.t.now l.i (search rules))
 
 returns : tie.Need-returns invariant-loop decreases-loop
-unfolding sampleSum
+unfolding sample_sum
 returns c =
     let l = c.before.loop in
     let e : l.i ≡ length c.before.before.before.args.t.now = omega arith in

@@ -3,7 +3,7 @@ use native.Mathlib.Omega.{arith}
 use mathlib.Core.Path.{◌≡◌}
 use Prim.Native.Nat.{◌≤◌, ◌*◌, ◌-◌, ◌+◌}
 use lib.ListN.{length}
-use Rattle.leaf.specs.LeafForms.{vectorError, vector}
+use Rattle.leaf.specs.LeafForms.{vector_error, vector}
 use Rattle.leaf_samples.specs.RaisedLaws.{part_room}
 use borrow.Author.Rules.{rules}
 use Rattle.leaf_search.proofs.svq1_enc_leaf.inner.vector_error.Statement.{statement}
@@ -37,7 +37,7 @@ vector-sse-requires : tie.Need-vector-sse-requires
 vector-sse-requires c κs = search rules
 
 returns : tie.Need-returns
-unfolding vectorError vector
+unfolding vector_error vector
 returns c =
     let a = c.before.before.before.before.before.args in
     let at = a.base + length a.t.now * a.j in

@@ -4,22 +4,22 @@ use Prim.Native.Nat.{◌+◌, ◌-◌, ◌*◌, ◌≤◌}
 use mathlib.Core.Path.{◌≡◌, refl, ◌∙◌}
 use lib.ListN.{length}
 use Rattle.visible_error.specs.Visible.{ShownPlane}
-use Rattle.visible_error.specs.VisibleNeeds.{shownBy}
+use Rattle.visible_error.specs.VisibleNeeds.{shown_by}
 use Rattle.listing_text.specs.LineForms.{ListedPut, lines_from}
-use Rattle.listing_text.specs.LineFormsLaws.{no_lines, more-lines}
+use Rattle.listing_text.specs.LineFormsLaws.{no_lines, more_lines}
 use borrow.Author.Rules.{rules}
 use Rattle.listing_text.proofs.inner.lines.put_lines.Statement.{statement}
 use Rattle.listing_text.proofs.inner.lines.put_lines.Tie as tie
 
 abbrev invariant-loop : tie.invariant-loop
 invariant-loop text₀ canvas source recon stated count cols at₀ k₀ text at k =
-    (k ≤ count) × (length text ≡ length text₀) × ListedPut (94 * k) text₀ 0 (lines_from (shownBy canvas source recon) stated k) at text
+    (k ≤ count) × (length text ≡ length text₀) × ListedPut (94 * k) text₀ 0 (lines_from (shown_by canvas source recon) stated k) at text
 
 abbrev decreases-loop : tie.decreases-loop
 decreases-loop text₀ canvas source recon stated count cols at₀ k₀ text at k = count - k
 
 abbrev plane : tie.Start invariant-loop decreases-loop → ShownPlane
-plane e = let a = e.args in shownBy a.canvas a.source.now a.recon.now
+plane e = let a = e.args in shown_by a.canvas a.source.now a.recon.now
 
 blocks-along-requires : tie.Need-blocks-along-requires invariant-loop decreases-loop
 blocks-along-requires c κs = search rules
@@ -79,7 +79,7 @@ loop-again c =
     let l = c.before.before.before.before.before.before.before.before.loop in
     let w = c.before.before.put-macroblock-line in
     let cols = c.before.before.before.before.before.before.before.before.before.blocks-along.ensures in
-    (omega arith, w.auto.0 ∙ l.invariant.1, more-lines (plane e) e.args.stated.now e.args.text.now l.k l.at _ _ _ (omega arith) l.invariant.2 (rw (cols, c.before.before.before.visible-block.ensures.0) at w.ensures))
+    (omega arith, w.auto.0 ∙ l.invariant.1, more_lines (plane e) e.args.stated.now e.args.text.now l.k l.at _ _ _ (omega arith) l.invariant.2 (rw (cols, c.before.before.before.visible-block.ensures.0) at w.ensures))
 
 same_length : tie.Need-same-length invariant-loop decreases-loop
 same_length c = search rules

@@ -1,7 +1,7 @@
 -- Each test decides one of the names. Assumes nothing.
 use native.Mathlib.Omega.{arith}
 use borrow.Author.Tests.{eq-eqb, ne_eqb}
-use Rattle.listing_text.specs.LineFormsLaws.{put-room}
+use Rattle.listing_text.specs.LineFormsLaws.{put_room}
 use borrow.Author.Rules.{rules}
 use Rattle.listing_text.proofs.inner.lines.put_mode.Statement.{statement}
 use Rattle.listing_text.proofs.inner.lines.put_mode.Tie as tie
@@ -18,7 +18,7 @@ same_length c = search rules
 returns : tie.Need-returns
 returns c =
     let m = c.before.before.before.before.before.before.before.args.mode in
-    rw (eq-eqb m 0 c.before.before.before.before.before.if1.true) (put-room 10 _ _ _ _ _ c.before.before.put-text.ensures (omega arith) (omega arith))
+    rw (eq-eqb m 0 c.before.before.before.before.before.if1.true) (put_room 10 _ _ _ _ _ c.before.before.put-text.ensures (omega arith) (omega arith))
 
 slice-aggregate-put-text-2 : tie.Need-slice-aggregate-put-text-2
 slice-aggregate-put-text-2 c = search rules
@@ -32,7 +32,7 @@ same-length-2 c = search rules
 returns-2 : tie.Need-returns-2
 returns-2 c =
     let m = c.before.before.before.before.before.before.before.before.args.mode in
-    rw (ne_eqb m 0 c.before.before.before.before.before.before.if1.false, eq-eqb m 1 c.before.before.before.before.before.if2.true) (put-room 10 _ _ _ _ _ c.before.before.put-text2.ensures (omega arith) (omega arith))
+    rw (ne_eqb m 0 c.before.before.before.before.before.before.if1.false, eq-eqb m 1 c.before.before.before.before.before.if2.true) (put_room 10 _ _ _ _ _ c.before.before.put-text2.ensures (omega arith) (omega arith))
 
 slice-aggregate-put-text-3 : tie.Need-slice-aggregate-put-text-3
 slice-aggregate-put-text-3 c = search rules
@@ -46,7 +46,7 @@ same-length-3 c = search rules
 returns-3 : tie.Need-returns-3
 returns-3 c =
     let m = c.before.before.before.before.before.before.before.before.before.args.mode in
-    rw (ne_eqb m 0 c.before.before.before.before.before.before.before.if1.false, ne_eqb m 1 c.before.before.before.before.before.before.if2.false, eq-eqb m 2 c.before.before.before.before.before.if3.true) (put-room 10 _ _ _ _ _ c.before.before.put-text3.ensures (omega arith) (omega arith))
+    rw (ne_eqb m 0 c.before.before.before.before.before.before.before.if1.false, ne_eqb m 1 c.before.before.before.before.before.before.if2.false, eq-eqb m 2 c.before.before.before.before.before.if3.true) (put_room 10 _ _ _ _ _ c.before.before.put-text3.ensures (omega arith) (omega arith))
 
 slice-aggregate-put-text-4 : tie.Need-slice-aggregate-put-text-4
 slice-aggregate-put-text-4 c = search rules
@@ -60,7 +60,7 @@ same-length-4 c = search rules
 returns-4 : tie.Need-returns-4
 returns-4 c =
     let m = c.before.before.before.before.before.before.before.before.before.args.mode in
-    rw (ne_eqb m 0 c.before.before.before.before.before.before.before.if1.false, ne_eqb m 1 c.before.before.before.before.before.before.if2.false, ne_eqb m 2 c.before.before.before.before.before.if3.false) (put-room 10 _ _ _ _ _ c.before.before.put-text4.ensures (omega arith) (omega arith))
+    rw (ne_eqb m 0 c.before.before.before.before.before.before.before.if1.false, ne_eqb m 1 c.before.before.before.before.before.before.if2.false, ne_eqb m 2 c.before.before.before.before.before.if3.false) (put_room 10 _ _ _ _ _ c.before.before.put-text4.ensures (omega arith) (omega arith))
 
 pub put-mode-spec : {M : Type 1} → statement M
 put-mode-spec =

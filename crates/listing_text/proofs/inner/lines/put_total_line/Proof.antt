@@ -1,6 +1,6 @@
 -- Three texts, one behind the other. Assumes nothing.
 use native.Mathlib.Omega.{arith}
-use Rattle.listing_text.specs.LineFormsLaws.{put-room, put-total}
+use Rattle.listing_text.specs.LineFormsLaws.{put_room, put_total}
 use borrow.Author.Rules.{rules}
 use Rattle.listing_text.proofs.inner.lines.put_total_line.Statement.{statement}
 use Rattle.listing_text.proofs.inner.lines.put_total_line.Tie as tie
@@ -15,14 +15,14 @@ put-number-requires : tie.Need-put-number-requires
 put-number-requires c κs =
     let a = c.before.before.before.before.before.before.before.args in
     let p = c.before.before.before.put-text in
-    let q = put-room 6 a.text.now a.at _ p.result p.new.0 p.ensures (omega arith) (omega arith) in
+    let q = put_room 6 a.text.now a.at _ p.result p.new.0 p.ensures (omega arith) (omega arith) in
     omega (arith, q.next, q.short)
 
 put-number-requires-2 : tie.Need-put-number-requires-2
 put-number-requires-2 c κs =
     let a = c.before.before.before.before.before.before.before.before.before.before.before.args in
     let p = c.before.before.before.before.before.before.before.put-text in
-    let q = put-room 6 a.text.now a.at _ p.result p.new.0 p.ensures (omega arith) (omega arith) in
+    let q = put_room 6 a.text.now a.at _ p.result p.new.0 p.ensures (omega arith) (omega arith) in
     omega (arith, q.next, q.short)
 
 same_length : tie.Need-same-length
@@ -31,7 +31,7 @@ same_length c = search rules
 returns : tie.Need-returns
 returns c =
     let a = c.before.before.before.before.before.before.before.before.before.before.before.before.before.before.args in
-    put-total a.text.now a.at a.bits a.error _ _ _ _ _ _ (omega arith) c.before.before.before.before.before.before.before.before.before.before.put-text.ensures c.before.before.before.before.before.before.put-number.ensures c.before.before.put-number2.ensures
+    put_total a.text.now a.at a.bits a.error _ _ _ _ _ _ (omega arith) c.before.before.before.before.before.before.before.before.before.before.put-text.ensures c.before.before.before.before.before.before.put-number.ensures c.before.before.put-number2.ensures
 
 pub put-total-line-spec : {M : Type 1} → statement M
 put-total-line-spec =

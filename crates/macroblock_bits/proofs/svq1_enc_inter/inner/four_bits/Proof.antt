@@ -1,7 +1,7 @@
 -- Two pairs of differences. Assumes nothing.
-use Rattle.macroblock.specs.MacroblockNeeds.{byBook}
-use Rattle.macroblock_bits.specs.CodingNeedsLaws.{four-inside, four-counted}
-use Rattle.mv_cache.specs.CacheNeeds.{nearFrom}
+use Rattle.macroblock.specs.MacroblockNeeds.{by_book}
+use Rattle.macroblock_bits.specs.CodingNeedsLaws.{four_inside, four_counted}
+use Rattle.mv_cache.specs.CacheNeeds.{near_from}
 use borrow.Author.Rules.{rules}
 use Rattle.macroblock_bits.proofs.svq1_enc_inter.inner.four_bits.Statement.{statement}
 use Rattle.macroblock_bits.proofs.svq1_enc_inter.inner.four_bits.Tie as tie
@@ -20,7 +20,7 @@ pair-bits-requires c κs =
     let s = c.before.before.before.before in
     let a = s.args in
     let e = c.before.before.four-differences.ensures in
-    let i = four-inside (byBook a.book.now) (nearFrom a.near) a.a a.b a.c a.d _ e s.requires.1 in
+    let i = four_inside (by_book a.book.now) (near_from a.near) a.a a.b a.c a.d _ e s.requires.1 in
     (s.requires.0, i.0, i.1)
 
 array-copy-out-pair-bits-3 : tie.Need-array-copy-out-pair-bits-3
@@ -34,7 +34,7 @@ pair-bits-requires-2 c κs =
     let s = c.before.before.before.before.before.before.before in
     let a = s.args in
     let e = c.before.before.before.before.before.four-differences.ensures in
-    let i = four-inside (byBook a.book.now) (nearFrom a.near) a.a a.b a.c a.d _ e s.requires.1 in
+    let i = four_inside (by_book a.book.now) (near_from a.near) a.a a.b a.c a.d _ e s.requires.1 in
     (s.requires.0, i.2, i.3)
 
 add-result : tie.Need-overflow-add-result
@@ -45,7 +45,7 @@ returns c =
     let s = c.before.before.before.before.before.before.before.before in
     let a = s.args in
     let e = c.before.before.before.before.before.before.four-differences.ensures in
-    four-counted (byBook a.book.now) (nearFrom a.near) a.a a.b a.c a.d _ e _ _ c.before.before.before.pair-bits.ensures c.pair-bits2.ensures
+    four_counted (by_book a.book.now) (near_from a.near) a.a a.b a.c a.d _ e _ _ c.before.before.before.pair-bits.ensures c.pair-bits2.ensures
 
 pub four-bits-spec : {M : Type 1} → statement M
 four-bits-spec =

@@ -1,8 +1,8 @@
 -- Two pairs of differences, one behind the other. Assumes nothing.
 use native.Mathlib.Omega.{arith}
-use Rattle.macroblock.specs.MacroblockNeeds.{byBook}
-use Rattle.macroblock_bits.specs.CodingNeedsLaws.{four-inside, four-first, four-second, four-wrote}
-use Rattle.mv_cache.specs.CacheNeeds.{nearFrom}
+use Rattle.macroblock.specs.MacroblockNeeds.{by_book}
+use Rattle.macroblock_bits.specs.CodingNeedsLaws.{four_inside, four_first, four_second, four_wrote}
+use Rattle.mv_cache.specs.CacheNeeds.{near_from}
 use borrow.Author.Rules.{rules}
 use Rattle.macroblock_bits.proofs.svq1_enc_inter.inner.put_four.Statement.{statement}
 use Rattle.macroblock_bits.proofs.svq1_enc_inter.inner.put_four.Tie as tie
@@ -21,8 +21,8 @@ put-pair-requires c κs =
     let s = c.before.before.before.before.before.before in
     let a = s.args in
     let e = c.before.before.before.four-differences.ensures in
-    let i = four-inside (byBook a.book.now) (nearFrom a.near) a.a a.b a.c a.d _ e s.requires.1 in
-    (s.requires.0, i.0, i.1, four-first (byBook a.book.now) (nearFrom a.near) a.a a.b a.c a.d _ e s.requires.2)
+    let i = four_inside (by_book a.book.now) (near_from a.near) a.a a.b a.c a.d _ e s.requires.1 in
+    (s.requires.0, i.0, i.1, four_first (by_book a.book.now) (near_from a.near) a.a a.b a.c a.d _ e s.requires.2)
 
 array-copy-out-put-pair-3 : tie.Need-array-copy-out-put-pair-3
 array-copy-out-put-pair-3 c = search rules
@@ -35,9 +35,9 @@ put-pair-requires-2 c κs =
     let s = c.before.before.before.before.before.before.before.before.before.before.before.before in
     let a = s.args in
     let e = c.before.before.before.before.before.before.before.before.before.four-differences.ensures in
-    let i = four-inside (byBook a.book.now) (nearFrom a.near) a.a a.b a.c a.d _ e s.requires.1 in
+    let i = four_inside (by_book a.book.now) (near_from a.near) a.a a.b a.c a.d _ e s.requires.1 in
     let w = c.before.before.before.before.before.put-pair in
-    (s.requires.0, i.2, i.3, four-second (byBook a.book.now) (nearFrom a.near) a.a a.b a.c a.d _ e s.requires.2 w.ensures w.auto.0)
+    (s.requires.0, i.2, i.3, four_second (by_book a.book.now) (near_from a.near) a.a a.b a.c a.d _ e s.requires.2 w.ensures w.auto.0)
 
 same_length : tie.Need-same-length
 same_length c = search rules
@@ -48,7 +48,7 @@ returns c =
     let a = s.args in
     let e = c.before.before.before.before.before.before.before.before.before.before.before.before.four-differences.ensures in
     let room = s.requires.2.bits_fit in
-    four-wrote (byBook a.book.now) (nearFrom a.near) a.a a.b a.c a.d _ e (omega arith) c.before.before.before.before.before.before.before.before.put-pair.ensures c.before.before.put-pair2.ensures
+    four_wrote (by_book a.book.now) (near_from a.near) a.a a.b a.c a.d _ e (omega arith) c.before.before.before.before.before.before.before.before.put-pair.ensures c.before.before.put-pair2.ensures
 
 pub put-four-spec : {M : Type 1} → statement M
 put-four-spec =

@@ -1,7 +1,7 @@
 -- The mode's code by its position. Assumes nothing.
 use Rattle.book.specs.BookLaws.{good_book}
-use Rattle.book.specs.Book.{modeTable}
-use Rattle.macroblock.specs.Mode.{modePosition}
+use Rattle.book.specs.Book.{mode_table}
+use Rattle.macroblock.specs.Mode.{mode_position}
 use Rattle.macroblock_bits.specs.CodingNeedsLaws.{entry-fits, entry-wrote}
 use borrow.Author.Rules.{rules}
 use Rattle.macroblock_bits.proofs.svq1_enc_inter.inner.put_mode.Statement.{statement}
@@ -17,7 +17,7 @@ put-code-requires : tie.Need-put-code-requires
 put-code-requires c κs =
     let s = c.before.before.before.before.before in
     let p = c.position.ensures in
-    entry-fits 4 (modeTable s.args.book.now) _ (good_book _ s.requires.0).mode c.before.before.mode-table.ensures (modePosition s.args.mode) _ p.0 (rw p.0 at p.1) _ _ s.requires.1
+    entry-fits 4 (mode_table s.args.book.now) _ (good_book _ s.requires.0).mode c.before.before.mode-table.ensures (mode_position s.args.mode) _ p.0 (rw p.0 at p.1) _ _ s.requires.1
 
 same_length : tie.Need-same-length
 same_length c = search rules
@@ -26,7 +26,7 @@ returns : tie.Need-returns
 returns c =
     let s = c.before.before.before.before.before.before.before.before in
     let p = c.before.before.before.position.ensures in
-    entry-wrote 4 (modeTable s.args.book.now) _ (good_book _ s.requires.0).mode c.before.before.before.before.before.mode-table.ensures (modePosition s.args.mode) _ p.0 (rw p.0 at p.1) c.before.before.put-code.ensures
+    entry-wrote 4 (mode_table s.args.book.now) _ (good_book _ s.requires.0).mode c.before.before.before.before.before.mode-table.ensures (mode_position s.args.mode) _ p.0 (rw p.0 at p.1) c.before.before.put-code.ensures
 
 pub put-mode-spec : {M : Type 1} → statement M
 put-mode-spec =

@@ -2,14 +2,14 @@
 use mathlib.Core.Path.{refl, sym, ◌∙◌}
 use Prim.Native.Nat.{◌*◌, ◌-◌, ◌≤◌}
 use native.Mathlib.Omega.{arith}
-use Rattle.macroblock_search.specs.TargetForms.{targetSample, RowsFilled}
-use Rattle.macroblock_search.specs.TargetFormsLaws.{wide, left-most, top-most, row_in, filled_none, filled_row, filled-all}
+use Rattle.macroblock_search.specs.TargetForms.{target_sample, RowsFilled}
+use Rattle.macroblock_search.specs.TargetFormsLaws.{wide, left_most, top_most, row_in, filled_none, filled_row, filled_all}
 use borrow.Author.Rules.{rules}
 use Rattle.macroblock_search.proofs.svq1_enc.inner.block.Statement.{statement}
 use Rattle.macroblock_search.proofs.svq1_enc.inner.block.Tie as tie
 
 abbrev invariant-loop : tie.invariant-loop
-invariant-loop canvas source k out₀ cols x y i₀ out i = (i ≤ 16) × RowsFilled (targetSample canvas.width canvas.height source k) (16 * i) out
+invariant-loop canvas source k out₀ cols x y i₀ out i = (i ≤ 16) × RowsFilled (target_sample canvas.width canvas.height source k) (16 * i) out
 
 abbrev decreases-loop : tie.decreases-loop
 decreases-loop canvas source k out₀ cols x y i₀ out i = 16 - i
@@ -29,7 +29,7 @@ mul-x c =
     let s = c.before.before.before in
     let a = s.args in
     let ok = s.requires.0 in
-    rw c.blocks-along.ensures (record { fits = omega (arith, left-most a.canvas.width a.canvas.height a.source.now a.k ok) })
+    rw c.blocks-along.ensures (record { fits = omega (arith, left_most a.canvas.width a.canvas.height a.source.now a.k ok) })
 
 div-y : tie.Need-nonzero-div-y invariant-loop decreases-loop
 div-y c =
@@ -43,7 +43,7 @@ mul-y c =
     let s = c.before.before.before in
     let a = s.args in
     let ok = s.requires.0 in
-    rw c.blocks-along.ensures (record { fits = omega (arith, top-most a.canvas.width a.canvas.height a.source.now a.k ok) })
+    rw c.blocks-along.ensures (record { fits = omega (arith, top_most a.canvas.width a.canvas.height a.source.now a.k ok) })
 
 loop-holds : tie.Need-loop-init invariant-loop decreases-loop
 loop-holds c = (omega arith, filled_none _ _ _ _ c.before.before.before.requires.0 _ c.before.before.before.requires.1)
@@ -53,7 +53,7 @@ add-lesser c =
     let s = c.before.before.before.before.before in
     let a = s.args in
     let ok = s.requires.0 in
-    rw c.before.before.blocks-along.ensures (record { fits = omega (arith, top-most a.canvas.width a.canvas.height a.source.now a.k ok) })
+    rw c.before.before.blocks-along.ensures (record { fits = omega (arith, top_most a.canvas.width a.canvas.height a.source.now a.k ok) })
 
 sub-lesser : tie.Need-overflow-sub-lesser invariant-loop decreases-loop
 sub-lesser c = c.before.before.before.before.before.before.requires.0.height-some
@@ -84,7 +84,7 @@ target-row-requires c κs =
     let l = c.before.before.before.lesser in
     let y : l.result ≤ a.canvas.height - 1 = omega (arith, l.ensures) in
     let loop = c.before.before.before.before.before.before.loop in
-    (omega (arith, loop.invariant.1.whole, loop.invariant.0, c.before.before.before.before.before.loop-test.true), row_in a.canvas.width a.canvas.height a.source.now a.k ok l.result y, rw c.before.before.before.before.before.before.before.blocks-along.ensures (left-most a.canvas.width a.canvas.height a.source.now a.k ok))
+    (omega (arith, loop.invariant.1.whole, loop.invariant.0, c.before.before.before.before.before.loop-test.true), row_in a.canvas.width a.canvas.height a.source.now a.k ok l.result y, rw c.before.before.before.before.before.before.before.blocks-along.ensures (left_most a.canvas.width a.canvas.height a.source.now a.k ok))
 
 add-i : tie.Need-overflow-add-i invariant-loop decreases-loop
 add-i c = search rules
@@ -104,7 +104,7 @@ same_length : tie.Need-same-length invariant-loop decreases-loop
 same_length c = c.before.loop.invariant.1.whole ∙ sym c.before.before.before.before.before.requires.1
 
 returns : tie.Need-returns invariant-loop decreases-loop
-returns c = filled-all _ _ _ _ c.before.before.before.before.before.requires.0 _ _ c.loop-test.false c.before.loop.invariant.1
+returns c = filled_all _ _ _ _ c.before.before.before.before.before.requires.0 _ _ c.loop-test.false c.before.loop.invariant.1
 
 pub block_spec : {M : Type 1} → statement M
 block_spec =

@@ -4,7 +4,7 @@ use Prim.Native.Nat.{ℕ, ◌+◌, ◌-◌, ◌≤◌, min}
 use lib.ListN.{get_or, length}
 use native.Mathlib.Omega.{arith}
 use Rattle.mv_cache.specs.Grid.{row_set}
-use Rattle.mv_cache.specs.PutLaws.{row-none, row_more}
+use Rattle.mv_cache.specs.PutLaws.{row_none, row_more}
 use borrow.Author.Rules.{rules}
 use Rattle.macroblock_search.proofs.svq1_enc.inner.repeat_row.Statement.{statement}
 use Rattle.macroblock_search.proofs.svq1_enc.inner.repeat_row.Tie as tie
@@ -16,7 +16,7 @@ abbrev decreases-loop : tie.decreases-loop
 decreases-loop out₀ source o p x last i₀ out i = 16 - i
 
 loop-holds : tie.Need-loop-init invariant-loop decreases-loop
-loop-holds c = (omega arith, refl, row-none _ _ _)
+loop-holds c = (omega arith, refl, row_none _ _ _)
 
 add-lesser : tie.Need-overflow-add-lesser invariant-loop decreases-loop
 add-lesser c = search rules

@@ -2,7 +2,7 @@
 use mathlib.Core.Path.{◌≡◌, ◌∙◌}
 use Prim.Native.Nat.{◌-◌, ◌≤◌}
 use Rattle.motion.specs.Search.{rows_to}
-use Rattle.motion.specs.CandidateForms.{spotSearch, bestSoFar, BestHeld}
+use Rattle.motion.specs.CandidateForms.{spot_search, best_so_far, BestHeld}
 use Rattle.motion.specs.ScanLaws.{rows_more, rows_start, rows_end}
 use native.Mathlib.Omega.{arith}
 use borrow.Author.Rules.{rules}
@@ -10,7 +10,7 @@ use Rattle.motion.proofs.svq1_enc_inter.inner.full_best.Statement.{statement}
 use Rattle.motion.proofs.svq1_enc_inter.inner.full_best.Tie as tie
 
 abbrev invariant-loop : tie.invariant-loop
-invariant-loop target reference p sx to best₀ k₀ best k = (k ≤ to) × (bestSoFar best ≡ rows_to (spotSearch target reference p) (bestSoFar best₀) k) × BestHeld best
+invariant-loop target reference p sx to best₀ k₀ best k = (k ≤ to) × (best_so_far best ≡ rows_to (spot_search target reference p) (best_so_far best₀) k) × BestHeld best
 
 abbrev decreases-loop : tie.decreases-loop
 decreases-loop target reference p sx to best₀ k₀ best k = to - k
@@ -27,7 +27,7 @@ loop-holds c =
     let a = s.args in
     let r = s.requires in
     let q = c.span-of2.ensures in
-    (omega (arith, q.first, q.some), rows_start a.target.now a.reference.now a.p r.0.radius-most r.0.px-low r.0.py-low c.span-of2.result q (bestSoFar a.first), r.1)
+    (omega (arith, q.first, q.some), rows_start a.target.now a.reference.now a.p r.0.radius-most r.0.px-low r.0.py-low c.span-of2.result q (best_so_far a.first), r.1)
 
 add-row-best : tie.Need-overflow-add-row-best invariant-loop decreases-loop
 add-row-best c =
@@ -79,7 +79,7 @@ loop-again c =
     let r = s.requires in
     let q = c.before.before.before.before.before.span-of2.ensures in
     let l = c.before.before.before.before.loop in
-    (omega arith, rows_more a.target.now a.reference.now a.p r.0.radius-most r.0.px-low r.0.py-low (bestSoFar a.first) l.k l.best c.row-best.result l.invariant.1 c.row-best.ensures.0, c.row-best.ensures.1)
+    (omega arith, rows_more a.target.now a.reference.now a.p r.0.radius-most r.0.px-low r.0.py-low (best_so_far a.first) l.k l.best c.row-best.result l.invariant.1 c.row-best.ensures.0, c.row-best.ensures.1)
 
 returns : tie.Need-returns invariant-loop decreases-loop
 returns c =
@@ -89,7 +89,7 @@ returns c =
     let q = c.before.before.span-of2.ensures in
     let l = c.before.loop in
     let e : l.k ≡ c.before.before.span-of2.result.to = omega arith in
-    ((rw e at l.invariant.1) ∙ rows_end a.target.now a.reference.now a.p r.0.radius-most r.0.px-low r.0.py-low c.before.before.span-of2.result q (bestSoFar a.first), l.invariant.2)
+    ((rw e at l.invariant.1) ∙ rows_end a.target.now a.reference.now a.p r.0.radius-most r.0.px-low r.0.py-low c.before.before.span-of2.result q (best_so_far a.first), l.invariant.2)
 
 pub full-best-spec : {M : Type 1} → statement M
 full-best-spec =

@@ -1,16 +1,16 @@
 -- The first k of the nine places around the vector are tried.
 use mathlib.Core.Path.{◌≡◌}
 use Prim.Native.Nat.{◌-◌, ◌≤◌}
-use Rattle.motion.specs.Search.{aroundTo}
-use Rattle.motion.specs.CandidateForms.{loweredMv, spotSearch, bestSoFar, BestHeld}
-use Rattle.motion.specs.ScanLaws.{around-none, around-step, around-all}
+use Rattle.motion.specs.Search.{around_to}
+use Rattle.motion.specs.CandidateForms.{lowered_mv, spot_search, best_so_far, BestHeld}
+use Rattle.motion.specs.ScanLaws.{around-none, around-step, around_all}
 use native.Mathlib.Omega.{arith}
 use borrow.Author.Rules.{rules}
 use Rattle.motion.proofs.svq1_enc_inter.inner.near_best.Statement.{statement}
 use Rattle.motion.proofs.svq1_enc_inter.inner.near_best.Tie as tie
 
 abbrev invariant-loop : tie.invariant-loop
-invariant-loop target reference p c best₀ k₀ best k = (k ≤ 9) × (bestSoFar best ≡ aroundTo (spotSearch target reference p) (loweredMv c.ux c.uy) (bestSoFar c) k) × BestHeld best
+invariant-loop target reference p c best₀ k₀ best k = (k ≤ 9) × (best_so_far best ≡ around_to (spot_search target reference p) (lowered_mv c.ux c.uy) (best_so_far c) k) × BestHeld best
 
 abbrev decreases-loop : tie.decreases-loop
 decreases-loop target reference p c best₀ k₀ best k = 9 - k
@@ -39,7 +39,7 @@ returns c =
     let l = c.before.loop in
     let s = c.before.before.before.before in
     let e : l.k ≡ 9 = omega arith in
-    (around-all _ s.args.c l.best s.requires.1 (rw e at l.invariant.1), l.invariant.2)
+    (around_all _ s.args.c l.best s.requires.1 (rw e at l.invariant.1), l.invariant.2)
 
 pub near-best-spec : {M : Type 1} → statement M
 near-best-spec =

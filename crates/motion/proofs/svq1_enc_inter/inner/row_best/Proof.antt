@@ -2,9 +2,9 @@
 -- it; between them one by one.
 use mathlib.Core.Path.{◌≡◌, sym, ◌∙◌}
 use Prim.Native.Nat.{◌-◌, ◌≤◌}
-use Rattle.motion.specs.Search.{rowTo}
-use Rattle.motion.specs.CandidateForms.{lowered, spotSearch, bestSoFar, BestHeld}
-use Rattle.motion.specs.ScanLaws.{row_more, row-start, row-end, row-none}
+use Rattle.motion.specs.Search.{row_to}
+use Rattle.motion.specs.CandidateForms.{lowered, spot_search, best_so_far, BestHeld}
+use Rattle.motion.specs.ScanLaws.{row_more, row_start, row_end, row_none}
 use native.Mathlib.Omega.{arith}
 use borrow.Author.Tests.{not-true, not-false}
 use borrow.Author.Rules.{rules}
@@ -12,7 +12,7 @@ use Rattle.motion.proofs.svq1_enc_inter.inner.row_best.Statement.{statement}
 use Rattle.motion.proofs.svq1_enc_inter.inner.row_best.Tie as tie
 
 abbrev invariant-loop : tie.invariant-loop
-invariant-loop target reference p uy to best₀ k₀ best k = (k ≤ to) × (bestSoFar best ≡ rowTo (spotSearch target reference p) (lowered uy) (bestSoFar best₀) k) × BestHeld best
+invariant-loop target reference p uy to best₀ k₀ best k = (k ≤ to) × (best_so_far best ≡ row_to (spot_search target reference p) (lowered uy) (best_so_far best₀) k) × BestHeld best
 
 abbrev decreases-loop : tie.decreases-loop
 decreases-loop target reference p uy to best₀ k₀ best k = to - k
@@ -25,14 +25,14 @@ returns c =
     let s = c.before.before.before.before in
     let a = s.args in
     let r = s.requires in
-    (sym (row-none a.target.now a.reference.now a.p r.0.radius-most r.0.px-low r.0.py-low a.uy (bestSoFar a.first) _ (sym c.before.axis-ok.ensures ∙ not-true _ c.if1.true)), r.1)
+    (sym (row_none a.target.now a.reference.now a.p r.0.radius-most r.0.px-low r.0.py-low a.uy (best_so_far a.first) _ (sym c.before.axis-ok.ensures ∙ not-true _ c.if1.true)), r.1)
 
 loop-holds : tie.Need-loop-init invariant-loop decreases-loop
 loop-holds c =
     let s = c.before.before.before.before in
     let a = s.args in
     let r = s.requires in
-    (omega (arith, r.2.first, r.2.some), row-start a.target.now a.reference.now a.p r.0.radius-most r.0.px-low r.0.py-low a.s r.2 a.uy (bestSoFar a.first), r.1)
+    (omega (arith, r.2.first, r.2.some), row_start a.target.now a.reference.now a.p r.0.radius-most r.0.px-low r.0.py-low a.s r.2 a.uy (best_so_far a.first), r.1)
 
 add-full-tried : tie.Need-overflow-add-full-tried invariant-loop decreases-loop
 add-full-tried c =
@@ -78,7 +78,7 @@ loop-again c =
     let a = s.args in
     let r = s.requires in
     let l = c.before.before.before.before.loop in
-    (omega arith, row_more a.target.now a.reference.now a.p r.0.radius-most r.0.px-low r.0.py-low a.uy (bestSoFar a.first) l.k l.best c.full-tried.result l.invariant.1 c.full-tried.ensures.0, c.full-tried.ensures.1)
+    (omega arith, row_more a.target.now a.reference.now a.p r.0.radius-most r.0.px-low r.0.py-low a.uy (best_so_far a.first) l.k l.best c.full-tried.result l.invariant.1 c.full-tried.ensures.0, c.full-tried.ensures.1)
 
 returns-2 : tie.Need-returns-2 invariant-loop decreases-loop
 returns-2 c =
@@ -87,7 +87,7 @@ returns-2 c =
     let r = s.requires in
     let l = c.before.loop in
     let e : l.k ≡ a.s.to = omega arith in
-    ((rw e at l.invariant.1) ∙ row-end a.target.now a.reference.now a.p r.0.radius-most r.0.px-low r.0.py-low a.s r.2 a.uy (bestSoFar a.first), l.invariant.2)
+    ((rw e at l.invariant.1) ∙ row_end a.target.now a.reference.now a.p r.0.radius-most r.0.px-low r.0.py-low a.s r.2 a.uy (best_so_far a.first), l.invariant.2)
 
 pub row-best-spec : {M : Type 1} → statement M
 row-best-spec =

@@ -1,5 +1,5 @@
 -- Zero, the full samples and the places around their best, one after the other, are the definition's search.
-use Rattle.motion.specs.CandidateForms.{spotSearch, bestSoFar}
+use Rattle.motion.specs.CandidateForms.{spot_search, best_so_far}
 use Rattle.motion.specs.ScanLaws.{whole}
 use borrow.Author.Rules.{rules}
 use Rattle.motion.proofs.svq1_enc_inter.inner.search_best.Statement.{statement}
@@ -15,7 +15,7 @@ near-best-requires : tie.Need-near-best-requires
 near-best-requires c κs = search rules
 
 returns : tie.Need-returns
-unfolding bestSoFar spotSearch
+unfolding best_so_far spot_search
 returns c =
     let z = c.before.before.tried in
     let f = c.before.full-best in

@@ -1,5 +1,5 @@
 -- An allowed vector reads inside the canvas, where its rows are those of the definition.
-use Rattle.motion.specs.CandidateFormsLaws.{reads-x, reads_y, read-in, sum_is}
+use Rattle.motion.specs.CandidateFormsLaws.{reads_x, reads_y, read_in, sum_is}
 use borrow.Author.Rules.{rules}
 use Rattle.motion.proofs.svq1_enc_inter.inner.vector_sum.Statement.{statement}
 use Rattle.motion.proofs.svq1_enc_inter.inner.vector_sum.Tie as tie
@@ -11,7 +11,7 @@ sub-block-sum : tie.Need-overflow-sub-block-sum
 sub-block-sum c =
     let s = c.before.before.before in
     let a = s.args in
-    (reads-x a.target.now a.reference.now a.p a.ux a.uy s.requires.1 s.requires.0).low
+    (reads_x a.target.now a.reference.now a.p a.ux a.uy s.requires.1 s.requires.0).low
 
 add-block-sum-2 : tie.Need-overflow-add-block-sum-2
 add-block-sum-2 c = search rules
@@ -26,7 +26,7 @@ block-sum-requires : tie.Need-block-sum-requires
 block-sum-requires c κs =
     let s = c.before.before.before.before in
     let a = s.args in
-    read-in a.target.now a.reference.now a.p a.ux a.uy s.requires.1 s.requires.0
+    read_in a.target.now a.reference.now a.p a.ux a.uy s.requires.1 s.requires.0
 
 returns : tie.Need-returns
 returns c =

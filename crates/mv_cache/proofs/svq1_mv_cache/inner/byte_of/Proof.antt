@@ -5,7 +5,7 @@ use lib.IntN.{pos, nat_abs}
 use mir.ValLaws.{to_z-of_z}
 use mir.Syntax.{w32}
 use mir.Val.{SFits}
-use Rattle.bits.specs.Basics.{signedByte}
+use Rattle.bits.specs.Basics.{signed_byte}
 use Rattle.mv_cache.specs.CacheNeedsLaws.{byte_low, byte_high}
 use Rattle.mv_cache.proofs.svq1_mv_cache.inner.byte_of.Statement.{statement}
 use Rattle.mv_cache.proofs.svq1_mv_cache.inner.byte_of.Tie as tie
@@ -22,16 +22,16 @@ cast-result c =
     let z = c.before.args.z in
     let e = to_z-of_z w32 z c.before.ranges.z in
     let b = byte_low z c.before.requires (simp e at c.if1.true) in
-    let f : SFits w32 (pos (signedByte z)) = record { sfits = omega (arith, b.small) } in
-    rw (e, b.same, to_z-of_z w32 (pos (signedByte z)) f) (tt, record { fits = b.small })
+    let f : SFits w32 (pos (signed_byte z)) = record { sfits = omega (arith, b.small) } in
+    rw (e, b.same, to_z-of_z w32 (pos (signed_byte z)) f) (tt, record { fits = b.small })
 
 returns : tie.Need-returns
 returns c =
     let z = c.before.args.z in
     let e = to_z-of_z w32 z c.before.ranges.z in
     let b = byte_low z c.before.requires (simp e at c.if1.true) in
-    let f : SFits w32 (pos (signedByte z)) = record { sfits = omega (arith, b.small) } in
-    rw (e, b.same, to_z-of_z w32 (pos (signedByte z)) f)
+    let f : SFits w32 (pos (signed_byte z)) = record { sfits = omega (arith, b.small) } in
+    rw (e, b.same, to_z-of_z w32 (pos (signed_byte z)) f)
 
 cast-result-2 : tie.Need-overflow-cast-result-2
 cast-result-2 c =

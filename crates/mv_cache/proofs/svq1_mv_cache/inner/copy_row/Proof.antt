@@ -3,7 +3,7 @@ use mathlib.Core.Path.{◌∙◌}
 use native.Mathlib.Omega.{arith}
 use borrow.Author.Rules.{rules}
 use Rattle.bits.specs.FillLaws.{length_run}
-use Rattle.mv_cache.specs.PutLaws.{row-part}
+use Rattle.mv_cache.specs.PutLaws.{row_part}
 use Rattle.mv_cache.proofs.svq1_mv_cache.inner.copy_row.Statement.{statement}
 use Rattle.mv_cache.proofs.svq1_mv_cache.inner.copy_row.Tie as tie
 
@@ -31,7 +31,7 @@ returns : tie.Need-returns
 returns c =
     let p = c.before.before in
     let s = p.before.before.before.before.before in
-    p.put-row.ensures ∙ row-part s.args.o s.args.p s.args.n s.args.source.now s.args.out.now s.requires.1
+    p.put-row.ensures ∙ row_part s.args.o s.args.p s.args.n s.args.source.now s.args.out.now s.requires.1
 
 pub copy-row-spec : {M : Type 1} → statement M
 copy-row-spec =

@@ -1,8 +1,8 @@
 -- Each neighbour is the one read at its row and column; no row up or no column back is the row or column itself.
 use mathlib.Core.Path.{◌∙◌}
 use native.Mathlib.Omega.{arith}
-use Rattle.mv_cache.specs.Neighbours.{nearOf}
-use Rattle.mv_cache.specs.CacheNeedsLaws.{first_small, same_row, same-col}
+use Rattle.mv_cache.specs.Neighbours.{near_of}
+use Rattle.mv_cache.specs.CacheNeedsLaws.{first_small, same_row, same_col}
 use borrow.Author.Rules.{rules}
 use Rattle.mv_cache.proofs.svq1_mv_cache.inner.near_blocks.Statement.{statement}
 use Rattle.mv_cache.proofs.svq1_mv_cache.inner.near_blocks.Tie as tie
@@ -65,12 +65,12 @@ neighbour-at-requires-7 : tie.Need-neighbour-at-requires-7
 neighbour-at-requires-7 c κs = search rules
 
 returns : tie.Need-returns
-unfolding nearOf
+unfolding near_of
 returns c =
     let s = c.before.before.before.before.before.before.before.before.before in
     let a = s.args in
     let row = same_row a.cols a.rows a.vx.now a.vy.now in
-    let col = same-col a.cols a.rows a.vx.now a.vy.now in
+    let col = same_col a.cols a.rows a.vx.now a.vy.now in
     let e1 = c.before.before.before.before.before.before.neighbour-at.ensures ∙ row _ _ in
     let e2 = c.before.before.before.before.before.neighbour-at2.ensures ∙ row _ _ in
     let e3 = c.before.before.before.before.neighbour-at3.ensures ∙ col _ _ in
@@ -78,7 +78,7 @@ returns c =
     let e5 = c.before.before.neighbour-at5.ensures ∙ col _ _ in
     let e6 = c.before.neighbour-at6.ensures ∙ col _ _ in
     let e7 = c.neighbour-at7.ensures ∙ col _ _ in
-    λ i. record { left = e1 i; lowLeft = e2 i; above = e3 i; aboveRight = e4 i; top = e5 i; topNext = e6 i; topRight = e7 i }
+    λ i. record { left = e1 i; low_left = e2 i; above = e3 i; above_right = e4 i; top = e5 i; top_next = e6 i; top_right = e7 i }
 
 pub near-blocks-spec : {M : Type 1} → statement M
 near-blocks-spec =

@@ -7,23 +7,23 @@ use lib.IntN.{ℤ}
 use mir.ValLaws.{to_z-of_z}
 use mir.Syntax.{w32}
 use Rattle.vectors.specs.declared.svq1_motion_predictor.Neighbour.TheVariants.{Present}
-use Rattle.mv_cache.specs.CacheNeedsLaws.{absent-above, absent-below, absent-left, absent-right, present, stored-in}
+use Rattle.mv_cache.specs.CacheNeedsLaws.{absent_above, absent_below, absent_left, absent_right, present, stored_in_lem}
 use Rattle.mv_cache.proofs.svq1_mv_cache.inner.neighbour_at.Statement.{statement}
 use Rattle.mv_cache.proofs.svq1_mv_cache.inner.neighbour_at.Tie as tie
 
 returns : tie.Need-returns
-returns c = let a = c.before.before.before.args in absent-above _ _ _ _ a.row a.up _ c.if1.true
+returns c = let a = c.before.before.before.args in absent_above _ _ _ _ a.row a.up _ c.if1.true
 
 mul-if2 : tie.Need-overflow-mul-if2
 mul-if2 c = search rules
 
 returns-2 : tie.Need-returns-2
-returns-2 c = let a = c.before.before.before.before.args in absent-below _ _ _ _ a.row a.up _ c.before.if1.false c.if2.true
+returns-2 c = let a = c.before.before.before.before.args in absent_below _ _ _ _ a.row a.up _ c.before.if1.false c.if2.true
 
 returns-3 : tie.Need-returns-3
 returns-3 c =
     let a = c.before.before.before.before.before.args in
-    absent-left _ _ _ _ a.row a.up a.col a.back c.before.before.if1.false c.before.if2.false c.if3.true
+    absent_left _ _ _ _ a.row a.up a.col a.back c.before.before.if1.false c.before.if2.false c.if3.true
 
 mul-if4 : tie.Need-overflow-mul-if4
 mul-if4 c = search rules
@@ -31,7 +31,7 @@ mul-if4 c = search rules
 returns-4 : tie.Need-returns-4
 returns-4 c =
     let a = c.before.before.before.before.before.before.args in
-    absent-right _ _ _ _ a.row a.up a.col a.back c.before.before.before.if1.false c.before.before.if2.false c.before.if3.false c.if4.true
+    absent_right _ _ _ _ a.row a.up a.col a.back c.before.before.before.if1.false c.before.before.if2.false c.before.if3.false c.if4.true
 
 mul-i : tie.Need-overflow-mul-i
 mul-i c = search rules
@@ -40,19 +40,19 @@ mul-i-2 : tie.Need-overflow-mul-i-2
 mul-i-2 c =
     let s = c.before.before.before.before.before.before in
     let a = s.args in
-    omega (arith, s.requires.x-holds, stored-in a.cols a.rows a.vx.now a.vy.now (a.row - a.up) (a.col - a.back) c.before.before.if2.false c.if4.false)
+    omega (arith, s.requires.x-holds, stored_in_lem a.cols a.rows a.vx.now a.vy.now (a.row - a.up) (a.col - a.back) c.before.before.if2.false c.if4.false)
 
 add-i : tie.Need-overflow-add-i
 add-i c =
     let s = c.before.before.before.before.before.before in
     let a = s.args in
-    omega (arith, s.requires.x-holds, stored-in a.cols a.rows a.vx.now a.vy.now (a.row - a.up) (a.col - a.back) c.before.before.if2.false c.if4.false)
+    omega (arith, s.requires.x-holds, stored_in_lem a.cols a.rows a.vx.now a.vy.now (a.row - a.up) (a.col - a.back) c.before.before.if2.false c.if4.false)
 
 shared-slice-read-signed : tie.Need-shared-slice-read-signed
 shared-slice-read-signed c =
     let s = c.before.before.before.before.before.before.before in
     let a = s.args in
-    omega (arith, s.requires.x-holds, stored-in a.cols a.rows a.vx.now a.vy.now (a.row - a.up) (a.col - a.back) c.before.before.before.if2.false c.before.if4.false)
+    omega (arith, s.requires.x-holds, stored_in_lem a.cols a.rows a.vx.now a.vy.now (a.row - a.up) (a.col - a.back) c.before.before.before.if2.false c.before.if4.false)
 
 signed-requires : tie.Need-signed-requires
 signed-requires c κs = search rules
@@ -64,7 +64,7 @@ shared-slice-read-signed-2 c =
     omega (
       arith,
       s.requires.y-holds,
-      stored-in a.cols a.rows a.vx.now a.vy.now (a.row - a.up) (a.col - a.back) c.before.before.before.before.before.if2.false c.before.before.before.if4.false,
+      stored_in_lem a.cols a.rows a.vx.now a.vy.now (a.row - a.up) (a.col - a.back) c.before.before.before.before.before.if2.false c.before.before.before.if4.false,
     )
 
 signed-requires-2 : tie.Need-signed-requires-2

@@ -4,12 +4,12 @@ use Prim.Native.Nat.{◌-◌, ◌*◌, ◌≤◌}
 use native.Mathlib.Omega.{arith}
 use native.Mathlib.Nat.{mul-le-mul}
 use lib.ListN.{length}
-use Rattle.mv_cache.specs.PutLaws.{putTo, length_to, RowSteps, row-steps, rows_none, rows_more, rows_all}
+use Rattle.mv_cache.specs.PutLaws.{put_to, length_to, RowSteps, row_steps, rows_none, rows_more, rows_all}
 use Rattle.mv_cache.proofs.svq1_mv_cache.inner.put_part.Statement.{statement}
 use Rattle.mv_cache.proofs.svq1_mv_cache.inner.put_part.Tie as tie
 
 abbrev invariant-loop : tie.invariant-loop
-invariant-loop out₀ side cols k v i₀ out i = (i ≤ side) × (out ≡ putTo side cols k v (side * i) out₀)
+invariant-loop out₀ side cols k v i₀ out i = (i ≤ side) × (out ≡ put_to side cols k v (side * i) out₀)
 
 abbrev decreases-loop : tie.decreases-loop
 decreases-loop out₀ side cols k v i₀ out i = side - i
@@ -25,7 +25,7 @@ row : (c : tie.In-loop invariant-loop decreases-loop)
 row c =
     let s = c.before.before.before.before in
     let a = s.args in
-    row-steps a.side a.cols a.k s.requires.0.some s.requires.0.wide a.out.now s.requires.0.holds c.before.loop.i c.loop-test.true
+    row_steps a.side a.cols a.k s.requires.0.some s.requires.0.wide a.out.now s.requires.0.holds c.before.loop.i c.loop-test.true
 
 div-o : tie.Need-nonzero-div-o invariant-loop decreases-loop
 div-o c = c.before.before.before.before.requires.0.wide

@@ -1,7 +1,7 @@
 -- Each slice has room for the macroblock's four places; x goes into one, y into the other.
 use mir.ValLaws.{to_z-of_z}
 use mir.Syntax.{w32}
-use Rattle.mv_cache.specs.CacheNeedsLaws.{room-x, room-y}
+use Rattle.mv_cache.specs.CacheNeedsLaws.{room_x, room_y}
 use borrow.Author.Rules.{rules}
 use Rattle.mv_cache.proofs.svq1_mv_cache.inner.store_vectors.Statement.{statement}
 use Rattle.mv_cache.proofs.svq1_mv_cache.inner.store_vectors.Tie as tie
@@ -10,13 +10,13 @@ store-components-requires : tie.Need-store-components-requires
 store-components-requires c κs =
     let s = c.before.before.before.before.before.before.before in
     let a = s.args in
-    (room-x a.cols a.rows a.vx.now a.vy.now a.k s.requires.0 s.requires.1, search rules, search rules, search rules, search rules)
+    (room_x a.cols a.rows a.vx.now a.vy.now a.k s.requires.0 s.requires.1, search rules, search rules, search rules, search rules)
 
 store-components-requires-2 : tie.Need-store-components-requires-2
 store-components-requires-2 c κs =
     let s = c.before.before.before.before.before.before.before.before.before.before.before.before.before.before.before in
     let a = s.args in
-    (room-y a.cols a.rows a.vx.now a.vy.now a.k s.requires.0 s.requires.1, search rules, search rules, search rules, search rules)
+    (room_y a.cols a.rows a.vx.now a.vy.now a.k s.requires.0 s.requires.1, search rules, search rules, search rules, search rules)
 
 same_length : tie.Need-same-length
 same_length c = search rules
@@ -37,8 +37,8 @@ returns c =
     let yc = to_z-of_z w32 a.c.y (record { sfits = c.before.before.before.before.struct-told7.given.1.0.1 }) in
     let yd = to_z-of_z w32 a.d.y (record { sfits = c.before.before.before.struct-told8.given.1.0.1 }) in
     record {
-      x-put = simp (xa, xb, xc, xd) at c.before.before.before.before.before.before.before.before.before.before.store-components.ensures;
-      y-put = simp (ya, yb, yc, yd) at c.before.before.store-components2.ensures;
+      x_put = simp (xa, xb, xc, xd) at c.before.before.before.before.before.before.before.before.before.before.store-components.ensures;
+      y_put = simp (ya, yb, yc, yd) at c.before.before.store-components2.ensures;
     }
 
 pub store-vectors-spec : {M : Type 1} → statement M

@@ -1,5 +1,5 @@
 -- The two costs compared are those of the rule.
-use Rattle.plan.specs.PlannedForms.{decided-split, decided-leaf}
+use Rattle.plan.specs.PlannedForms.{decided_split, decided_leaf}
 use borrow.Author.Rules.{rules}
 use Rattle.plan.proofs.svq1_enc_tree.inner.decide.Statement.{statement}
 use Rattle.plan.proofs.svq1_enc_tree.inner.decide.Tie as tie
@@ -23,10 +23,10 @@ cost-requires-2 : tie.Need-cost-requires-2
 cost-requires-2 c κs = search rules
 
 returns : tie.Need-returns
-returns c = decided-split _ _ _ _ _ _ c.before.before.cost.ensures c.before.cost2.ensures c.if1.true
+returns c = decided_split _ _ _ _ _ _ c.before.before.cost.ensures c.before.cost2.ensures c.if1.true
 
 returns-2 : tie.Need-returns-2
-returns-2 c = decided-leaf _ _ _ _ _ _ c.before.before.cost.ensures c.before.cost2.ensures c.if1.false
+returns-2 c = decided_leaf _ _ _ _ _ _ c.before.before.cost.ensures c.before.cost2.ensures c.if1.false
 
 pub decide-spec : {M : Type 1} → statement M
 decide-spec =

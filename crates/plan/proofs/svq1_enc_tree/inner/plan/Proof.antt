@@ -1,8 +1,8 @@
 -- The planned blocks make the plan's tree, and its root weighs what the plan states. Assumes nothing.
 use native.Mathlib.Omega.{arith}
 use Rattle.tree.specs.GeometryLaws.{at_first}
-use Rattle.plan.specs.PlanNeedsLaws.{plan-found}
-use Rattle.plan.specs.PlanNeeds.{planningIn}
+use Rattle.plan.specs.PlanNeedsLaws.{plan_found}
+use Rattle.plan.specs.PlanNeeds.{planning_in}
 use borrow.Author.Rules.{rules}
 use Rattle.plan.proofs.svq1_enc_tree.inner.plan.Statement.{statement}
 use Rattle.plan.proofs.svq1_enc_tree.inner.plan.Tie as tie
@@ -25,7 +25,7 @@ grow-tree-requires c κs = c.before.before.plan-blocks.ensures.1
 returns : tie.Need-returns
 returns c =
     let a = c.before.before.before.before.before.before.before.before.before.args in
-    plan-found (planningIn a.terms a.book.now a.codebook.now a.lambda a.d a.target.now a.predictor.now) c.before.before.before.before.before.before.before.before.before.requires.five c.before.before.before.plan-blocks.result c.before.before.before.plan-blocks.ensures.0 _ c.before.before.first_of.ensures _ c.grow-tree.ensures.0 c.grow-tree.ensures.1
+    plan_found (planning_in a.terms a.book.now a.codebook.now a.lambda a.d a.target.now a.predictor.now) c.before.before.before.before.before.before.before.before.before.requires.five c.before.before.before.plan-blocks.result c.before.before.before.plan-blocks.ensures.0 _ c.before.before.first_of.ensures _ c.grow-tree.ensures.0 c.grow-tree.ensures.1
 
 pub plan-spec : {M : Type 1} → statement M
 plan-spec =

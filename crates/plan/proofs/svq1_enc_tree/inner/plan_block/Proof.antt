@@ -2,9 +2,9 @@
 use native.Mathlib.Omega.{arith}
 use Rattle.bits.specs.Basics.{Bytes}
 use Rattle.tree.specs.Plan.{Planning}
-use Rattle.plan.specs.PlannedFormsLaws.{leaf-planned}
-use Rattle.plan.specs.PlanNeeds.{planningIn}
-use Rattle.plan.specs.PlanNeedsLaws.{leaf-any, plan-ready, parts-light, block-planned}
+use Rattle.plan.specs.PlannedFormsLaws.{leaf_planned}
+use Rattle.plan.specs.PlanNeeds.{planning_in}
+use Rattle.plan.specs.PlanNeedsLaws.{leaf_any, plan_ready, parts_light, block_planned}
 use borrow.Author.Rules.{rules}
 use Rattle.plan.proofs.svq1_enc_tree.inner.plan_block.Statement.{statement}
 use Rattle.plan.proofs.svq1_enc_tree.inner.plan_block.Tie as tie
@@ -15,8 +15,8 @@ plan-leaf-requires c κs = search rules
 returns : tie.Need-returns
 returns c =
     let a = c.before.before.before.before.before.before.before.args in
-    let g : Planning = planningIn a.terms a.book.now a.codebook.now a.lambda a.d a.target.now a.predictor.now in
-    leaf-planned g a.i _ (omega (arith, c.if1.true)) (leaf-any a.terms a.book.now a.codebook.now a.lambda a.d a.target.now a.predictor.now a.i _ c.before.plan-leaf.ensures)
+    let g : Planning = planning_in a.terms a.book.now a.codebook.now a.lambda a.d a.target.now a.predictor.now in
+    leaf_planned g a.i _ (omega (arith, c.if1.true)) (leaf_any a.terms a.book.now a.codebook.now a.lambda a.d a.target.now a.predictor.now a.i _ c.before.plan-leaf.ensures)
 
 mul-x : tie.Need-overflow-mul-x
 mul-x c = search rules
@@ -45,23 +45,23 @@ array-copy-out-y c = search rules
 decide-requires : tie.Need-decide-requires
 decide-requires c κs =
     let a = c.before.before.before.before.before.before.before.before.before.args in
-    let g : Planning = planningIn a.terms a.book.now a.codebook.now a.lambda a.d a.target.now a.predictor.now in
+    let g : Planning = planning_in a.terms a.book.now a.codebook.now a.lambda a.d a.target.now a.predictor.now in
     let bt : Bytes a.target.now = λ k. omega (arith, c.before.before.before.before.before.shared-slice-known4.given k) in
     let bp : Bytes a.predictor.now = λ k. omega (arith, c.before.before.before.before.shared-slice-known5.given k) in
-    let p = plan-ready a.terms a.book.now a.codebook.now a.raised.now a.d a.target.now a.predictor.now a.lambda c.before.before.before.before.before.before.before.before.before.requires.0.0 bt bp in
-    parts-light g p a.i c.before.before.before.before.before.before.before.before.before.requires.0.1 a.t9 c.before.before.before.before.before.before.before.before.before.requires.1 (omega (arith, c.before.before.if1.false)) _
-    (leaf-any a.terms a.book.now a.codebook.now a.lambda a.d a.target.now a.predictor.now a.i _ c.before.before.before.plan-leaf.ensures)
+    let p = plan_ready a.terms a.book.now a.codebook.now a.raised.now a.d a.target.now a.predictor.now a.lambda c.before.before.before.before.before.before.before.before.before.requires.0.0 bt bp in
+    parts_light g p a.i c.before.before.before.before.before.before.before.before.before.requires.0.1 a.t9 c.before.before.before.before.before.before.before.before.before.requires.1 (omega (arith, c.before.before.if1.false)) _
+    (leaf_any a.terms a.book.now a.codebook.now a.lambda a.d a.target.now a.predictor.now a.i _ c.before.before.before.plan-leaf.ensures)
 
 returns-2 : tie.Need-returns-2
 returns-2 c =
     let a = c.before.before.before.before.before.before.before.before.before.before.args in
-    let g : Planning = planningIn a.terms a.book.now a.codebook.now a.lambda a.d a.target.now a.predictor.now in
+    let g : Planning = planning_in a.terms a.book.now a.codebook.now a.lambda a.d a.target.now a.predictor.now in
     let bt : Bytes a.target.now = λ k. omega (arith, c.before.before.before.before.before.before.shared-slice-known4.given k) in
     let bp : Bytes a.predictor.now = λ k. omega (arith, c.before.before.before.before.before.shared-slice-known5.given k) in
-    let p = plan-ready a.terms a.book.now a.codebook.now a.raised.now a.d a.target.now a.predictor.now a.lambda c.before.before.before.before.before.before.before.before.before.before.requires.0.0 bt bp in
+    let p = plan_ready a.terms a.book.now a.codebook.now a.raised.now a.d a.target.now a.predictor.now a.lambda c.before.before.before.before.before.before.before.before.before.before.requires.0.0 bt bp in
     rw c.decide.ensures
-    (block-planned g p a.i c.before.before.before.before.before.before.before.before.before.before.requires.0.1 a.t9 c.before.before.before.before.before.before.before.before.before.before.requires.1 (omega (arith, c.before.before.before.if1.false)) _
-    (leaf-any a.terms a.book.now a.codebook.now a.lambda a.d a.target.now a.predictor.now a.i _ c.before.before.before.before.plan-leaf.ensures))
+    (block_planned g p a.i c.before.before.before.before.before.before.before.before.before.before.requires.0.1 a.t9 c.before.before.before.before.before.before.before.before.before.before.requires.1 (omega (arith, c.before.before.before.if1.false)) _
+    (leaf_any a.terms a.book.now a.codebook.now a.lambda a.d a.target.now a.predictor.now a.i _ c.before.before.before.before.plan-leaf.ensures))
 
 pub plan-block-spec : {M : Type 1} → statement M
 plan-block-spec =

@@ -1,14 +1,14 @@
 -- A block is planned when those behind it are. Assumes nothing.
 use mathlib.Core.Path.{◌∙◌, sym, refl}
 use native.Mathlib.Omega.{arith}
-use Rattle.plan.specs.PlanNeeds.{planningIn}
-use Rattle.plan.specs.PlanNeedsLaws.{Filling, fill_begins, fill-passed, fill-taken, fill-behind, fill-ends}
+use Rattle.plan.specs.PlanNeeds.{planning_in}
+use Rattle.plan.specs.PlanNeedsLaws.{Filling, fill_begins, fill_passed, fill_taken, fill_behind, fill_ends}
 use borrow.Author.Rules.{rules}
 use Rattle.plan.proofs.svq1_enc_tree.inner.plan_blocks.Statement.{statement}
 use Rattle.plan.proofs.svq1_enc_tree.inner.plan_blocks.Tie as tie
 
 abbrev invariant-loop : tie.invariant-loop
-invariant-loop terms book codebook raised lambda d target predictor a₀ i₀ a i = Filling (planningIn terms book codebook lambda d target predictor) a i
+invariant-loop terms book codebook raised lambda d target predictor a₀ i₀ a i = Filling (planning_in terms book codebook lambda d target predictor) a i
 
 abbrev decreases-loop : tie.decreases-loop
 decreases-loop terms book codebook raised lambda d target predictor a₀ i₀ a i = i
@@ -23,7 +23,7 @@ in-tree-requires : tie.Need-in-tree-requires invariant-loop decreases-loop
 in-tree-requires c κs = search rules
 
 plan-block-requires : tie.Need-plan-block-requires invariant-loop decreases-loop
-plan-block-requires c κs = ((c.before.before.before.before.before.before.before.before.before.requires, record { block = omega (arith, c.before.before.before.loop.invariant.upto); under = sym c.before.in_tree.ensures ∙ c.if1.true }), fill-behind _ _ _ _ c.before.before.before.loop.invariant (omega arith))
+plan-block-requires c κs = ((c.before.before.before.before.before.before.before.before.before.requires, record { block = omega (arith, c.before.before.before.loop.invariant.upto); under = sym c.before.in_tree.ensures ∙ c.if1.true }), fill_behind _ _ _ _ c.before.before.before.loop.invariant (omega arith))
 
 mul-a : tie.Need-overflow-mul-a invariant-loop decreases-loop
 mul-a c = search rules
@@ -38,7 +38,7 @@ loop-again : tie.Need-loop-preserved invariant-loop decreases-loop
 loop-again c =
     let a = c.before.before.before.before.before.before.before.before.before.before.args in
     let l = c.before.before.before.before.loop in
-    fill-taken (planningIn a.terms a.book.now a.codebook.now a.lambda a.d a.target.now a.predictor.now) l.a l.i _ l.invariant (omega (arith, c.before.before.before.loop-test.true)) _ c.plan-block.ensures
+    fill_taken (planning_in a.terms a.book.now a.codebook.now a.lambda a.d a.target.now a.predictor.now) l.a l.i _ l.invariant (omega (arith, c.before.before.before.loop-test.true)) _ c.plan-block.ensures
 
 loop-less-2 : tie.Need-loop-smaller-2 invariant-loop decreases-loop
 loop-less-2 c = search rules
@@ -47,10 +47,10 @@ loop-again-2 : tie.Need-loop-preserved-2 invariant-loop decreases-loop
 loop-again-2 c =
     let a = c.before.before.before.before.before.before.before.before.before.args in
     let l = c.before.before.before.loop in
-    fill-passed (planningIn a.terms a.book.now a.codebook.now a.lambda a.d a.target.now a.predictor.now) l.a l.i _ l.invariant (omega (arith, c.before.before.loop-test.true)) (sym c.before.in_tree.ensures ∙ c.if1.false)
+    fill_passed (planning_in a.terms a.book.now a.codebook.now a.lambda a.d a.target.now a.predictor.now) l.a l.i _ l.invariant (omega (arith, c.before.before.loop-test.true)) (sym c.before.in_tree.ensures ∙ c.if1.false)
 
 returns : tie.Need-returns invariant-loop decreases-loop
-returns c = (fill-ends _ _ _ c.before.loop.invariant c.loop-test.false, c.before.loop.invariant.clean)
+returns c = (fill_ends _ _ _ c.before.loop.invariant c.loop-test.false, c.before.loop.invariant.clean)
 
 pub plan-blocks-spec : {M : Type 1} → statement M
 plan-blocks-spec =

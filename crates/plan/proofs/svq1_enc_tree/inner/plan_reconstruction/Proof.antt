@@ -2,9 +2,9 @@
 use mathlib.Core.Path.{◌∙◌, ap}
 use native.Mathlib.Omega.{arith}
 use Rattle.book.specs.Level.{width, area}
-use Rattle.tree.specs.GeometryLaws.{area-most}
+use Rattle.tree.specs.GeometryLaws.{area_most}
 use Rattle.tree_samples.specs.RebuildNeedsLaws.{cut-length}
-use Rattle.plan.specs.FrontNeedsLaws.{front-lies, front-shown}
+use Rattle.plan.specs.FrontNeedsLaws.{front_lies, front_shown}
 use borrow.Author.Rules.{rules}
 use Rattle.plan.proofs.svq1_enc_tree.inner.plan_reconstruction.Statement.{statement}
 use Rattle.plan.proofs.svq1_enc_tree.inner.plan_reconstruction.Tie as tie
@@ -30,13 +30,13 @@ part-rebuild-start c = search rules
 part-rebuild-end : tie.Need-slice-bounds-rebuild-end
 part-rebuild-end c =
     let n = c.before.before.vector-length.ensures ∙ ap area c.before.before.before.level-at.ensures in
-    omega (arith, n, area-most c.before.before.before.before.before.before.before.args.d c.before.before.before.before.before.before.before.requires.five, c.before.before.before.before.before.before.before.requires.room)
+    omega (arith, n, area_most c.before.before.before.before.before.before.before.args.d c.before.before.before.before.before.before.before.requires.five, c.before.before.before.before.before.before.before.requires.room)
 
 rebuild-requires : tie.Need-rebuild-requires
 rebuild-requires c κs =
     let a = c.before.before.before.before.before.before.before.before.args in
     let n = c.before.before.before.vector-length.ensures ∙ ap area c.before.before.before.before.level-at.ensures in
-    front-lies _ _ _ _ _ _ _ _ _ c.before.before.before.before.before.before.before.before.requires (c.before.before.block-dims.ensures.0 ∙ ap width c.before.before.before.before.level-at.ensures) c.before.first_of.ensures (cut-length a.out.now _ (omega (arith, n, area-most a.d c.before.before.before.before.before.before.before.before.requires.five, c.before.before.before.before.before.before.before.before.requires.room)) ∙ n)
+    front_lies _ _ _ _ _ _ _ _ _ c.before.before.before.before.before.before.before.before.requires (c.before.before.block-dims.ensures.0 ∙ ap width c.before.before.before.before.level-at.ensures) c.before.first_of.ensures (cut-length a.out.now _ (omega (arith, n, area_most a.d c.before.before.before.before.before.before.before.before.requires.five, c.before.before.before.before.before.before.before.before.requires.room)) ∙ n)
 
 same_length : tie.Need-same-length
 same_length c = search rules
@@ -45,7 +45,7 @@ returns : tie.Need-returns
 returns c =
     let a = c.before.before.before.before.before.before.before.before.before.before.before.args in
     let n = c.before.before.before.before.before.before.vector-length.ensures ∙ ap area c.before.before.before.before.before.before.before.level-at.ensures in
-    front-shown _ _ _ _ _ a.out.now _ _ _ _ c.before.before.before.before.before.before.before.before.before.before.before.requires.room c.before.before.before.before.before.before.before.before.before.before.before.requires.five n (c.before.before.before.before.before.block-dims.ensures.0 ∙ ap width c.before.before.before.before.before.before.before.level-at.ensures) c.before.before.before.before.first_of.ensures c.before.before.rebuild.auto.1.1.1.1.1.1.1.0 c.before.before.rebuild.ensures
+    front_shown _ _ _ _ _ a.out.now _ _ _ _ c.before.before.before.before.before.before.before.before.before.before.before.requires.room c.before.before.before.before.before.before.before.before.before.before.before.requires.five n (c.before.before.before.before.before.block-dims.ensures.0 ∙ ap width c.before.before.before.before.before.before.before.level-at.ensures) c.before.before.before.before.first_of.ensures c.before.before.rebuild.auto.1.1.1.1.1.1.1.0 c.before.before.rebuild.ensures
 
 pub plan-reconstruction-spec : {M : Type 1} → statement M
 plan-reconstruction-spec =

@@ -1,11 +1,11 @@
 -- The codebook raised, and then read with. Assumes nothing.
-use Rattle.book.specs.BookLaws.{data-passes}
+use Rattle.book.specs.BookLaws.{data_passes}
 use borrow.Author.Rules.{rules}
 use Rattle.plane_dec.proofs.svq1_plane.inner.read_raised.Statement.{statement}
 use Rattle.plane_dec.proofs.svq1_plane.inner.read_raised.Tie as tie
 
 raise-codebook-requires : tie.Need-raise-codebook-requires
-raise-codebook-requires c κs = let s = c.before.before.before.before.before.before.before.before.before in ((data-passes _ _ s.requires.0.tables).0, s.requires.1)
+raise-codebook-requires c κs = let s = c.before.before.before.before.before.before.before.before.before in ((data_passes _ _ s.requires.0.tables).0, s.requires.1)
 
 read-blocks-requires : tie.Need-read-blocks-requires
 read-blocks-requires c κs = search rules

@@ -1,7 +1,7 @@
 -- The three numbers stored, or no room for them. Assumes nothing.
 use native.Mathlib.Omega.{arith}
 use lib.ListN.{length-set}
-use Rattle.plane_enc.specs.StatedLaws.{told-there, told-past}
+use Rattle.plane_enc.specs.StatedLaws.{told_there, told_past}
 use borrow.Author.Rules.{rules}
 use Rattle.plane_enc.proofs.svq1_enc_inter.inner.tell.Statement.{statement}
 use Rattle.plane_enc.proofs.svq1_enc_inter.inner.tell.Tie as tie
@@ -10,7 +10,7 @@ position-requires : tie.Need-position-requires
 position-requires c κs = search rules
 
 returns : tie.Need-returns
-returns c = told-past _ _ _ _ _ c.if1.true
+returns c = told_past _ _ _ _ _ c.if1.true
 
 mul_at : tie.Need-overflow-mul-at
 mul_at c = search rules
@@ -46,7 +46,7 @@ same_length : tie.Need-same-length
 same_length c = search rules
 
 returns-2 : tie.Need-returns-2
-returns-2 c = rw c.before.position.ensures.0 (told-there _ _ _ _ _ c.if1.false)
+returns-2 c = rw c.before.position.ensures.0 (told_there _ _ _ _ _ c.if1.false)
 
 pub tell-spec : {M : Type 1} → statement M
 tell-spec =

@@ -1,11 +1,11 @@
 -- The codebook raised, and then written with. Assumes nothing.
-use Rattle.book.specs.BookLaws.{data-passes}
+use Rattle.book.specs.BookLaws.{data_passes}
 use borrow.Author.Rules.{rules}
 use Rattle.plane_enc.proofs.svq1_enc_inter.inner.write_raised.Statement.{statement}
 use Rattle.plane_enc.proofs.svq1_enc_inter.inner.write_raised.Tie as tie
 
 raise-codebook-requires : tie.Need-raise-codebook-requires
-raise-codebook-requires c κs = let s = c.before.before.before.before.before.before.before.before.before.before.before in ((data-passes _ _ s.requires.0.tables).0, s.requires.2)
+raise-codebook-requires c κs = let s = c.before.before.before.before.before.before.before.before.before.before.before in ((data_passes _ _ s.requires.0.tables).0, s.requires.2)
 
 write-blocks-requires : tie.Need-write-blocks-requires
 write-blocks-requires c κs =

@@ -1,6 +1,6 @@
 -- One test after the other. Assumes nothing.
 use borrow.Author.Rules.{rules}
-use Rattle.replay.specs.Compare.{codedDiffer}
+use Rattle.replay.specs.Compare.{coded_differ}
 use Rattle.replay.proofs.inner.compare.coded_difference.Statement.{statement}
 use Rattle.replay.proofs.inner.compare.coded_difference.Tie as tie
 
@@ -26,7 +26,7 @@ judged-requires-2 : tie.Need-judged-requires-2
 judged-requires-2 c κs = tt
 
 returns : tie.Need-returns
-unfolding codedDiffer
+unfolding coded_differ
 returns c = rw (c.judged2.ensures, c.before.same-part.ensures, c.before.before.bytes-for.ensures.0, c.before.before.before.judged.ensures, c.before.before.before.before.same-steps.ensures, c.before.before.before.before.before.part.ensures)
 
 pub coded-difference-spec : {M : Type 1} → statement M

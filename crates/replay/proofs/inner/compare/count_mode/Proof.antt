@@ -3,19 +3,19 @@ use mathlib.Core.Path.{◌≡◌}
 use Prim.Native.Nat.{◌-◌, ◌≤◌}
 use native.Mathlib.Omega.{arith}
 use borrow.Author.Rules.{rules}
-use Rattle.replay.specs.CompareLaws.{modes-none, modes-more}
-use Rattle.replay.specs.Compare.{modesIn}
+use Rattle.replay.specs.CompareLaws.{modes_none, modes_more}
+use Rattle.replay.specs.Compare.{modes_in}
 use Rattle.replay.proofs.inner.compare.count_mode.Statement.{statement}
 use Rattle.replay.proofs.inner.compare.count_mode.Tie as tie
 
 abbrev invariant-loop : tie.invariant-loop
-invariant-loop stated mode n k₀ count₀ k count = (k ≤ n) × (count ≤ k) × (count ≡ modesIn stated mode k)
+invariant-loop stated mode n k₀ count₀ k count = (k ≤ n) × (count ≤ k) × (count ≡ modes_in stated mode k)
 
 abbrev decreases-loop : tie.decreases-loop
 decreases-loop stated mode n k₀ count₀ k count = n - k
 
 loop-holds : tie.Need-loop-init invariant-loop decreases-loop
-loop-holds c = (omega arith, omega arith, modes-none c.before.args.stated.now c.before.args.mode)
+loop-holds c = (omega arith, omega arith, modes_none c.before.args.stated.now c.before.args.mode)
 
 mul-one-if : tie.Need-overflow-mul-one-if invariant-loop decreases-loop
 mul-one-if c = omega arith
@@ -41,7 +41,7 @@ loop-less c = omega arith
 loop-again : tie.Need-loop-preserved invariant-loop decreases-loop
 loop-again c =
     let a = c.before.before.before.before.before.args in
-    (omega arith, omega (arith, c.one-if.ensures.1), modes-more a.stated.now a.mode c.before.before.before.loop.k _ _ c.before.before.before.loop.invariant.2 c.one-if.ensures.0)
+    (omega arith, omega (arith, c.one-if.ensures.1), modes_more a.stated.now a.mode c.before.before.before.loop.k _ _ c.before.before.before.loop.invariant.2 c.one-if.ensures.0)
 
 returns : tie.Need-returns invariant-loop decreases-loop
 returns c =

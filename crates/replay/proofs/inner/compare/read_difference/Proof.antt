@@ -1,5 +1,5 @@
 -- One test after the other. Assumes nothing.
-use Rattle.replay.specs.Compare.{readDiffer}
+use Rattle.replay.specs.Compare.{read_differ}
 use Rattle.replay.proofs.inner.compare.read_difference.Statement.{statement}
 use Rattle.replay.proofs.inner.compare.read_difference.Tie as tie
 
@@ -13,7 +13,7 @@ judged-requires-3 : tie.Need-judged-requires-3
 judged-requires-3 c κs = tt
 
 returns : tie.Need-returns
-unfolding readDiffer
+unfolding read_differ
 returns c = rw (c.judged3.ensures, c.before.before.judged2.ensures, c.before.before.before.before.judged.ensures)
 
 pub read-difference-spec : {M : Type 1} → statement M

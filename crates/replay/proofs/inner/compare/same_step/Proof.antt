@@ -1,6 +1,6 @@
 -- Mode, bits and error, one after the other. Assumes nothing.
 use borrow.Author.Rules.{rules}
-use Rattle.replay.specs.CompareLaws.{mode-differs, bits-differ, error-decides}
+use Rattle.replay.specs.CompareLaws.{mode_differs, bits_differ, error_decides}
 use Rattle.replay.proofs.inner.compare.same_step.Statement.{statement}
 use Rattle.replay.proofs.inner.compare.same_step.Tie as tie
 
@@ -25,7 +25,7 @@ wide-requires c κs = tt
 returns : tie.Need-returns
 returns c =
     let a = c.before.before.before.before.before.before.args in
-    mode-differs a.steps.now a.stated.now a.k _ 0 0 _ 0 0 c.before.before.before.number_at.ensures c.before.wide.ensures c.if1.true
+    mode_differs a.steps.now a.stated.now a.k _ 0 0 _ 0 0 c.before.before.before.number_at.ensures c.before.wide.ensures c.if1.true
 
 add-number-at : tie.Need-overflow-add-number-at
 add-number-at c = search rules
@@ -48,7 +48,7 @@ wide-requires-2 c κs = tt
 returns-2 : tie.Need-returns-2
 returns-2 c =
     let a = c.before.before.before.before.before.before.before.before.before.before.args in
-    bits-differ a.steps.now a.stated.now a.k _ _ 0 _ _ 0 c.before.before.before.before.before.before.before.number_at.ensures c.before.before.before.before.before.wide.ensures c.before.before.before.before.if1.false c.before.before.before.number-at2.ensures c.before.wide2.ensures c.if2.true
+    bits_differ a.steps.now a.stated.now a.k _ _ 0 _ _ 0 c.before.before.before.before.before.before.before.number_at.ensures c.before.before.before.before.before.wide.ensures c.before.before.before.before.if1.false c.before.before.before.number-at2.ensures c.before.wide2.ensures c.if2.true
 
 add-number-at-2 : tie.Need-overflow-add-number-at-2
 add-number-at-2 c = search rules
@@ -71,7 +71,7 @@ wide-requires-3 c κs = tt
 returns-3 : tie.Need-returns-3
 returns-3 c =
     let a = c.before.before.before.before.before.before.before.before.before.before.before.before.before.args in
-    error-decides a.steps.now a.stated.now a.k _ _ _ _ _ _ c.before.before.before.before.before.before.before.before.before.before.number_at.ensures c.before.before.before.before.before.before.before.before.wide.ensures c.before.before.before.before.before.before.before.if1.false c.before.before.before.before.before.before.number-at2.ensures c.before.before.before.before.wide2.ensures c.before.before.before.if2.false c.before.before.number-at3.ensures c.wide3.ensures
+    error_decides a.steps.now a.stated.now a.k _ _ _ _ _ _ c.before.before.before.before.before.before.before.before.before.before.number_at.ensures c.before.before.before.before.before.before.before.before.wide.ensures c.before.before.before.before.before.before.before.if1.false c.before.before.before.before.before.before.number-at2.ensures c.before.before.before.before.wide2.ensures c.before.before.before.if2.false c.before.before.number-at3.ensures c.wide3.ensures
 
 pub same-step-spec : {M : Type 1} → statement M
 same-step-spec =

@@ -3,19 +3,19 @@ use mathlib.Core.Bool.{true}
 use mathlib.Core.Path.{◌≡◌, sym, ◌∙◌}
 use Prim.Native.Nat.{◌-◌, ◌≤◌}
 use native.Mathlib.Omega.{arith}
-use Rattle.replay.specs.Compare.{sameSteps}
-use Rattle.replay.specs.CompareLaws.{steps-none, steps-more, steps-differ}
+use Rattle.replay.specs.Compare.{same_steps}
+use Rattle.replay.specs.CompareLaws.{steps_none, steps_more, steps_differ}
 use Rattle.replay.proofs.inner.compare.same_steps.Statement.{statement}
 use Rattle.replay.proofs.inner.compare.same_steps.Tie as tie
 
 abbrev invariant-loop : tie.invariant-loop
-invariant-loop steps stated n k₀ k = (k ≤ n) × (true ≡ sameSteps steps stated k)
+invariant-loop steps stated n k₀ k = (k ≤ n) × (true ≡ same_steps steps stated k)
 
 abbrev decreases-loop : tie.decreases-loop
 decreases-loop steps stated n k₀ k = n - k
 
 loop-holds : tie.Need-loop-init invariant-loop decreases-loop
-loop-holds c = (omega arith, steps-none c.before.before.args.steps.now c.before.before.args.stated.now)
+loop-holds c = (omega arith, steps_none c.before.before.args.steps.now c.before.before.args.stated.now)
 
 same-step-requires : tie.Need-same-step-requires invariant-loop decreases-loop
 same-step-requires c κs = (omega arith, omega arith)
@@ -29,12 +29,12 @@ loop-less c = omega arith
 loop-again : tie.Need-loop-preserved invariant-loop decreases-loop
 loop-again c =
     let a = c.before.before.before.before.before.before.args in
-    (omega arith, steps-more a.steps.now a.stated.now c.before.before.before.loop.k c.before.before.before.loop.invariant.1 (sym c.if1.true ∙ c.before.same_step.ensures))
+    (omega arith, steps_more a.steps.now a.stated.now c.before.before.before.loop.k c.before.before.before.loop.invariant.1 (sym c.if1.true ∙ c.before.same_step.ensures))
 
 returns : tie.Need-returns invariant-loop decreases-loop
 returns c =
     let a = c.before.before.before.before.before.before.args in
-    steps-differ a.steps.now a.stated.now c.before.before.before.loop.k a.n c.before.before.loop-test.true (sym c.if1.false ∙ c.before.same_step.ensures)
+    steps_differ a.steps.now a.stated.now c.before.before.before.loop.k a.n c.before.before.loop-test.true (sym c.if1.false ∙ c.before.same_step.ensures)
 
 returns-2 : tie.Need-returns-2 invariant-loop decreases-loop
 returns-2 c =

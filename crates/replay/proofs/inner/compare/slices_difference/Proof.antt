@@ -1,6 +1,6 @@
 -- One test after the other. Assumes nothing.
 use borrow.Author.Rules.{rules}
-use Rattle.replay.specs.Compare.{slicesDiffer}
+use Rattle.replay.specs.Compare.{slices_differ}
 use Rattle.replay.proofs.inner.compare.slices_difference.Statement.{statement}
 use Rattle.replay.proofs.inner.compare.slices_difference.Tie as tie
 
@@ -26,7 +26,7 @@ judged-requires-3 : tie.Need-judged-requires-3
 judged-requires-3 c κs = tt
 
 returns : tie.Need-returns
-unfolding slicesDiffer
+unfolding slices_differ
 returns c = rw (c.judged3.ensures, c.before.before.judged2.ensures, c.before.before.before.before.judged.ensures, c.before.same-part3.ensures, c.before.before.before.same-part2.ensures, c.before.before.before.before.before.same-part.ensures)
 
 pub slices-difference-spec : {M : Type 1} → statement M

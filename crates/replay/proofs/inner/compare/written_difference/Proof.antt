@@ -1,5 +1,5 @@
 -- One test after the other. Assumes nothing.
-use Rattle.replay.specs.Compare.{writtenDiffer}
+use Rattle.replay.specs.Compare.{written_differ}
 use Rattle.replay.proofs.inner.compare.written_difference.Statement.{statement}
 use Rattle.replay.proofs.inner.compare.written_difference.Tie as tie
 
@@ -16,7 +16,7 @@ judged-requires-4 : tie.Need-judged-requires-4
 judged-requires-4 c κs = tt
 
 returns : tie.Need-returns
-unfolding writtenDiffer
+unfolding written_differ
 returns c = rw (c.judged4.ensures, c.before.before.judged3.ensures, c.before.before.before.before.judged2.ensures, c.before.before.before.before.before.judged.ensures)
 
 pub written-difference-spec : {M : Type 1} → statement M

@@ -1,7 +1,7 @@
 -- The job's parts one behind the other. Assumes nothing.
 use native.Mathlib.Omega.{arith}
 use borrow.Author.Rules.{rules}
-use Rattle.replay.specs.LayoutLaws.{measured-ends, measured-whole}
+use Rattle.replay.specs.LayoutLaws.{measured_ends, measured_whole}
 use Rattle.replay.proofs.inner.file.measured_job.Statement.{statement}
 use Rattle.replay.proofs.inner.file.measured_job.Tie as tie
 
@@ -38,7 +38,7 @@ add-if1-5 c = search rules
 returns : tie.Need-returns
 returns c =
     let a = c.before.before.before.args in
-    measured-ends a.file.now a.books a.size a.at a.count _ c.before.bytes-for.ensures.0 (omega arith) c.if1.true
+    measured_ends a.file.now a.books a.size a.at a.count _ c.before.bytes-for.ensures.0 (omega arith) c.if1.true
 
 add-bits : tie.Need-overflow-add-bits
 add-bits c = search rules
@@ -121,7 +121,7 @@ add-t33 c = search rules
 returns-2 : tie.Need-returns-2
 returns-2 c =
     let a = c.before.before.before.before.before.before.before.before.args in
-    measured-whole a.file.now a.books a.size a.at a.count _ c.before.before.before.before.before.before.bytes-for.ensures.0 _ _ _ _ _ c.before.before.before.before.byte.ensures c.before.before.before.byte2.ensures c.before.before.number_at.ensures c.before.byte3.ensures c.byte4.ensures (omega arith) c.before.before.before.before.before.if1.false
+    measured_whole a.file.now a.books a.size a.at a.count _ c.before.before.before.before.before.before.bytes-for.ensures.0 _ _ _ _ _ c.before.before.before.before.byte.ensures c.before.before.before.byte2.ensures c.before.before.number_at.ensures c.before.byte3.ensures c.byte4.ensures (omega arith) c.before.before.before.before.before.if1.false
 
 pub measured-job-spec : {M : Type 1} → statement M
 measured-job-spec =

@@ -3,7 +3,7 @@ use mathlib.Core.Path.{◌≡◌, ◌∙◌}
 use Prim.Native.Nat.{◌-◌, ◌≤◌}
 use lib.ListN.{length, drop}
 use Rattle.replay.specs.Layout.{little}
-use Rattle.replay.specs.LayoutLaws.{short, one_byte, no_byte, number-many, number-few}
+use Rattle.replay.specs.LayoutLaws.{short, one_byte, no_byte, number_many, number_few}
 use native.Mathlib.Omega.{arith}
 use Rattle.replay.proofs.inner.file.number.Statement.{statement}
 use Rattle.replay.proofs.inner.file.number.Tie as tie
@@ -15,7 +15,7 @@ abbrev decreases-loop : tie.decreases-loop
 decreases-loop t n₀ i₀ n i = i
 
 returns : tie.Need-returns invariant-loop decreases-loop
-returns c = number-many _ c.if1.true
+returns c = number_many _ c.if1.true
 
 loop-holds : tie.Need-loop-init invariant-loop decreases-loop
 loop-holds c = (omega arith, omega arith, no_byte c.before.before.args.t.now)
@@ -51,7 +51,7 @@ returns-2 : tie.Need-returns-2 invariant-loop decreases-loop
 returns-2 c =
     let l = c.before.loop in
     let z : l.i ≡ 0 = omega arith in
-    (rw z at l.invariant.2) ∙ number-few c.before.before.before.before.args.t.now l.invariant.1
+    (rw z at l.invariant.2) ∙ number_few c.before.before.before.before.args.t.now l.invariant.1
 
 pub number-spec : {M : Type 1} → statement M
 number-spec =

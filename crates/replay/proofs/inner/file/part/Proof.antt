@@ -1,6 +1,6 @@
 -- The part, or none. Assumes nothing.
 use native.Mathlib.Omega.{arith}
-use Rattle.replay.specs.LayoutLaws.{part_off, part-on}
+use Rattle.replay.specs.LayoutLaws.{part_off, part_on}
 use borrow.Author.Rules.{rules}
 use Rattle.replay.proofs.inner.file.part.Statement.{statement}
 use Rattle.replay.proofs.inner.file.part.Tie as tie
@@ -45,7 +45,7 @@ part-result-end-3 : tie.Need-slice-bounds-result-end-3
 part-result-end-3 c = search rules
 
 returns-3 : tie.Need-returns-3
-returns-3 c = part-on _ _ _ (omega arith)
+returns-3 c = part_on _ _ _ (omega arith)
 
 pub part-spec : {M : Type 1} → statement M
 part-spec =

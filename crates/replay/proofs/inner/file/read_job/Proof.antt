@@ -1,18 +1,18 @@
 -- Too short, or by its bit count. Assumes nothing.
 use native.Mathlib.Omega.{arith}
 use borrow.Author.Rules.{rules}
-use Rattle.replay.specs.LayoutLaws.{job-short, job-measured}
+use Rattle.replay.specs.LayoutLaws.{job_short, job_measured}
 use Rattle.replay.proofs.inner.file.read_job.Statement.{statement}
 use Rattle.replay.proofs.inner.file.read_job.Tie as tie
 
 returns : tie.Need-returns
-returns c = job-short _ _ _ _ (omega arith)
+returns c = job_short _ _ _ _ (omega arith)
 
 sub-if2 : tie.Need-overflow-sub-if2
 sub-if2 c = search rules
 
 returns-2 : tie.Need-returns-2
-returns-2 c = job-short _ _ _ _ (omega arith)
+returns-2 c = job_short _ _ _ _ (omega arith)
 
 add-number-at : tie.Need-overflow-add-number-at
 add-number-at c = search rules
@@ -26,7 +26,7 @@ measured-job-requires c κs = search rules
 returns-3 : tie.Need-returns-3
 returns-3 c =
     let a = c.before.before.before.before.before.args in
-    job-measured a.file.now a.books a.size a.at _ _ (omega arith) c.before.number_at.ensures c.measured-job.ensures
+    job_measured a.file.now a.books a.size a.at _ _ (omega arith) c.before.number_at.ensures c.measured-job.ensures
 
 pub read-job-spec : {M : Type 1} → statement M
 read-job-spec =

@@ -1,7 +1,7 @@
 -- The scene's parts one behind the other. Assumes nothing.
 use native.Mathlib.Omega.{arith}
 use borrow.Author.Rules.{rules}
-use Rattle.replay.specs.LayoutLaws.{small-area, sized-ends, sized-whole}
+use Rattle.replay.specs.LayoutLaws.{small_area, sized_ends, sized_whole}
 use Rattle.replay.proofs.inner.file.sized_scene.Statement.{statement}
 use Rattle.replay.proofs.inner.file.sized_scene.Tie as tie
 
@@ -14,10 +14,10 @@ padded-requires-2 c κs = search rules
 mul-samples : tie.Need-overflow-mul-samples
 mul-samples c =
     let p = c.before.before.before.requires in
-    omega (arith, small-area _ _ p.1 p.2)
+    omega (arith, small_area _ _ p.1 p.2)
 
 mul-size : tie.Need-overflow-mul-size
-mul-size c = omega (arith, small-area _ _ c.before.padded.ensures.1 c.padded2.ensures.1)
+mul-size c = omega (arith, small_area _ _ c.before.padded.ensures.1 c.padded2.ensures.1)
 
 sub-if1 : tie.Need-overflow-sub-if1
 sub-if1 c = search rules
@@ -25,17 +25,17 @@ sub-if1 c = search rules
 add-if1 : tie.Need-overflow-add-if1
 add-if1 c =
     let p = c.before.before.before.requires in
-    omega (arith, small-area _ _ p.1 p.2)
+    omega (arith, small_area _ _ p.1 p.2)
 
 add-if1-2 : tie.Need-overflow-add-if1-2
 add-if1-2 c =
     let p = c.before.before.before.requires in
-    omega (arith, small-area _ _ p.1 p.2, small-area _ _ c.before.padded.ensures.1 c.padded2.ensures.1)
+    omega (arith, small_area _ _ p.1 p.2, small_area _ _ c.before.padded.ensures.1 c.padded2.ensures.1)
 
 returns : tie.Need-returns
 returns c =
     let a = c.before.before.before.before.args in
-    sized-ends a.file.now a.at a.width a.height _ _ c.before.before.padded.ensures.0 c.before.padded2.ensures.0 (omega arith) c.if1.true
+    sized_ends a.file.now a.at a.width a.height _ _ c.before.before.padded.ensures.0 c.before.padded2.ensures.0 (omega arith) c.if1.true
 
 add-source : tie.Need-overflow-add-source
 add-source c = search rules
@@ -58,7 +58,7 @@ add-t13 c = search rules
 returns-2 : tie.Need-returns-2
 returns-2 c =
     let a = c.before.before.before.before.before.args in
-    sized-whole a.file.now a.at a.width a.height _ _ c.before.before.before.padded.ensures.0 c.before.before.padded2.ensures.0 _ c.before.if1.false c.byte.ensures
+    sized_whole a.file.now a.at a.width a.height _ _ c.before.before.before.padded.ensures.0 c.before.before.padded2.ensures.0 _ c.before.if1.false c.byte.ensures
 
 pub sized-scene-spec : {M : Type 1} → statement M
 sized-scene-spec =

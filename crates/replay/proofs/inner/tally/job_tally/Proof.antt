@@ -1,6 +1,6 @@
 -- The modes counted. Assumes nothing.
 use borrow.Author.Rules.{rules}
-use Rattle.replay.specs.Tally.{talliedOf}
+use Rattle.replay.specs.Tally.{tallied_of}
 use Rattle.replay.proofs.inner.tally.job_tally.Statement.{statement}
 use Rattle.replay.proofs.inner.tally.job_tally.Tie as tie
 
@@ -20,7 +20,7 @@ count-mode-requires-4 : tie.Need-count-mode-requires-4
 count-mode-requires-4 c κs = search rules
 
 returns : tie.Need-returns
-unfolding talliedOf
+unfolding tallied_of
 returns c = rw (c.count-mode4.ensures, c.before.count-mode3.ensures, c.before.before.count-mode2.ensures, c.before.before.before.count-mode.ensures, c.before.before.before.before.lesser.ensures)
 
 pub job-tally-spec : {M : Type 1} → statement M

@@ -1,12 +1,12 @@
 -- Rows moved. Assumes nothing.
 use mathlib.Core.Path.{◌∙◌}
 use borrow.Author.Rules.{rules}
-use Rattle.tree_samples.specs.RowFormsLaws.{gather-moves, moved-gather}
+use Rattle.tree_samples.specs.RowFormsLaws.{gather_moves, moved-gather}
 use Rattle.tree_samples.proofs.svq1_enc_tree.inner.gather_block.Statement.{statement}
 use Rattle.tree_samples.proofs.svq1_enc_tree.inner.gather_block.Tie as tie
 
 move-rows-requires : tie.Need-move-rows-requires
-move-rows-requires c κs = gather-moves _ _ _ _ _ _ c.before.before.before.requires
+move-rows-requires c κs = gather_moves _ _ _ _ _ _ c.before.before.before.requires
 
 same_length : tie.Need-same-length
 same_length c = search rules

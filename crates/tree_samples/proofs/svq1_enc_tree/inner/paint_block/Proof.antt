@@ -1,12 +1,12 @@
 -- Rows moved. Assumes nothing.
 use mathlib.Core.Path.{◌∙◌}
 use borrow.Author.Rules.{rules}
-use Rattle.tree_samples.specs.RowFormsLaws.{paint-moves, moved-paint}
+use Rattle.tree_samples.specs.RowFormsLaws.{paint_moves, moved-paint}
 use Rattle.tree_samples.proofs.svq1_enc_tree.inner.paint_block.Statement.{statement}
 use Rattle.tree_samples.proofs.svq1_enc_tree.inner.paint_block.Tie as tie
 
 move-rows-requires : tie.Need-move-rows-requires
-move-rows-requires c κs = paint-moves _ _ _ _ _ _ c.before.before.before.requires
+move-rows-requires c κs = paint_moves _ _ _ _ _ _ c.before.before.before.requires
 
 same_length : tie.Need-same-length
 same_length c = search rules

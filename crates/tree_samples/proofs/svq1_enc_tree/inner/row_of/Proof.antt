@@ -2,7 +2,7 @@
 use native.Mathlib.Omega.{arith}
 use Prim.Native.Nat.{◌≤◌}
 use lib.ListN.{get_or}
-use Rattle.tree_samples.specs.PlaceLaws.{rowTable, row_at}
+use Rattle.tree_samples.specs.PlaceLaws.{row_table, row_at}
 use borrow.Author.Rules.{rules}
 use Rattle.tree_samples.proofs.svq1_enc_tree.inner.row_of.Statement.{statement}
 use Rattle.tree_samples.proofs.svq1_enc_tree.inner.row_of.Tie as tie
@@ -11,7 +11,7 @@ array-read-result : tie.Need-array-read-result
 array-read-result c = search rules
 
 cast-result : tie.Need-overflow-cast-result
-cast-result c = let t = row_at c.args.i c.requires in let s : get_or rowTable c.args.i 0 ≤ 15 = omega arith in omega arith
+cast-result c = let t = row_at c.args.i c.requires in let s : get_or row_table c.args.i 0 ≤ 15 = omega arith in omega arith
 
 returns : tie.Need-returns
 returns c = let t = row_at c.args.i c.requires in (t.0, omega arith)

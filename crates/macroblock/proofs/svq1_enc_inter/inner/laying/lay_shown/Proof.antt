@@ -1,9 +1,9 @@
 -- What is shown, and then laid. Assumes nothing.
 use Rattle.tree.specs.NodeForms.{tree_of}
-use Rattle.macroblock.specs.MotionForms.{motionOf}
-use Rattle.macroblock.specs.LayingNeeds.{choiceBy}
-use Rattle.macroblock.specs.Slices.{slicesBy}
-use Rattle.macroblock.specs.LayLaws.{lay-asks, lays}
+use Rattle.macroblock.specs.MotionForms.{motion_of}
+use Rattle.macroblock.specs.LayingNeeds.{choice_by}
+use Rattle.macroblock.specs.Slices.{slices_by}
+use Rattle.macroblock.specs.LayLaws.{lay_asks, lays}
 use borrow.Author.Rules.{rules}
 use Rattle.macroblock.proofs.svq1_enc_inter.inner.laying.lay_shown.Statement.{statement}
 use Rattle.macroblock.proofs.svq1_enc_inter.inner.laying.lay_shown.Tie as tie
@@ -14,7 +14,7 @@ show-choice-requires c κs = search rules
 lay-block-requires : tie.Need-lay-block-requires
 lay-block-requires c κs =
     let s = c.before.before.before.before.before.before.before.before.before.before.before.before.before.before in
-    lay-asks _ _ _ _ s.requires.1
+    lay_asks _ _ _ _ s.requires.1
 
 same_length : tie.Need-same-length
 same_length c = search rules
@@ -29,7 +29,7 @@ returns : tie.Need-returns
 returns c =
     let s = c.before.before.before.before.before.before.before.before.before.before.before.before.before.before.before.before.before.before.before.before.before in
     let a = s.args in
-    lays a.canvas a.k a.vectors (slicesBy a.recon.now a.vx.now a.vy.now) s.requires.1 a.reference.now a.raised.now (choiceBy a.skip (motionOf a.motion a.vectors) (tree_of a.blocks)) _ _
+    lays a.canvas a.k a.vectors (slices_by a.recon.now a.vx.now a.vy.now) s.requires.1 a.reference.now a.raised.now (choice_by a.skip (motion_of a.motion a.vectors) (tree_of a.blocks)) _ _
     c.before.before.before.before.before.before.before.before.before.before.before.before.before.show-choice.ensures c.before.before.before.before.before.before.lay-block.ensures
 
 pub lay-shown-spec : {M : Type 1} → statement M

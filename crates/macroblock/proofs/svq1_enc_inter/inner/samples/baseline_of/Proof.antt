@@ -1,6 +1,6 @@
 -- One case for each motion. Assumes nothing.
 use native.Mathlib.Omega.{arith}
-use Rattle.macroblock.specs.SampleNeedsLaws.{stands_at, over_none, over-one, over-four}
+use Rattle.macroblock.specs.SampleNeedsLaws.{stands_at, over_none, over_one, over_four}
 use borrow.Author.Rules.{rules}
 use Rattle.macroblock.proofs.svq1_enc_inter.inner.samples.baseline_of.Statement.{statement}
 use Rattle.macroblock.proofs.svq1_enc_inter.inner.samples.baseline_of.Tie as tie
@@ -48,13 +48,13 @@ returns-2 : tie.Need-returns-2
 returns-2 c =
     let s = c.before.before.before.before.before.before in
     let a = s.args in
-    over-one a.canvas a.reference.now a.k a.motion a.vectors _ s.requires.0 _ _ c.before.before.before.motion.given.1 c.mc-macroblock.ensures
+    over_one a.canvas a.reference.now a.k a.motion a.vectors _ s.requires.0 _ _ c.before.before.before.motion.given.1 c.mc-macroblock.ensures
 
 returns-3 : tie.Need-returns-3
 returns-3 c =
     let s = c.before.before.before.before.before in
     let a = s.args in
-    over-four a.canvas a.reference.now a.k a.motion a.vectors _ s.requires.0 c.before.before.enum-told2.given.1 c.move-quarters.ensures
+    over_four a.canvas a.reference.now a.k a.motion a.vectors _ s.requires.0 c.before.before.enum-told2.given.1 c.move-quarters.ensures
 
 pub baseline-of-spec : {M : Type 1} → statement M
 baseline-of-spec =

@@ -3,7 +3,7 @@ use mathlib.Core.Path.{◌≡◌, refl, sym, ◌∙◌}
 use Prim.Native.Nat.{◌-◌, ◌≤◌}
 use lib.ListN.{length, take, replicate}
 use lib.Seq.{take_all}
-use Rattle.macroblock.specs.SampleNeedsLaws.{clear-more}
+use Rattle.macroblock.specs.SampleNeedsLaws.{clear_more}
 use native.Mathlib.Omega.{arith}
 use borrow.Author.Rules.{rules}
 use Rattle.macroblock.proofs.svq1_enc_inter.inner.samples.clear.Statement.{statement}
@@ -30,7 +30,7 @@ loop-less c = omega arith
 loop-again : tie.Need-loop-preserved invariant-loop decreases-loop
 loop-again c =
     let l = c.before.loop in
-    let m = clear-more l.out l.j (omega arith) l.invariant.1 l.invariant.2 in
+    let m = clear_more l.out l.j (omega arith) l.invariant.1 l.invariant.2 in
     (omega arith, m.0, m.1)
 
 returns : tie.Need-returns invariant-loop decreases-loop

@@ -1,5 +1,5 @@
 -- The samples, and then the vectors. Assumes nothing.
-use Rattle.macroblock.specs.SampleNeedsLaws.{inside-at, laid-four}
+use Rattle.macroblock.specs.SampleNeedsLaws.{inside_at, laid_four}
 use borrow.Author.Rules.{rules}
 use Rattle.macroblock.proofs.svq1_enc_inter.inner.samples.lay_block.Statement.{statement}
 use Rattle.macroblock.proofs.svq1_enc_inter.inner.samples.lay_block.Tie as tie
@@ -24,7 +24,7 @@ store-vectors-requires c κs =
     let s = c.before.before.before.before.before.before.before.before.before.before.before.before.before.before in
     let vs = s.args.t5 in
     let p = s.requires in
-    let i = inside-at vs p.3 in
+    let i = inside_at vs p.3 in
     (p.1, p.2, i 0, i 1, i 2, i 3)
 
 same_length : tie.Need-same-length
@@ -40,7 +40,7 @@ returns : tie.Need-returns
 returns c =
     let s = c.before.before.before.before.before.before.before.before.before.before.before.before.before.before.before.before.before.before.before in
     let a = s.args in
-    laid-four a.cols a.k a.samples.now a.t5 _ _ (search rules) c.before.before.before.before.before.before.before.before.before.put-part.ensures c.before.before.before.before.store-vectors.ensures
+    laid_four a.cols a.k a.samples.now a.t5 _ _ (search rules) c.before.before.before.before.before.before.before.before.before.put-part.ensures c.before.before.before.before.store-vectors.ensures
 
 pub lay-block-spec : {M : Type 1} → statement M
 lay-block-spec =

@@ -1,7 +1,7 @@
 -- The block that a zero vector reads is the macroblock. Assumes nothing.
 use mathlib.Core.Path.{◌∙◌}
 use Rattle.canvas.specs.Canvas.{Canvas}
-use Rattle.macroblock.specs.SampleNeedsLaws.{still-block}
+use Rattle.macroblock.specs.SampleNeedsLaws.{still_block}
 use borrow.Author.Rules.{rules}
 use Rattle.macroblock.proofs.svq1_enc_inter.inner.samples.take_block.Statement.{statement}
 use Rattle.macroblock.proofs.svq1_enc_inter.inner.samples.take_block.Tie as tie
@@ -29,7 +29,7 @@ returns c =
     let s = c.before.before.before.before in
     let a = s.args in
     let d : Canvas = record { samples = a.plane.now; stride = a.stride; rows = a.rows } in
-    c.mc-macroblock.ensures ∙ rw c.before.zero-vector.ensures (still-block d a.cols a.k s.requires.0)
+    c.mc-macroblock.ensures ∙ rw c.before.zero-vector.ensures (still_block d a.cols a.k s.requires.0)
 
 pub take-block-spec : {M : Type 1} → statement M
 take-block-spec =

@@ -2,9 +2,9 @@
 use mathlib.Core.Path.{◌≡◌, refl}
 use native.Mathlib.Omega.{arith}
 use lib.ListN.{length}
-use Rattle.macroblock.specs.Macroblock.{motionMode, modeBits}
-use Rattle.macroblock.specs.MotionForms.{motionOf}
-use Rattle.macroblock.specs.MacroblockNeeds.{byBook}
+use Rattle.macroblock.specs.Macroblock.{motion_mode, mode_bits}
+use Rattle.macroblock.specs.MotionForms.{motion_of}
+use Rattle.macroblock.specs.MacroblockNeeds.{by_book}
 use borrow.Author.Rules.{rules}
 use Rattle.macroblock_choice.proofs.svq1_enc_inter.inner.candidates.candidate_of.Statement.{statement}
 use Rattle.macroblock_choice.proofs.svq1_enc_inter.inner.candidates.candidate_of.Tie as tie
@@ -28,14 +28,14 @@ returns : tie.Need-returns
 returns c =
     let a = c.before.before.before.before.args in
     let e = c.before.before.Mode-of.ensures a.vectors in
-    let h : c.before.mb-mode-bits.result ≡ length (modeBits (byBook a.book.now) (motionMode (motionOf a.motion a.vectors))) = rw e at c.before.mb-mode-bits.ensures.is in
+    let h : c.before.mb-mode-bits.result ≡ length (mode_bits (by_book a.book.now) (motion_mode (motion_of a.motion a.vectors))) = rw e at c.before.mb-mode-bits.ensures.is in
     record {
       mode = e;
-      motion-is = refl;
-      vectors-are = refl;
-      blocks-are = refl;
+      motion_is = refl;
+      vectors_are = refl;
+      blocks_are = refl;
       bits_are = omega (arith, h, c.motion-bits.ensures.is);
-      error-is = refl;
+      error_is = refl;
     }
 
 pub candidate-of-spec : {M : Type 1} → statement M

@@ -1,7 +1,7 @@
 -- The reference's block against the target, and the mode's bits. Assumes nothing.
-use Rattle.macroblock.specs.MacroblockNeeds.{givenBy}
-use Rattle.macroblock.specs.SampleNeedsLaws.{cols-is}
-use Rattle.macroblock_choice.specs.CandidateNeedsLaws.{skip_is, skip-stated, skip-error}
+use Rattle.macroblock.specs.MacroblockNeeds.{given_by}
+use Rattle.macroblock.specs.SampleNeedsLaws.{cols_is}
+use Rattle.macroblock_choice.specs.CandidateNeedsLaws.{skip_is, skip_stated, skip_error_lem}
 use borrow.Author.Rules.{rules}
 use Rattle.macroblock_choice.proofs.svq1_enc_inter.inner.candidates.skip_over.Statement.{statement}
 use Rattle.macroblock_choice.proofs.svq1_enc_inter.inner.candidates.skip_over.Tie as tie
@@ -9,7 +9,7 @@ use Rattle.macroblock_choice.proofs.svq1_enc_inter.inner.candidates.skip_over.Ti
 take-block-requires : tie.Need-take-block-requires
 take-block-requires c κs =
     let s = c.before.before.before.before in
-    let e = cols-is _ _ _ s.requires.0 in
+    let e = cols_is _ _ _ s.requires.0 in
     (rw e s.requires.0, s.requires.3)
 
 distance-of-requires : tie.Need-distance-of-requires
@@ -25,12 +25,12 @@ returns : tie.Need-returns
 returns c =
     let s = c.before.before.before.before.before.before.before.before.before.before in
     let a = s.args in
-    let e = cols-is _ _ _ s.requires.0 in
+    let e = cols_is _ _ _ s.requires.0 in
     let z = c.skip-of.ensures in (
       skip_is _ _ _ z,
       λ codebook n.
-          let g = givenBy a.canvas a.reference.now a.book.now codebook in
-          skip-stated _ _ _ z g a.target.now a.k n c.before.mb-mode-bits.ensures.is (skip-error g a.k _ _ a.target.now _ e c.before.before.distance-of.ensures c.before.before.before.before.before.take-block.ensures),
+          let g = given_by a.canvas a.reference.now a.book.now codebook in
+          skip_stated _ _ _ z g a.target.now a.k n c.before.mb-mode-bits.ensures.is (skip_error_lem g a.k _ _ a.target.now _ e c.before.before.distance-of.ensures c.before.before.before.before.before.take-block.ensures),
     )
 
 pub skip-over-spec : {M : Type 1} → statement M

@@ -1,9 +1,9 @@
 -- SKIP, then one vector, none and four, each against the best so far. Assumes nothing.
 use mathlib.Core.Path.{refl}
-use Rattle.mv_cache.specs.CacheNeeds.{nearFrom}
-use Rattle.macroblock.specs.MacroblockNeeds.{givenBy}
-use Rattle.macroblock.specs.MacroblockNeedsLaws.{stands, book-passes}
-use Rattle.macroblock_choice.specs.ChosenNeedsLaws.{searching, chosen-for}
+use Rattle.mv_cache.specs.CacheNeeds.{near_from}
+use Rattle.macroblock.specs.MacroblockNeeds.{given_by}
+use Rattle.macroblock.specs.MacroblockNeedsLaws.{stands, book_passes}
+use Rattle.macroblock_choice.specs.ChosenNeedsLaws.{searching, chosen_for}
 use borrow.Author.Rules.{rules}
 use Rattle.macroblock_choice.proofs.svq1_enc_inter.inner.choice.choose_for.Statement.{statement}
 use Rattle.macroblock_choice.proofs.svq1_enc_inter.inner.choice.choose_for.Tie as tie
@@ -12,7 +12,7 @@ skip-candidate-requires : tie.Need-skip-candidate-requires
 skip-candidate-requires c κs =
     let s = c.before.before.before.before.before in
     let a = s.args in
-    (stands (givenBy a.canvas a.reference.now a.book.now a.codebook.now) a.raised.now s.requires.0.ok a.k s.requires.0.number, book-passes (givenBy a.canvas a.reference.now a.book.now a.codebook.now) a.raised.now s.requires.0.ok, s.requires.0.whole)
+    (stands (given_by a.canvas a.reference.now a.book.now a.codebook.now) a.raised.now s.requires.0.ok a.k s.requires.0.number, book_passes (given_by a.canvas a.reference.now a.book.now a.codebook.now) a.raised.now s.requires.0.ok, s.requires.0.whole)
 
 single-motion-requires : tie.Need-single-motion-requires
 single-motion-requires c κs =
@@ -25,7 +25,7 @@ try-motion-requires c κs =
     let s = c.before.before.before.before.before.before.before in
     let a = s.args in
     let f = c.single-motion.ensures in
-    (s.requires.0, f.codes, record { stored = f.stored; differs = f.differs }, c.before.skip-candidate.ensures.1 a.codebook.now (nearFrom a.near))
+    (s.requires.0, f.codes, record { stored = f.stored; differs = f.differs }, c.before.skip-candidate.ensures.1 a.codebook.now (near_from a.near))
 
 still-found-requires : tie.Need-still-found-requires
 still-found-requires c κs = search rules
@@ -53,7 +53,7 @@ returns : tie.Need-returns
 returns c =
     let s = c.before.before.before.before.before.before.before.before.before.before.before.before in
     let a = s.args in
-    chosen-for a.canvas a.reference.now a.book.now a.codebook.now a.target.now a.settings a.room a.k (nearFrom a.near) _ _ _ _ _ _ _ c.before.before.before.before.before.before.skip-candidate.ensures.0 c.before.before.before.before.before.single-motion.ensures c.before.before.before.still-found.ensures c.before.four-motion.ensures
+    chosen_for a.canvas a.reference.now a.book.now a.codebook.now a.target.now a.settings a.room a.k (near_from a.near) _ _ _ _ _ _ _ c.before.before.before.before.before.before.skip-candidate.ensures.0 c.before.before.before.before.before.single-motion.ensures c.before.before.before.still-found.ensures c.before.four-motion.ensures
     c.before.before.before.before.try-motion.ensures c.before.before.try-motion2.ensures c.try-motion3.ensures
 
 pub choose-for-spec : {M : Type 1} → statement M

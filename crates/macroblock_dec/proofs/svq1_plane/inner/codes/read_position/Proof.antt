@@ -1,6 +1,6 @@
 -- What reading the code finds, by cases. Assumes nothing.
 use mathlib.Core.Path.{sym, ◌∙◌}
-use Rattle.macroblock_dec.specs.FindingNeedsLaws.{position-found, position-none, position-ends}
+use Rattle.macroblock_dec.specs.FindingNeedsLaws.{position_found, position_none, position_ends}
 use borrow.Author.Rules.{rules}
 use Rattle.macroblock_dec.proofs.svq1_plane.inner.codes.read_position.Statement.{statement}
 use Rattle.macroblock_dec.proofs.svq1_plane.inner.codes.read_position.Tie as tie
@@ -21,19 +21,19 @@ returns : tie.Need-returns
 returns c =
     let s = c.before.before.before.before.before.before in
     let a = s.args in
-    position-found a.s.now a.at a.table.now _ _ s.requires.0 (sym c.before.before.before.read-code.ensures ∙ c.before.k.given.1)
+    position_found a.s.now a.at a.table.now _ _ s.requires.0 (sym c.before.before.before.read-code.ensures ∙ c.before.k.given.1)
 
 returns-2 : tie.Need-returns-2
 returns-2 c =
     let s = c.before.before.before.before.before in
     let a = s.args in
-    position-none a.s.now a.at a.table.now s.requires.0 s.requires.2 (sym c.before.before.read-code.ensures ∙ c.enum_told.given.1)
+    position_none a.s.now a.at a.table.now s.requires.0 s.requires.2 (sym c.before.before.read-code.ensures ∙ c.enum_told.given.1)
 
 returns-3 : tie.Need-returns-3
 returns-3 c =
     let s = c.before.before.before.before.before in
     let a = s.args in
-    position-ends a.s.now a.at a.table.now s.requires.0 s.requires.2 (sym c.before.before.read-code.ensures ∙ c.enum-told2.given.1)
+    position_ends a.s.now a.at a.table.now s.requires.0 s.requires.2 (sym c.before.before.read-code.ensures ∙ c.enum-told2.given.1)
 
 pub read-position-spec : {M : Type 1} → statement M
 read-position-spec =

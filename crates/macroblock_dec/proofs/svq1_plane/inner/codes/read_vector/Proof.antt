@@ -4,7 +4,7 @@ use lib.IntN.{ℤ}
 use mir.ValLaws.{to_z-of_z}
 use mir.Syntax.{w32}
 use Rattle.vectors.specs.declared.svq1_motion_predictor.Svq1Mv.{Svq1Mv}
-use Rattle.macroblock_dec.specs.FindingNeedsLaws.{vector-found}
+use Rattle.macroblock_dec.specs.FindingNeedsLaws.{vector_found_lem}
 use borrow.Author.Rules.{rules}
 use Rattle.macroblock_dec.proofs.svq1_plane.inner.codes.read_vector.Statement.{statement}
 use Rattle.macroblock_dec.proofs.svq1_plane.inner.codes.read_vector.Tie as tie
@@ -34,7 +34,7 @@ returns c =
     let y = to_z-of_z w32 dy.result (record { sfits = dy.type-inv }) ∙ dy.ensures in
     let e = ap₂ {C = Svq1Mv} (λ (m n : ℤ). record { x = m; y = n }) (c.new.ensures.0 ∙ x) (c.new.ensures.1 ∙ y) in
     let f = d.ensures.0 in
-    let v = vector-found a.s.now a.book.now a.at a.predictor _ _ _ _ (simp (x, y) at c.before.final-motion-vector.ensures) f in
+    let v = vector_found_lem a.s.now a.book.now a.at a.predictor _ _ _ _ (simp (x, y) at c.before.final-motion-vector.ensures) f in
     rw e (v.0, v.1, f)
 
 pub read-vector-spec : {M : Type 1} → statement M

@@ -1,5 +1,5 @@
 -- What is read can be shown. Assumes nothing.
-use Rattle.macroblock_dec.specs.FindingNeedsLaws.{tree-found}
+use Rattle.macroblock_dec.specs.FindingNeedsLaws.{tree_found}
 use borrow.Author.Rules.{rules}
 use Rattle.macroblock_dec.proofs.svq1_plane.inner.reading.decode_mb_block_tree.Statement.{statement}
 use Rattle.macroblock_dec.proofs.svq1_plane.inner.reading.decode_mb_block_tree.Tie as tie
@@ -11,7 +11,7 @@ returns : tie.Need-returns
 returns c =
     let s = c.before.before.before in
     let a = s.args in
-    tree-found a.book.now s.requires.passes a.half a.s.now a.at _ c.read.ensures
+    tree_found a.book.now s.requires.passes a.half a.s.now a.at _ c.read.ensures
 
 pub decode-mb-block-tree-spec : {M : Type 1} → statement M
 decode-mb-block-tree-spec = tie.close (tie.spec read-requires returns)

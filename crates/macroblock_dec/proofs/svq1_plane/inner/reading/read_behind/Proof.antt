@@ -1,8 +1,8 @@
 -- SKIP, or a motion and a tree. Assumes nothing.
 use native.Mathlib.Omega.{arith}
-use Rattle.mv_cache.specs.CacheNeeds.{nearFrom}
-use Rattle.macroblock.specs.Mode.{modePosition}
-use Rattle.macroblock_dec.specs.ReadNeedsLaws.{skip-found}
+use Rattle.mv_cache.specs.CacheNeeds.{near_from}
+use Rattle.macroblock.specs.Mode.{mode_position}
+use Rattle.macroblock_dec.specs.ReadNeedsLaws.{skip_found}
 use borrow.Author.Rules.{rules}
 use Rattle.macroblock_dec.proofs.svq1_plane.inner.reading.read_behind.Statement.{statement}
 use Rattle.macroblock_dec.proofs.svq1_plane.inner.reading.read_behind.Tie as tie
@@ -23,7 +23,7 @@ returns-2 : tie.Need-returns-2
 returns-2 c =
     let s = c.before.before.before.before.before in
     let a = s.args in
-    skip-found a.s.now a.book.now (nearFrom a.near) a.at (modePosition a.mode) _ (omega (arith, c.before.before.position.ensures.0)) (omega (arith, s.requires.from.bits_fit)) c.Skipped-at.ensures
+    skip_found a.s.now a.book.now (near_from a.near) a.at (mode_position a.mode) _ (omega (arith, c.before.before.position.ensures.0)) (omega (arith, s.requires.from.bits_fit)) c.Skipped-at.ensures
 
 pub read-behind-spec : {M : Type 1} → statement M
 read-behind-spec =

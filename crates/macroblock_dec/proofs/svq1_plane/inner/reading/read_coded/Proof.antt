@@ -1,9 +1,9 @@
 -- The tree behind the motion. Assumes nothing.
 use native.Mathlib.Omega.{arith}
-use Rattle.mv_cache.specs.CacheNeeds.{nearFrom}
-use Rattle.macroblock.specs.Mode.{modePosition}
+use Rattle.mv_cache.specs.CacheNeeds.{near_from}
+use Rattle.macroblock.specs.Mode.{mode_position}
 use Rattle.macroblock_dec.specs.FindingNeedsLaws.{reads_on}
-use Rattle.macroblock_dec.specs.ReadNeedsLaws.{motion-refused, coded-found}
+use Rattle.macroblock_dec.specs.ReadNeedsLaws.{motion_refused, coded_found}
 use borrow.Author.Rules.{rules}
 use Rattle.macroblock_dec.proofs.svq1_plane.inner.reading.read_coded.Statement.{statement}
 use Rattle.macroblock_dec.proofs.svq1_plane.inner.reading.read_coded.Tie as tie
@@ -19,7 +19,7 @@ returns c =
     let s = c.before.before.before.before.before.before.before in
     let a = s.args in
     let m = c.before.before.before.before.read-motion in
-    motion-refused a.s.now a.book.now (nearFrom a.near) a.at (modePosition a.mode) m.result s.requires.1 m.ensures _ (omega (arith, s.requires.0.from.bits_fit)) c.before.if1.true
+    motion_refused a.s.now a.book.now (near_from a.near) a.at (mode_position a.mode) m.result s.requires.1 m.ensures _ (omega (arith, s.requires.0.from.bits_fit)) c.before.if1.true
 
 half-of-requires : tie.Need-half-of-requires
 half-of-requires c κs = search rules
@@ -32,7 +32,7 @@ returns-2 c =
     let s = c.before.before.before.before.before.before.before.before.before in
     let a = s.args in
     let m = c.before.before.before.before.before.before.read-motion in
-    coded-found a.s.now a.book.now (nearFrom a.near) a.at (modePosition a.mode) m.result s.requires.1 m.ensures _ _ c.before.before.before.if1.false (c.before.before.half_of_lem.ensures m.result.vectors) c.before.decode-mb-block-tree.ensures
+    coded_found a.s.now a.book.now (near_from a.near) a.at (mode_position a.mode) m.result s.requires.1 m.ensures _ _ c.before.before.before.if1.false (c.before.before.half_of_lem.ensures m.result.vectors) c.before.decode-mb-block-tree.ensures
 
 pub read-coded-spec : {M : Type 1} → statement M
 read-coded-spec =

@@ -4,8 +4,8 @@ use mathlib.Core.Path.{refl}
 use mathlib.Core.List.{[]}
 use lib.ListN.{length}
 use native.Mathlib.Omega.{arith}
-use Rattle.mv_cache.specs.CacheNeeds.{nearFrom}
-use Rattle.macroblock_dec.specs.FindingNeedsLaws.{reads_on, zeros-inside, first-refused, second-refused, third-refused, four-found}
+use Rattle.mv_cache.specs.CacheNeeds.{near_from}
+use Rattle.macroblock_dec.specs.FindingNeedsLaws.{reads_on, zeros_inside, first_refused, second_refused, third_refused, four_found_lem}
 use borrow.Author.Rules.{rules}
 use Rattle.macroblock_dec.proofs.svq1_plane.inner.reading.read_four.Statement.{statement}
 use Rattle.macroblock_dec.proofs.svq1_plane.inner.reading.read_four.Tie as tie
@@ -25,7 +25,7 @@ returns c =
     let a = s.args in
     let l : a.at ≤ 8 * length a.s.now = omega (arith, s.requires.from.bits_fit) in
     let one = rw c.before.before.before.before.predict-first.ensures at c.before.before.before.read_vector.ensures.0 in
-    (first-refused a.s.now a.book.now (nearFrom a.near) a.at l _ _ _ _ one c.if1.true, zeros-inside _ c.before.before.before.before.before.zero-vector.ensures, refl)
+    (first_refused a.s.now a.book.now (near_from a.near) a.at l _ _ _ _ one c.if1.true, zeros_inside _ c.before.before.before.before.before.zero-vector.ensures, refl)
 
 predict-second-requires : tie.Need-predict-second-requires
 predict-second-requires c κs = search rules
@@ -40,7 +40,7 @@ returns-2 c =
     let l : a.at ≤ 8 * length a.s.now = omega (arith, s.requires.from.bits_fit) in
     let one = rw c.before.before.before.before.before.before.before.before.before.predict-first.ensures at c.before.before.before.before.before.before.before.before.read_vector.ensures.0 in
     let two = rw c.before.before.before.before.predict-second.ensures at c.before.before.before.read-vector2.ensures.0 in
-    (second-refused a.s.now a.book.now (nearFrom a.near) a.at l _ _ _ _ one c.before.before.before.before.before.if1.false _ _ _ two c.if2.true, zeros-inside _ c.before.before.before.before.before.before.before.before.before.before.zero-vector.ensures, refl)
+    (second_refused a.s.now a.book.now (near_from a.near) a.at l _ _ _ _ one c.before.before.before.before.before.if1.false _ _ _ two c.if2.true, zeros_inside _ c.before.before.before.before.before.before.before.before.before.before.zero-vector.ensures, refl)
 
 predict-third-requires : tie.Need-predict-third-requires
 predict-third-requires c κs = search rules
@@ -56,7 +56,7 @@ returns-3 c =
     let one = rw c.before.before.before.before.before.before.before.before.before.before.before.before.before.before.predict-first.ensures at c.before.before.before.before.before.before.before.before.before.before.before.before.before.read_vector.ensures.0 in
     let two = rw c.before.before.before.before.before.before.before.before.before.predict-second.ensures at c.before.before.before.before.before.before.before.before.read-vector2.ensures.0 in
     let three = rw c.before.before.before.before.predict-third.ensures at c.before.before.before.read-vector3.ensures.0 in
-    (third-refused a.s.now a.book.now (nearFrom a.near) a.at l _ _ _ _ one c.before.before.before.before.before.before.before.before.before.before.if1.false _ _ _ two c.before.before.before.before.before.if2.false _ _ _ three c.if3.true, zeros-inside _ c.before.before.before.before.before.before.before.before.before.before.before.before.before.before.before.zero-vector.ensures, refl)
+    (third_refused a.s.now a.book.now (near_from a.near) a.at l _ _ _ _ one c.before.before.before.before.before.before.before.before.before.before.if1.false _ _ _ two c.before.before.before.before.before.if2.false _ _ _ three c.if3.true, zeros_inside _ c.before.before.before.before.before.before.before.before.before.before.before.before.before.before.before.zero-vector.ensures, refl)
 
 predict-fourth-requires : tie.Need-predict-fourth-requires
 predict-fourth-requires c κs = search rules
@@ -73,7 +73,7 @@ returns-4 c =
     let two = rw c.before.before.before.before.before.before.before.before.before.before.before.before.predict-second.ensures at c.before.before.before.before.before.before.before.before.before.before.before.read-vector2.ensures.0 in
     let three = rw c.before.before.before.before.before.before.before.predict-third.ensures at c.before.before.before.before.before.before.read-vector3.ensures.0 in
     let last = rw c.before.before.predict-fourth.ensures at c.before.read-vector4.ensures.0 in
-    (four-found a.s.now a.book.now (nearFrom a.near) a.at l [] _ _ _ one c.before.before.before.before.before.before.before.before.before.before.before.before.before.if1.false _ _ _ two c.before.before.before.before.before.before.before.before.if2.false _ _ _ three c.before.before.before.if3.false _ _ _ last, (c.before.before.before.before.before.before.before.before.before.before.before.before.before.before.before.before.read_vector.ensures.1, (c.before.before.before.before.before.before.before.before.before.before.before.read-vector2.ensures.1, (c.before.before.before.before.before.before.read-vector3.ensures.1, (c.before.read-vector4.ensures.1, tt)))), refl)
+    (four_found_lem a.s.now a.book.now (near_from a.near) a.at l [] _ _ _ one c.before.before.before.before.before.before.before.before.before.before.before.before.before.if1.false _ _ _ two c.before.before.before.before.before.before.before.before.if2.false _ _ _ three c.before.before.before.if3.false _ _ _ last, (c.before.before.before.before.before.before.before.before.before.before.before.before.before.before.before.before.read_vector.ensures.1, (c.before.before.before.before.before.before.before.before.before.before.before.read-vector2.ensures.1, (c.before.before.before.before.before.before.read-vector3.ensures.1, (c.before.read-vector4.ensures.1, tt)))), refl)
 
 pub read-four-spec : {M : Type 1} → statement M
 read-four-spec =

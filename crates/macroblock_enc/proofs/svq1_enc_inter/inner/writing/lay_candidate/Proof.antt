@@ -1,6 +1,6 @@
 -- What is shown, and the vectors as they are stored. Assumes nothing.
-use Rattle.macroblock.specs.Slices.{slicesBy}
-use Rattle.macroblock_enc.specs.WrittenNeedsLaws.{lays-candidate}
+use Rattle.macroblock.specs.Slices.{slices_by}
+use Rattle.macroblock_enc.specs.WrittenNeedsLaws.{lays_candidate}
 use borrow.Author.Rules.{rules}
 use Rattle.macroblock_enc.proofs.svq1_enc_inter.inner.writing.lay_candidate.Statement.{statement}
 use Rattle.macroblock_enc.proofs.svq1_enc_inter.inner.writing.lay_candidate.Tie as tie
@@ -26,7 +26,7 @@ returns : tie.Need-returns
 returns c =
     let s = c.before.before.before.before.before.before.before.before.before.before.before.before.before.before.before.before.before.before in
     let a = s.args in
-    lays-candidate a.canvas a.reference.now a.raised.now a.k a.c _ (slicesBy a.recon.now a.vx.now a.vy.now) _ c.before.before.before.before.before.before.before.before.before.before.before.before.is-skip.ensures s.requires.vectors c.before.before.before.before.before.before.lay-choice.ensures
+    lays_candidate a.canvas a.reference.now a.raised.now a.k a.c _ (slices_by a.recon.now a.vx.now a.vy.now) _ c.before.before.before.before.before.before.before.before.before.before.before.before.is-skip.ensures s.requires.vectors c.before.before.before.before.before.before.lay-choice.ensures
 
 pub lay-candidate-spec : {M : Type 1} → statement M
 lay-candidate-spec =

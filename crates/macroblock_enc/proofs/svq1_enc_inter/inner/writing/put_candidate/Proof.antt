@@ -1,10 +1,10 @@
 -- SKIP has its mode only. Assumes nothing.
 use mathlib.Core.Path.{sym, ◌∙◌}
 use native.Mathlib.Omega.{arith}
-use Rattle.bits.specs.BitNeedsLaws.{wrote-more}
-use Rattle.mv_cache.specs.CacheNeeds.{nearFrom}
+use Rattle.bits.specs.BitNeedsLaws.{wrote_more}
+use Rattle.mv_cache.specs.CacheNeeds.{near_from}
 use Rattle.tree.specs.WalkNeedsLaws.{wrote_as}
-use Rattle.macroblock_enc.specs.WrittenNeedsLaws.{skip-bits, coded-bits, mode-fits, coded-room}
+use Rattle.macroblock_enc.specs.WrittenNeedsLaws.{skip_bits_lem, coded_bits_lem, mode_fits, coded_room}
 use borrow.Author.Rules.{rules}
 use Rattle.macroblock_enc.proofs.svq1_enc_inter.inner.writing.put_candidate.Statement.{statement}
 use Rattle.macroblock_enc.proofs.svq1_enc_inter.inner.writing.put_candidate.Tie as tie
@@ -13,7 +13,7 @@ put-mode-requires : tie.Need-put-mode-requires
 put-mode-requires c κs =
     let s = c.before.before.before in
     let a = s.args in
-    (s.requires.passes, mode-fits a.c a.book.now (nearFrom a.near) _ _ s.requires)
+    (s.requires.passes, mode_fits a.c a.book.now (near_from a.near) _ _ s.requires)
 
 is-skip-requires : tie.Need-is-skip-requires
 is-skip-requires c κs = search rules
@@ -26,7 +26,7 @@ returns c =
     let s = c.before.before.before.before.before.before.before.before in
     let a = s.args in
     let z = sym c.before.is-skip.ensures ∙ c.if1.true in
-    wrote_as _ _ (skip-bits a.c a.book.now (nearFrom a.near) s.requires.mode z) c.before.before.before.before.put-mode.ensures
+    wrote_as _ _ (skip_bits_lem a.c a.book.now (near_from a.near) s.requires.mode z) c.before.before.before.before.put-mode.ensures
 
 put-coded-requires : tie.Need-put-coded-requires
 put-coded-requires c κs =
@@ -34,7 +34,7 @@ put-coded-requires c κs =
     let a = s.args in
     let z = sym c.before.before.before.before.is-skip.ensures ∙ c.before.before.before.if1.false in
     let w = c.before.before.before.before.before.before.before.put-mode in
-    (coded-room a.c a.book.now (nearFrom a.near) a.out.now _ a.at _ _ s.requires z w.ensures w.auto.0, s.requires.differs)
+    (coded_room a.c a.book.now (near_from a.near) a.out.now _ a.at _ _ s.requires z w.ensures w.auto.0, s.requires.differs)
 
 same-length-2 : tie.Need-same-length-2
 same-length-2 c = search rules
@@ -45,7 +45,7 @@ returns-2 c =
     let a = s.args in
     let z = sym c.before.before.before.before.before.before.before.is-skip.ensures ∙ c.before.before.before.before.before.before.if1.false in
     let room = s.requires.room.bits_fit in
-    wrote_as _ _ (coded-bits a.c a.book.now (nearFrom a.near) s.requires.mode z) (wrote-more (omega arith) c.before.before.before.before.before.before.before.before.before.before.put-mode.ensures c.before.before.put-coded.ensures)
+    wrote_as _ _ (coded_bits_lem a.c a.book.now (near_from a.near) s.requires.mode z) (wrote_more (omega arith) c.before.before.before.before.before.before.before.before.before.before.put-mode.ensures c.before.before.put-coded.ensures)
 
 pub put-candidate-spec : {M : Type 1} → statement M
 put-candidate-spec =

@@ -2,9 +2,9 @@
 use Prim.Native.Nat.{◌+◌, ◌*◌, ◌≤◌, ◌<◌}
 use native.Mathlib.Omega.{arith}
 use lib.ListN.{length}
-use Rattle.mv_cache.specs.CacheNeeds.{nearFrom}
-use Rattle.macroblock.specs.Slices.{slicesBy}
-use Rattle.macroblock_enc.specs.WrittenNeedsLaws.{put-ready, wrote-candidate, wrote_nothing, laid-candidate, laid-nothing}
+use Rattle.mv_cache.specs.CacheNeeds.{near_from}
+use Rattle.macroblock.specs.Slices.{slices_by}
+use Rattle.macroblock_enc.specs.WrittenNeedsLaws.{put_ready, wrote_candidate, wrote_nothing, laid_candidate, laid-nothing}
 use borrow.Author.Rules.{rules}
 use Rattle.macroblock_enc.proofs.svq1_enc_inter.inner.writing.write_chosen.Statement.{statement}
 use Rattle.macroblock_enc.proofs.svq1_enc_inter.inner.writing.write_chosen.Tie as tie
@@ -22,7 +22,7 @@ put-candidate-requires : tie.Need-put-candidate-requires
 put-candidate-requires c κs =
     let s = c.before.before.before.before.before.before.before.before.before in
     let a = s.args in
-    put-ready a.book.now (nearFrom a.near) a.c a.out.now a.at s.requires.0 (omega (arith, c.before.if1.true))
+    put_ready a.book.now (near_from a.near) a.c a.out.now a.at s.requires.0 (omega (arith, c.before.if1.true))
 
 lay-candidate-requires : tie.Need-lay-candidate-requires
 lay-candidate-requires c κs = search rules
@@ -44,14 +44,14 @@ returns c =
     let s = c.before.before.before.before.before.before.before.before.before.before.before.before.before.before.before.before.before.before.before.before.before.before in
     let a = s.args in
     let f : a.at + a.c.bits ≤ 8 * length a.out.now = omega (arith, c.before.before.before.before.before.before.before.before.before.before.before.before.before.before.if1.true) in
-    (wrote-candidate a.book.now (nearFrom a.near) a.c a.out.now a.at s.requires.0 _ _ f c.before.before.before.before.before.before.before.before.before.before.before.before.put-candidate.ensures, laid-candidate a.canvas a.reference.now a.raised.now a.k a.c (length a.out.now) a.at (slicesBy a.recon.now a.vx.now a.vy.now) _ f c.before.before.before.before.before.before.lay-candidate.ensures)
+    (wrote_candidate a.book.now (near_from a.near) a.c a.out.now a.at s.requires.0 _ _ f c.before.before.before.before.before.before.before.before.before.before.before.before.put-candidate.ensures, laid_candidate a.canvas a.reference.now a.raised.now a.k a.c (length a.out.now) a.at (slices_by a.recon.now a.vx.now a.vy.now) _ f c.before.before.before.before.before.before.lay-candidate.ensures)
 
 returns-2 : tie.Need-returns-2
 returns-2 c =
     let s = c.before.before.before.before.before.before.before.before in
     let a = s.args in
     let f : 8 * length a.out.now < a.at + a.c.bits = omega (arith, c.if1.false) in
-    (wrote_nothing a.book.now (nearFrom a.near) a.c a.out.now a.at s.requires.0 f, laid-nothing a.canvas a.reference.now a.raised.now a.k a.c (length a.out.now) a.at (slicesBy a.recon.now a.vx.now a.vy.now) f)
+    (wrote_nothing a.book.now (near_from a.near) a.c a.out.now a.at s.requires.0 f, laid-nothing a.canvas a.reference.now a.raised.now a.k a.c (length a.out.now) a.at (slices_by a.recon.now a.vx.now a.vy.now) f)
 
 pub write-chosen-spec : {M : Type 1} → statement M
 write-chosen-spec =

@@ -1,11 +1,11 @@
 -- One search, at the macroblock's corner and by its predictor. Assumes nothing.
 use mathlib.Core.Path.{◌≡◌, ◌∙◌}
 use Rattle.motion.specs.Search.{searched}
-use Rattle.mv_cache.specs.Neighbours.{forOne}
-use Rattle.macroblock_search.specs.SearchNeeds.{wholeBy, vectorFound}
-use Rattle.mv_cache.specs.CacheNeeds.{nearFrom}
-use Rattle.mv_cache.specs.NeighboursLaws.{for-one-in}
-use Rattle.macroblock_search.specs.SearchNeedsLaws.{whole-passes, found-codes, moves-single, moves-none}
+use Rattle.mv_cache.specs.Neighbours.{for_one}
+use Rattle.macroblock_search.specs.SearchNeeds.{whole_by, vector_found}
+use Rattle.mv_cache.specs.CacheNeeds.{near_from}
+use Rattle.mv_cache.specs.NeighboursLaws.{for_one_in}
+use Rattle.macroblock_search.specs.SearchNeedsLaws.{whole_passes, found_codes, moves_single, moves_none}
 use borrow.Author.Rules.{rules}
 use Rattle.macroblock_search.proofs.svq1_enc_inter.inner.motions.single_motion.Statement.{statement}
 use Rattle.macroblock_search.proofs.svq1_enc_inter.inner.motions.single_motion.Tie as tie
@@ -21,16 +21,16 @@ find-vector-requires c κs =
     let s = c.before.before.before.before in
     let a = s.args in
     let z = c.corner-of.ensures in
-    whole-passes a.canvas a.reference.now a.target.now a.k s.requires.0 _ _ _ _ z.0 z.1 (rw c.before.predict-one.ensures (for-one-in (nearFrom a.near) s.requires.1))
+    whole_passes a.canvas a.reference.now a.target.now a.k s.requires.0 _ _ _ _ z.0 z.1 (rw c.before.predict-one.ensures (for_one_in (near_from a.near) s.requires.1))
 
 difference-of-requires : tie.Need-difference-of-requires
 difference-of-requires c κs =
     let s = c.before.before.before.before.before.before.before in
     let a = s.args in
     let z = c.before.before.before.corner-of.ensures in
-    let e : vectorFound c.before.before.find-vector.result ≡ searched (wholeBy a.canvas a.reference.now a.target.now a.k (forOne (nearFrom a.near)) a.radius) =
+    let e : vector_found c.before.before.find-vector.result ≡ searched (whole_by a.canvas a.reference.now a.target.now a.k (for_one (near_from a.near)) a.radius) =
     c.before.before.find-vector.ensures ∙ rw (c.before.before.before.before.predict-one.ensures, z.0, z.1) in
-    rw c.before.before.before.before.predict-one.ensures (found-codes _ (wholeBy a.canvas a.reference.now a.target.now a.k (forOne (nearFrom a.near)) a.radius) e c.before.if1.true)
+    rw c.before.before.before.before.predict-one.ensures (found_codes _ (whole_by a.canvas a.reference.now a.target.now a.k (for_one (near_from a.near)) a.radius) e c.before.if1.true)
 
 one-found-requires : tie.Need-one-found-requires
 one-found-requires c κs = search rules
@@ -40,9 +40,9 @@ returns c =
     let s = c.before.before.before.before.before.before.before.before.before in
     let a = s.args in
     let z = c.before.before.before.before.before.corner-of.ensures in
-    let e : vectorFound c.before.before.before.before.find-vector.result ≡ searched (wholeBy a.canvas a.reference.now a.target.now a.k (forOne (nearFrom a.near)) a.radius) =
+    let e : vector_found c.before.before.before.before.find-vector.result ≡ searched (whole_by a.canvas a.reference.now a.target.now a.k (for_one (near_from a.near)) a.radius) =
     c.before.before.before.before.find-vector.ensures ∙ rw (c.before.before.before.before.before.before.predict-one.ensures, z.0, z.1) in
-    rw (c.one_found.ensures, c.before.difference-of.ensures, c.before.before.before.before.before.before.predict-one.ensures) (moves-single a.canvas a.reference.now a.target.now a.radius a.k (nearFrom a.near) _ e c.before.before.before.if1.true)
+    rw (c.one_found.ensures, c.before.difference-of.ensures, c.before.before.before.before.before.before.predict-one.ensures) (moves_single a.canvas a.reference.now a.target.now a.radius a.k (near_from a.near) _ e c.before.before.before.if1.true)
 
 none-found-requires : tie.Need-none-found-requires
 none-found-requires c κs = search rules
@@ -52,9 +52,9 @@ returns-2 c =
     let s = c.before.before.before.before.before.before.before in
     let a = s.args in
     let z = c.before.before.before.corner-of.ensures in
-    let e : vectorFound c.before.before.find-vector.result ≡ searched (wholeBy a.canvas a.reference.now a.target.now a.k (forOne (nearFrom a.near)) a.radius) =
+    let e : vector_found c.before.before.find-vector.result ≡ searched (whole_by a.canvas a.reference.now a.target.now a.k (for_one (near_from a.near)) a.radius) =
     c.before.before.find-vector.ensures ∙ rw (c.before.before.before.before.predict-one.ensures, z.0, z.1) in
-    rw c.none_found.ensures (moves-none a.canvas a.reference.now a.target.now a.radius a.k (nearFrom a.near) _ e c.before.if1.false)
+    rw c.none_found.ensures (moves_none a.canvas a.reference.now a.target.now a.radius a.k (near_from a.near) _ e c.before.if1.false)
 
 pub single-motion-spec : {M : Type 1} → statement M
 single-motion-spec =

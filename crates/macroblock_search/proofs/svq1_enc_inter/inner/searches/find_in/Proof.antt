@@ -1,6 +1,6 @@
 -- The block's samples gathered, and its corner in the macroblock's. Assumes nothing.
 use mathlib.Core.Path.{◌∙◌}
-use Rattle.macroblock_search.specs.SearchNeedsLaws.{quarter-passes}
+use Rattle.macroblock_search.specs.SearchNeedsLaws.{quarter_passes}
 use borrow.Author.Rules.{rules}
 use Rattle.macroblock_search.proofs.svq1_enc_inter.inner.searches.find_in.Statement.{statement}
 use Rattle.macroblock_search.proofs.svq1_enc_inter.inner.searches.find_in.Tie as tie
@@ -37,7 +37,7 @@ find-vector-requires c κs =
     let s = c.before.before.before.before.before.before.before.before.before.before.before in
     let a = s.args in
     let z = c.before.before.before.before.before.before.before.corner-of.ensures in
-    quarter-passes a.canvas a.reference.now a.target.now a.k s.requires.0 a.j _ _ _ a.predictor _ z.0 z.1 s.requires.1 (c.before.before.before.before.before.gather-block.auto.1.1.1.1.1.0 ∙ s.requires.3) s.requires.2
+    quarter_passes a.canvas a.reference.now a.target.now a.k s.requires.0 a.j _ _ _ a.predictor _ z.0 z.1 s.requires.1 (c.before.before.before.before.before.gather-block.auto.1.1.1.1.1.0 ∙ s.requires.3) s.requires.2
 
 same_length : tie.Need-same-length
 same_length c = search rules

@@ -1,5 +1,5 @@
 -- The call refuses nothing, so a refusal is that nothing was found. Assumes nothing.
-use Rattle.macroblock_search.specs.SearchNeedsLaws.{found-vector, found_none}
+use Rattle.macroblock_search.specs.SearchNeedsLaws.{found_vector, found_none}
 use borrow.Author.Rules.{rules}
 use Rattle.macroblock_search.proofs.svq1_enc_inter.inner.searches.find_vector.Statement.{statement}
 use Rattle.macroblock_search.proofs.svq1_enc_inter.inner.searches.find_vector.Tie as tie
@@ -18,7 +18,7 @@ zero-vector-requires c κs = search rules
 
 returns : tie.Need-returns
 returns c =
-    found-vector _ c.before.before.before.before.before.before.requires _ c.before.before.before.search-motion-vector.ensures _ c.before.s.given.1
+    found_vector _ c.before.before.before.before.before.before.requires _ c.before.before.before.search-motion-vector.ensures _ c.before.s.given.1
 
 returns-2 : tie.Need-returns-2
 returns-2 c =

@@ -2,7 +2,7 @@
 use mathlib.Core.Path.{◌∙◌, ap}
 use native.Mathlib.Omega.{arith}
 use Rattle.book.specs.Level.{area}
-use Rattle.tree.specs.GeometryLaws.{area-most}
+use Rattle.tree.specs.GeometryLaws.{area_most}
 use Rattle.tree_samples.specs.RebuildNeedsLaws.{cut-length}
 use borrow.Author.Rules.{rules}
 use Rattle.plan.proofs.svq1_enc_tree.inner.leaves.cut_leaf.Statement.{statement}
@@ -26,7 +26,7 @@ part-gathered-leaf-start c = search rules
 part-gathered-leaf-end : tie.Need-slice-bounds-gathered-leaf-end
 part-gathered-leaf-end c =
     let n = c.vector-length.ensures ∙ ap area c.before.level-at.ensures in
-    omega (arith, n, area-most c.before.before.level-of.result c.before.before.level-of.ensures.1, c.before.before.before.before.before.before.before.before.before.before.requires.1.0)
+    omega (arith, n, area_most c.before.before.level-of.result c.before.before.level-of.ensures.1, c.before.before.before.before.before.before.before.before.before.before.requires.1.0)
 
 sub-gathered-leaf-2 : tie.Need-overflow-sub-gathered-leaf-2
 sub-gathered-leaf-2 c = search rules
@@ -37,20 +37,20 @@ part-gathered-leaf-start-2 c = search rules
 part-gathered-leaf-end-2 : tie.Need-slice-bounds-gathered-leaf-end-2
 part-gathered-leaf-end-2 c =
     let n = c.before.vector-length.ensures ∙ ap area c.before.before.level-at.ensures in
-    omega (arith, n, area-most c.before.before.before.level-of.result c.before.before.before.level-of.ensures.1, c.before.before.before.before.before.before.before.before.before.before.before.requires.1.1)
+    omega (arith, n, area_most c.before.before.before.level-of.result c.before.before.before.level-of.ensures.1, c.before.before.before.before.before.before.before.before.before.before.before.requires.1.1)
 
 gathered-leaf-requires : tie.Need-gathered-leaf-requires
 gathered-leaf-requires c κs =
     let a = c.before.before.before.before.before.before.before.before.before.before.before.before.before.before.args in
     let n = c.before.before.before.before.vector-length.ensures ∙ ap area c.before.before.before.before.before.level-at.ensures in
-    let m = area-most c.before.before.before.before.before.before.level-of.result c.before.before.before.before.before.before.level-of.ensures.1 in
+    let m = area_most c.before.before.before.before.before.before.level-of.result c.before.before.before.before.before.before.level-of.ensures.1 in
     let e = n ∙ ap area c.before.before.before.before.before.before.level-of.ensures.0 in (
       c.before.before.before.before.before.before.before.before.before.before.before.before.before.before.requires.0,
       record {
-        t-long = cut-length a.t.now _ (omega (arith, n, m, c.before.before.before.before.before.before.before.before.before.before.before.before.before.before.requires.1.0)) ∙ e;
-        p-long = cut-length a.p.now _ (omega (arith, n, m, c.before.before.before.before.before.before.before.before.before.before.before.before.before.before.requires.1.1)) ∙ e;
-        sums-long = c.before.before.before.before.before.before.before.before.before.before.before.before.before.before.requires.1.2;
-        shown-long = c.before.before.before.before.before.before.before.before.before.before.before.before.before.before.requires.1.3;
+        t_long = cut-length a.t.now _ (omega (arith, n, m, c.before.before.before.before.before.before.before.before.before.before.before.before.before.before.requires.1.0)) ∙ e;
+        p_long = cut-length a.p.now _ (omega (arith, n, m, c.before.before.before.before.before.before.before.before.before.before.before.before.before.before.requires.1.1)) ∙ e;
+        sums_long = c.before.before.before.before.before.before.before.before.before.before.before.before.before.before.requires.1.2;
+        shown_long = c.before.before.before.before.before.before.before.before.before.before.before.before.before.before.requires.1.3;
       },
     )
 

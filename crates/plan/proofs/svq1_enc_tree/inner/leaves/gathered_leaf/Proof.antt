@@ -1,9 +1,9 @@
 -- Both blocks are gathered, then searched. Assumes nothing.
 use mathlib.Core.Path.{◌≡◌, ◌∙◌, sym, ap}
 use native.Mathlib.Omega.{arith}
-use Rattle.book.specs.Level.{levelNumber, area}
+use Rattle.book.specs.Level.{level_number, area}
 use Rattle.tree.specs.Blocks.{level}
-use Rattle.plan.specs.PlanNeedsLaws.{block-leaf}
+use Rattle.plan.specs.PlanNeedsLaws.{block_leaf}
 use borrow.Author.Rules.{rules}
 use Rattle.plan.proofs.svq1_enc_tree.inner.leaves.gathered_leaf.Statement.{statement}
 use Rattle.plan.proofs.svq1_enc_tree.inner.leaves.gathered_leaf.Tie as tie
@@ -22,7 +22,7 @@ level-at-requires c κs = search rules
 
 level-leaf-requires : tie.Need-level-leaf-requires
 level-leaf-requires c κs =
-    let e : levelNumber c.before.before.before.before.level-at.result ≡ level c.before.before.before.before.before.before.before.before.before.before.before.before.before.before.before.before.before.before.before.before.before.args.i = c.before.before.before.before.level-at.ensures ∙ c.before.before.before.before.before.level-of.ensures.0 in
+    let e : level_number c.before.before.before.before.level-at.result ≡ level c.before.before.before.before.before.before.before.before.before.before.before.before.before.before.before.before.before.before.before.before.before.args.i = c.before.before.before.before.level-at.ensures ∙ c.before.before.before.before.before.level-of.ensures.0 in
     let q = c.before.before.before.before.before.before.before.before.before.before.before.before.before.before.before.before.before.before.before.before.before.requires in
     record {
       level = omega (arith, c.before.before.before.before.level-at.ensures, c.before.before.before.before.before.level-of.ensures.1);
@@ -48,8 +48,8 @@ same-length-4 c = search rules
 
 returns : tie.Need-returns
 returns c =
-    let e : levelNumber c.before.before.before.before.before.before.before.before.before.level-at.result ≡ level c.before.before.before.before.before.before.before.before.before.before.before.before.before.before.before.before.before.before.before.before.before.before.before.before.before.before.args.i = c.before.before.before.before.before.before.before.before.before.level-at.ensures ∙ c.before.before.before.before.before.before.before.before.before.before.level-of.ensures.0 in
-    block-leaf _ _ _ _ _ _ _ _ _ _ _ _ e (c.before.before.before.before.before.before.before.before.before.before.before.before.before.before.before.before.before.Block-of.auto.1.1.1.0 ∙ c.before.before.before.before.before.before.before.before.before.before.before.before.before.before.before.before.before.before.before.before.before.before.before.before.before.before.requires.1.t-long) c.before.before.before.before.before.before.before.before.before.before.before.before.before.before.before.before.before.Block-of.ensures c.before.before.before.before.before.before.before.before.before.before.before.before.before.block-of2.ensures c.before.before.before.before.level-leaf.ensures
+    let e : level_number c.before.before.before.before.before.before.before.before.before.level-at.result ≡ level c.before.before.before.before.before.before.before.before.before.before.before.before.before.before.before.before.before.before.before.before.before.before.before.before.before.before.args.i = c.before.before.before.before.before.before.before.before.before.level-at.ensures ∙ c.before.before.before.before.before.before.before.before.before.before.level-of.ensures.0 in
+    block_leaf _ _ _ _ _ _ _ _ _ _ _ _ e (c.before.before.before.before.before.before.before.before.before.before.before.before.before.before.before.before.before.Block-of.auto.1.1.1.0 ∙ c.before.before.before.before.before.before.before.before.before.before.before.before.before.before.before.before.before.before.before.before.before.before.before.before.before.before.requires.1.t-long) c.before.before.before.before.before.before.before.before.before.before.before.before.before.before.before.before.before.Block-of.ensures c.before.before.before.before.before.before.before.before.before.before.before.before.before.block-of2.ensures c.before.before.before.before.level-leaf.ensures
 
 pub gathered-leaf-spec : {M : Type 1} → statement M
 gathered-leaf-spec =

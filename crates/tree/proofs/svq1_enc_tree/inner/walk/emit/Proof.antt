@@ -1,5 +1,5 @@
 -- The blocks by number, one behind the other. Assumes nothing.
-use Rattle.tree.specs.WalkNeedsLaws.{Emitting, tree-at, tree-length, node-room, emit-begins, emit-turn, emit-ends}
+use Rattle.tree.specs.WalkNeedsLaws.{Emitting, tree_at, tree-length, node_room, emit-begins, emit_turn, emit_ends}
 use Rattle.book.specs.Book.{tables_of}
 use Rattle.tree.specs.NodeForms.{tree_of}
 use mathlib.Core.Path.{◌∙◌, sym}
@@ -34,7 +34,7 @@ put-node-requires c κs =
     let s = c.before.before.before.before.before.before.before in
     let a = s.args in
     let l = c.before.before.before.before.loop in
-    node-room a.book.now a.half (tree_of a.t1) (tree-length a.t1 ∙ search rules) a.out.now a.at s.requires l.out l.k l.i l.invariant (search rules) _ c.level-of.ensures.0 _ (sym (tree-at a.t1 l.i))
+    node_room a.book.now a.half (tree_of a.t1) (tree-length a.t1 ∙ search rules) a.out.now a.at s.requires l.out l.k l.i l.invariant (search rules) _ c.level-of.ensures.0 _ (sym (tree_at a.t1 l.i))
 
 add-i : tie.Need-overflow-add-i invariant-loop decreases-loop
 add-i c = search rules
@@ -47,7 +47,7 @@ loop-again c =
     let s = c.before.before.before.before.before.before.before.before.before.before in
     let a = s.args in
     let l = c.before.before.before.before.before.before.before.loop in
-    emit-turn a.book.now a.half (tree_of a.t1) (tree-length a.t1 ∙ search rules) a.out.now a.at s.requires l.out l.k l.i l.invariant (search rules) _ c.before.before.before.level-of.ensures.0 _ (sym (tree-at a.t1 l.i))
+    emit_turn a.book.now a.half (tree_of a.t1) (tree-length a.t1 ∙ search rules) a.out.now a.at s.requires l.out l.k l.i l.invariant (search rules) _ c.before.before.before.level-of.ensures.0 _ (sym (tree_at a.t1 l.i))
     _ _ c.before.before.put-node.auto.0 c.before.before.put-node.ensures
 
 same_length : tie.Need-same-length invariant-loop decreases-loop
@@ -58,7 +58,7 @@ returns c =
     let s = c.before.before.before.before in
     let a = s.args in
     let l = c.before.loop in
-    emit-ends a.book.now a.half (tree_of a.t1) (tree-length a.t1 ∙ search rules) a.out.now a.at s.requires l.out l.k l.i l.invariant c.loop-test.false
+    emit_ends a.book.now a.half (tree_of a.t1) (tree-length a.t1 ∙ search rules) a.out.now a.at s.requires l.out l.k l.i l.invariant c.loop-test.false
 
 pub emit-spec : {M : Type 1} → statement M
 emit-spec =

@@ -1,8 +1,8 @@
 -- The root, block 0, and any other block by its parent. Assumes nothing.
 use Prim.Native.Nat.{◌-◌, ◌/◌}
-use Rattle.tree.specs.WalkNeedsLaws.{tree-at, reached-root, reached-none, reached-up}
+use Rattle.tree.specs.WalkNeedsLaws.{tree_at, reached-root, reached-none, reached_up}
 use Rattle.tree.specs.NodeForms.{tree_of}
-use Rattle.tree.specs.TreeBits.{isSplit}
+use Rattle.tree.specs.TreeBits.{is_split}
 use mathlib.Core.Path.{◌∙◌, sym, ap}
 use borrow.Author.Rules.{rules}
 use Rattle.tree.proofs.svq1_enc_tree.inner.walk.is_reached.Statement.{statement}
@@ -29,7 +29,7 @@ is-split-requires c κs = search rules
 returns-3 : tie.Need-returns-3
 returns-3 c =
     let a = c.before.before.before.before.args in
-    c.is-split.ensures ∙ sym (ap isSplit (tree-at a.t1 ((a.i - 1) / 2))) ∙ reached-up a.root (tree_of a.t1) a.i c.before.before.before.if1.false c.before.before.if2.false
+    c.is-split.ensures ∙ sym (ap is_split (tree_at a.t1 ((a.i - 1) / 2))) ∙ reached_up a.root (tree_of a.t1) a.i c.before.before.before.if1.false c.before.before.if2.false
 
 pub is-reached-spec : {M : Type 1} → statement M
 is-reached-spec =

@@ -1,6 +1,6 @@
 -- The blocks by number; the first refusal ends the reading. Assumes nothing.
-use Rattle.tree.specs.WalkReadLaws.{Reading, read-begins, read-ends, read-refused, passed, taken, refused, moved}
-use Rattle.tree.specs.TreeBits.{readTree}
+use Rattle.tree.specs.WalkReadLaws.{Reading, read_begins, read_ends, read_refused, passed, taken, refused, moved}
+use Rattle.tree.specs.TreeBits.{read_tree}
 use Rattle.tree.specs.NodeForms.{tree_of}
 use Rattle.book.specs.Book.{tables_of}
 use Rattle.bits.specs.Bits.{bits_of}
@@ -14,7 +14,7 @@ use Rattle.tree.proofs.svq1_enc_tree.inner.walk.read.Statement.{statement}
 use Rattle.tree.proofs.svq1_enc_tree.inner.walk.read.Tie as tie
 
 abbrev invariant-loop : tie.invariant-loop
-invariant-loop s at half book level root blocks₀ k₀ i₀ blocks k i = Reading (tables_of book half) root s (readTree (tables_of book half) level (drop at (bits_of s))) blocks k i
+invariant-loop s at half book level root blocks₀ k₀ i₀ blocks k i = Reading (tables_of book half) root s (read_tree (tables_of book half) level (drop at (bits_of s))) blocks k i
 
 abbrev decreases-loop : tie.decreases-loop
 decreases-loop s at half book level root blocks₀ k₀ i₀ blocks k i = 63 - i
@@ -27,7 +27,7 @@ unfolding tree_of
 loop-holds c =
     let s = c.before.before.before in
     let a = s.args in
-    read-begins (tables_of a.book.now a.half) a.level a.s.now a.at c.first_of.result c.first_of.ensures _ refl (omega (arith, s.requires.from.bits_fit))
+    read_begins (tables_of a.book.now a.half) a.level a.s.now a.at c.first_of.result c.first_of.ensures _ refl (omega (arith, s.requires.from.bits_fit))
 
 is-reached-requires : tie.Need-is-reached-requires invariant-loop decreases-loop
 is-reached-requires c κs = search rules
@@ -46,7 +46,7 @@ returns c =
     let a = c.before.before.before.before.before.before.before.before.before.before.args in
     let l = c.before.before.before.before.before.before.loop in
     let f = c.before.before.before.before.before.before.before.first_of in
-    read-refused (tables_of a.book.now a.half) a.level a.s.now a.at f.result f.ensures l.blocks l.k _ c.if2.true l.invariant.within
+    read_refused (tables_of a.book.now a.half) a.level a.s.now a.at f.result f.ensures l.blocks l.k _ c.if2.true l.invariant.within
     (refused (tables_of a.book.now a.half) f.result a.s.now _ l.blocks l.k l.i l.invariant (search rules) _ c.before.before.level-of.ensures.0 c.before.read-node.result
     (sym c.before.before.before.before.is-reached.ensures ∙ c.before.before.before.if1.true) c.before.read-node.ensures c.if2.true)
 
@@ -80,7 +80,7 @@ returns-2 c =
     let a = c.before.before.before.before.before.args in
     let l = c.before.loop in
     let f = c.before.before.first_of in
-    read-ends (tables_of a.book.now a.half) a.level a.s.now a.at f.result f.ensures l.blocks l.k l.i l.invariant c.loop-test.false
+    read_ends (tables_of a.book.now a.half) a.level a.s.now a.at f.result f.ensures l.blocks l.k l.i l.invariant c.loop-test.false
 
 pub read_spec : {M : Type 1} → statement M
 read_spec =

@@ -1,6 +1,6 @@
 -- A leaf by the book's two tables for it. Assumes nothing.
-use Rattle.tree.specs.WalkReadLaws.{leaf-here}
-use Rattle.leaf.specs.LentNeedsLaws.{book-tables}
+use Rattle.tree.specs.WalkReadLaws.{leaf_here}
+use Rattle.leaf.specs.LentNeedsLaws.{book_tables}
 use Rattle.book.specs.BookLaws.{good_book}
 use Rattle.tree.proofs.svq1_enc_tree.inner.walk.read_leaf_at.Statement.{statement}
 use Rattle.tree.proofs.svq1_enc_tree.inner.walk.read_leaf_at.Tie as tie
@@ -14,12 +14,12 @@ mean-table-requires c κs = (good_book _ c.before.before.before.requires.passes)
 read-leaf-requires : tie.Need-read-leaf-requires
 read-leaf-requires c κs =
     let s = c.before.before.before.before in
-    (s.requires.from, rw (c.before.stage-table.ensures, c.mean-table.ensures) (book-tables s.args.book.now s.requires.passes s.args.half s.args.d s.requires.deep))
+    (s.requires.from, rw (c.before.stage-table.ensures, c.mean-table.ensures) (book_tables s.args.book.now s.requires.passes s.args.half s.args.d s.requires.deep))
 
 returns : tie.Need-returns
 returns c =
     let s = c.before.before.before.before.before.before in
-    leaf-here s.args.book.now s.args.half s.args.d _ _ s.args.s.now s.args.at _ c.before.before.before.stage-table.ensures c.before.before.mean-table.ensures c.before.read-leaf.ensures
+    leaf_here s.args.book.now s.args.half s.args.d _ _ s.args.s.now s.args.at _ c.before.before.before.stage-table.ensures c.before.before.mean-table.ensures c.before.read-leaf.ensures
 
 pub read-leaf-at-spec : {M : Type 1} → statement M
 read-leaf-at-spec =

@@ -1,8 +1,8 @@
 -- A leaf at L0, and above it what the flag says. Assumes nothing.
 use native.Mathlib.Omega.{arith}
-use Rattle.tree.specs.WalkReadLaws.{flag-none, flag-short, flag-leaf, flag-split}
+use Rattle.tree.specs.WalkReadLaws.{flag_none, flag_short, flag_leaf, flag_split}
 use Rattle.book.specs.Book.{tables_of}
-use Rattle.bits.specs.BitsLaws.{length-bitsOf}
+use Rattle.bits.specs.BitsLaws.{length_bits_of}
 use Rattle.bits.specs.Bits.{bits_of}
 use lib.ListN.{length}
 use Prim.Native.Nat.{◌<◌, ◌≤◌}
@@ -18,7 +18,7 @@ returns : tie.Need-returns
 returns c =
     let a = c.before.before.before.before.args in
     record {
-      is = c.read-leaf-at.ensures.is ∙ flag-none (tables_of a.book.now a.half) a.d a.at (bits_of a.s.now) c.before.if1.true;
+      is = c.read-leaf-at.ensures.is ∙ flag_none (tables_of a.book.now a.half) a.d a.at (bits_of a.s.now) c.before.if1.true;
       within = c.read-leaf-at.ensures.within;
     }
 
@@ -28,9 +28,9 @@ mul-if2 c = search rules
 returns-2 : tie.Need-returns-2
 returns-2 c =
     let a = c.before.before.before.before.args in
-    let h : length (bits_of a.s.now) ≤ a.at = rw length-bitsOf (search rules) in
+    let h : length (bits_of a.s.now) ≤ a.at = rw length_bits_of (search rules) in
     record {
-      is = flag-short (tables_of a.book.now a.half) a.d a.at (bits_of a.s.now) c.before.if1.false h;
+      is = flag_short (tables_of a.book.now a.half) a.d a.at (bits_of a.s.now) c.before.if1.false h;
       within = omega (arith, c.before.before.before.before.requires.from.bits_fit);
     }
 
@@ -48,10 +48,10 @@ read-leaf-at-requires-2 c κs =
 returns-3 : tie.Need-returns-3
 returns-3 c =
     let a = c.before.before.before.before.before.before.before.args in
-    let h : a.at < length (bits_of a.s.now) = rw length-bitsOf (search rules) in
+    let h : a.at < length (bits_of a.s.now) = rw length_bits_of (search rules) in
     record {
       is = c.read-leaf-at2.ensures.is
-          ∙ flag-leaf (tables_of a.book.now a.half) a.d a.at (bits_of a.s.now) c.before.before.before.before.if1.false h (sym c.before.before.get-bits.ensures ∙ c.before.if3.true);
+          ∙ flag_leaf (tables_of a.book.now a.half) a.d a.at (bits_of a.s.now) c.before.before.before.before.if1.false h (sym c.before.before.get-bits.ensures ∙ c.before.if3.true);
       within = c.read-leaf-at2.ensures.within;
     }
 
@@ -61,9 +61,9 @@ add-t7 c = search rules
 returns-4 : tie.Need-returns-4
 returns-4 c =
     let a = c.before.before.before.before.before.before.args in
-    let h : a.at < length (bits_of a.s.now) = rw length-bitsOf (search rules) in
+    let h : a.at < length (bits_of a.s.now) = rw length_bits_of (search rules) in
     record {
-      is = flag-split (tables_of a.book.now a.half) a.d a.at (bits_of a.s.now) c.before.before.before.if1.false h (λ e. c.if3.false (c.before.get-bits.ensures ∙ e));
+      is = flag_split (tables_of a.book.now a.half) a.d a.at (bits_of a.s.now) c.before.before.before.if1.false h (λ e. c.if3.false (c.before.get-bits.ensures ∙ e));
       within = omega arith;
     }
 

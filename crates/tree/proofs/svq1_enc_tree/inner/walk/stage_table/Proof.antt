@@ -1,5 +1,5 @@
 -- The book's table for the level of this number. Assumes nothing.
-use Rattle.book.specs.Book.{stageFamily, stageTable}
+use Rattle.book.specs.Book.{stage_family, stage_table}
 use Prim.Native.Nat.{ℕ}
 use mathlib.Core.Path.{◌∙◌, ap}
 use borrow.Author.Rules.{rules}
@@ -15,7 +15,7 @@ stage-table-requires c κs = search rules
 returns : tie.Need-returns
 returns c =
     let a = c.before.before.before.args in
-    c.stage-table.ensures ∙ ap (λ (n : ℕ). stageTable n (stageFamily a.half a.book.now)) c.before.level-at.ensures
+    c.stage-table.ensures ∙ ap (λ (n : ℕ). stage_table n (stage_family a.half a.book.now)) c.before.level-at.ensures
 
 pub stage-table-spec : {M : Type 1} → statement M
 stage-table-spec = tie.close (tie.spec level-at-requires stage-table-requires returns)

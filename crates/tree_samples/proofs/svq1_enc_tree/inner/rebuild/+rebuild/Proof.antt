@@ -7,9 +7,9 @@ use Prim.Native.Nat.{ℕ, ◌<◌}
 use borrow.Fn.Kinds.{In}
 use borrow.Fn.PlainCycle.{Measures, is, falls, and}
 use Rattle.tree.specs.NodeForms.{tree_of}
-use Rattle.tree.specs.TreeBits.{isSplit}
-use Rattle.tree.specs.WalkNeedsLaws.{tree-at}
-use Rattle.tree_samples.specs.RebuildNeedsLaws.{turn-left, turn-right, turn-node, rebuilt-parts, rebuilt-leaf}
+use Rattle.tree.specs.TreeBits.{is_split}
+use Rattle.tree.specs.WalkNeedsLaws.{tree_at}
+use Rattle.tree_samples.specs.RebuildNeedsLaws.{turn_left, turn_right, turn_node, rebuilt_parts, rebuilt_leaf}
 use Rattle.tree_samples.proofs.svq1_enc_tree.inner.rebuild.rebuild.Reads as rebuild
 use Rattle.tree_samples.proofs.svq1_enc_tree.inner.rebuild.rebuild.Kinds as rebuild-kinds
 use Rattle.tree_samples.proofs.svq1_enc_tree.inner.rebuild.+rebuild.Lts-rebuild as rebuild-lts
@@ -53,7 +53,7 @@ rebuild-rebuild-requires : (t : ℕ) → rebuild-lts.Need-rebuild-requires (call
 rebuild-rebuild-requires t c κs =
     let p = c.before.before.before.before.before.before.before.before.requires in
     let l = c.before.before.before.if1.true in
-    (omega (arith, p.0, l), turn-left _ _ _ _ _ _ _ _ p.1 l)
+    (omega (arith, p.0, l), turn_left _ _ _ _ _ _ _ _ p.1 l)
 
 rebuild-mul-rebuild-2 : (t : ℕ) → rebuild-lts.Need-overflow-mul-rebuild-2 (calls t) (rebuild-at t) rebuild.Post
 rebuild-mul-rebuild-2 t c = omega (arith, c.before.before.before.before.before.before.before.before.before.before.before.requires.1.lies.number)
@@ -65,7 +65,7 @@ rebuild-rebuild-requires-2 : (t : ℕ) → rebuild-lts.Need-rebuild-requires-2 (
 rebuild-rebuild-requires-2 t c κs =
     let p = c.before.before.before.before.before.before.before.before.before.before.before.before.requires in
     let l = c.before.before.before.before.before.before.before.if1.true in
-    (omega (arith, p.0, l), rw c.before.before.before.rebuild.auto.1.1.1.1.1.1.1.0 (turn-right _ _ _ _ _ _ _ _ p.1 l))
+    (omega (arith, p.0, l), rw c.before.before.before.rebuild.auto.1.1.1.1.1.1.1.0 (turn_right _ _ _ _ _ _ _ _ p.1 l))
 
 rebuild-same-length : (t : ℕ) → rebuild-lts.Need-same-length (calls t) (rebuild-at t) rebuild.Post
 rebuild-same-length t c = search rules
@@ -73,13 +73,13 @@ rebuild-same-length t c = search rules
 rebuild-returns : (t : ℕ) → rebuild-lts.Need-returns (calls t) (rebuild-at t) rebuild.Post
 rebuild-returns t c =
     let a = c.before.before.before.before.before.before.before.before.before.before.before.before.before.before.before.args in
-    rebuilt-parts a.raised.now a.half a.s a.predictor.now (tree_of a.t1) a.level a.i _ _ _ c.before.before.before.before.before.before.before.before.before.before.if1.true
-    (ap isSplit (tree-at a.t1 a.i) ∙ sym c.before.before.before.before.before.before.before.before.before.is-split.ensures ∙ c.before.before.before.before.before.before.before.before.if2.true) c.before.before.before.before.before.before.rebuild.ensures c.before.before.rebuild2.ensures
+    rebuilt_parts a.raised.now a.half a.s a.predictor.now (tree_of a.t1) a.level a.i _ _ _ c.before.before.before.before.before.before.before.before.before.before.if1.true
+    (ap is_split (tree_at a.t1 a.i) ∙ sym c.before.before.before.before.before.before.before.before.before.is-split.ensures ∙ c.before.before.before.before.before.before.before.before.if2.true) c.before.before.before.before.before.before.rebuild.ensures c.before.before.rebuild2.ensures
 
 rebuild-paint-node-requires : (t : ℕ) → rebuild-lts.Need-paint-node-requires (calls t) (rebuild-at t) rebuild.Post
 rebuild-paint-node-requires t c κs =
     let s = c.before.before.before.before.before.before in
-    turn-node _ _ _ _ _ _ _ _ s.requires.1 _ (sym (tree-at s.args.t1 s.args.i))
+    turn_node _ _ _ _ _ _ _ _ s.requires.1 _ (sym (tree_at s.args.t1 s.args.i))
 
 rebuild-same-length-2 : (t : ℕ) → rebuild-lts.Need-same-length-2 (calls t) (rebuild-at t) rebuild.Post
 rebuild-same-length-2 t c = search rules
@@ -87,8 +87,8 @@ rebuild-same-length-2 t c = search rules
 rebuild-returns-2 : (t : ℕ) → rebuild-lts.Need-returns-2 (calls t) (rebuild-at t) rebuild.Post
 rebuild-returns-2 t c =
     let a = c.before.before.before.before.before.before.before.before.before.args in
-    rebuilt-leaf a.raised.now a.half a.s a.predictor.now (tree_of a.t1) a.level a.i _ _ _ (sym (tree-at a.t1 a.i))
-    (⊎_elim (λ w. inr (ap isSplit (tree-at a.t1 a.i) ∙ sym w.1.ensures ∙ w.2.left)) (λ w. inl w.left) c.before.before.before.before.if1.branch) c.before.before.paint-node.ensures
+    rebuilt_leaf a.raised.now a.half a.s a.predictor.now (tree_of a.t1) a.level a.i _ _ _ (sym (tree_at a.t1 a.i))
+    (⊎_elim (λ w. inr (ap is_split (tree_at a.t1 a.i) ∙ sym w.1.ensures ∙ w.2.left)) (λ w. inl w.left) c.before.before.before.before.if1.branch) c.before.before.paint-node.ensures
 
 pub +rebuild-spec : {M : Type 1} → statement M
 +rebuild-spec = close μ-rebuild λ t. rebuild-lts.spec (calls t) (rebuild-at t)

@@ -1,6 +1,6 @@
 -- Scratch cut to the size of the block. Assumes nothing.
 use Rattle.tree_samples.specs.RebuildNeedsLaws.{five, cut-length}
-use Rattle.tree.specs.GeometryLaws.{area-most}
+use Rattle.tree.specs.GeometryLaws.{area_most}
 use Rattle.book.specs.Level.{area}
 use mathlib.Core.Path.{◌∙◌, ap}
 use native.Mathlib.Omega.{arith}
@@ -23,7 +23,7 @@ part-paint-leaf-start c = search rules
 part-paint-leaf-end : tie.Need-slice-bounds-paint-leaf-end
 part-paint-leaf-end c =
     let s = c.before.before.before.before.before.before.before.before.before in
-    let most = area-most s.args.d (five _ _ _ _ _ s.requires.0.lies) in
+    let most = area_most s.args.d (five _ _ _ _ _ s.requires.0.lies) in
     let n = c.before.vector-length.ensures ∙ ap area c.before.before.level-at.ensures in
     omega (arith, n, most, s.requires.1.0)
 
@@ -36,7 +36,7 @@ part-paint-leaf-start-2 c = search rules
 part-paint-leaf-end-2 : tie.Need-slice-bounds-paint-leaf-end-2
 part-paint-leaf-end-2 c =
     let s = c.before.before.before.before.before.before.before.before.before.before in
-    let most = area-most s.args.d (five _ _ _ _ _ s.requires.0.lies) in
+    let most = area_most s.args.d (five _ _ _ _ _ s.requires.0.lies) in
     let n = c.before.before.vector-length.ensures ∙ ap area c.before.before.before.level-at.ensures in
     omega (arith, n, most, s.requires.1.1)
 
@@ -49,14 +49,14 @@ part-paint-leaf-start-3 c = search rules
 part-paint-leaf-end-3 : tie.Need-slice-bounds-paint-leaf-end-3
 part-paint-leaf-end-3 c =
     let s = c.before.before.before.before.before.before.before.before.before.before.before in
-    let most = area-most s.args.d (five _ _ _ _ _ s.requires.0.lies) in
+    let most = area_most s.args.d (five _ _ _ _ _ s.requires.0.lies) in
     let n = c.before.before.before.vector-length.ensures ∙ ap area c.before.before.before.before.level-at.ensures in
     omega (arith, n, most, s.requires.1.2)
 
 paint-leaf-requires : tie.Need-paint-leaf-requires
 paint-leaf-requires c κs =
     let s = c.before.before.before.before.before.before.before.before.before.before.before.before in
-    let most = area-most s.args.d (five _ _ _ _ _ s.requires.0.lies) in
+    let most = area_most s.args.d (five _ _ _ _ _ s.requires.0.lies) in
     let n = c.before.before.before.before.vector-length.ensures ∙ ap area c.before.before.before.before.before.level-at.ensures in (
       s.requires.0,
       record {
