@@ -1,4 +1,6 @@
 // A lent byte slice as a string of bits: numbers written into it and read; and a run of bytes put into a slice.
+#![tactic(auto)]
+
 pub mod inner;
 pub mod svq1_enc;
 pub mod svq1_vlc;
