@@ -189,6 +189,7 @@ pub fn prefix_free(table: &[u8], lows: &mut [u32], highs: &mut [u32]) -> bool
 }
 
 // Whether a code of this value and length can stand in a table.
+#[tactic(auto, using(std::proofs::lemmas::Bool::Decides::nat_tests))]
 pub fn good_entry(v: u64, n: u32) -> bool
     ensures { result ≡ good_entry v n }
 {
