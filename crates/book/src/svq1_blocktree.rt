@@ -4,7 +4,7 @@ ghost use Rattle.book.specs.Calls.{parts_of, parts_level};
 ghost use Rattle.book.specs.Level.{level_number, width, height, area};
 
 // The six block sizes of a macroblock's tree, from 4×2 samples to 16×16.
-#[derive(Drop)]
+#[derive(Clone, Copy)]
 pub enum Svq1Level {
     L0,
     L1,
@@ -15,14 +15,14 @@ pub enum Svq1Level {
 }
 
 // Width and height in samples.
-#[derive(Drop)]
+#[derive(Clone, Copy)]
 pub struct BlockDims {
     pub width: usize,
     pub height: usize,
 }
 
 // The level of a block's two parts, or none: an L0 block is not split.
-#[derive(Drop)]
+#[derive(Clone, Copy)]
 pub enum Subdivision {
     Parts(Svq1Level),
     Whole,

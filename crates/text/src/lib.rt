@@ -1,4 +1,6 @@
 // Text in lent byte slices: decimal numbers, fields and lines.
+#![tactic(auto)]
+
 ghost use Rattle.std.specs.Prelude.{◌≡◌, [], ◌∷◌, ◌++◌, nat_abs};
 ghost use Rattle.text.specs.Text.{number_up_to, above_zero, below_zero, decimal, signed64, signed_decimal, same as sameText};
 ghost use Rattle.text.specs.ReadingForms.{TextFound, digit_of, digits_from, number_of, NumberWithin, signed_number_of};

@@ -1,0 +1,47 @@
+-- `text::put_decimal` meets its contract: the digits left before what is written make the number. Assumes nothing.
+use Prim.Native.Nat.{ℕ, ◌+◌, ◌-◌, ◌%◌, ◌≤◌}
+use mathlib.Core.Path.{◌≡◌, refl, sym, ◌∙◌}
+use native.Mathlib.Omega.{arith}
+use lib.ListN.{length, length-set}
+use Rattle.text.specs.Text.{decimal}
+use Rattle.text.specs.PutLaws.{put_none, digits_turn, digits_kept, digits_end}
+use Rattle.text.proofs.put_decimal.Goals as goal
+
+pub returns-then-out-at : goal.returns-then-out-at
+returns-then-out-at c =
+    let a = c.args in put_none a.out.now a.at (decimal a.n) (omega (arith, c.digit_count-k.ensures.count))
+
+pub returns-then-out-at-2 : goal.returns-then-out-at-2
+returns-then-out-at-2 c =
+    let a = c.args in put_none a.out.now a.at (decimal a.n) (omega (arith, c.digit_count-k.ensures.count))
+
+pub loop-i-init : goal.loop-i-init
+loop-i-init c =
+    let a = c.args in
+    let k : ℕ = c.digit_count-k.result in
+    let z : a.at + k - a.at ≡ k = omega arith in
+    (omega arith, omega arith, refl, refl, rw z)
+
+pub loop-i-preserved : goal.loop-i-preserved
+loop-i-preserved c =
+    let u = c in
+    let a = u.args in
+    let i : ℕ = u.loop-i.i in
+    let fits : u.digit_count-k.result + a.at ≤ length u.loop-i.out = omega arith in (
+      omega arith,
+      omega arith,
+      simp length-set u.loop-i.invariant.2,
+      digits_kept i (48 + u.loop-i.m % 10) u.loop-i.out a.out.now (omega arith) u.loop-i.invariant.3,
+      sym (digits_turn a.at i u.loop-i.m u.loop-i.out (omega arith) (omega arith)) ∙ u.loop-i.invariant.4,
+    )
+
+pub shape_of-out : goal.shape_of-out
+shape_of-out c = c.loop-i.invariant.2
+
+pub returns : goal.returns
+returns c =
+    let u = c in
+    let a = u.args in
+    let k = u.digit_count-k.ensures.count in
+    let room : a.at + length (decimal a.n) ≤ length a.out.now = omega (arith, k) in
+    rw k (digits_end a.out.now a.at a.n u.loop-i.i u.loop-i.m u.loop-i.out room (omega arith) u.loop-i.invariant.3 (rw k at u.loop-i.invariant.4))

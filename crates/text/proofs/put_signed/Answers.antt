@@ -1,0 +1,59 @@
+-- `text::put_signed` meets its contract: a number that is not below 0 is its digits, and any other a minus and its digits behind it. Assumes nothing.
+use Prim.Native.Nat.{suc, ◌+◌, ◌≤◌}
+use mathlib.Core.Path.{◌≡◌, ap, ◌∙◌}
+use mathlib.Core.List.{◌∷◌}
+use native.Mathlib.Omega.{arith}
+use lib.IntN.{nat_abs}
+use lib.ListN.{length, length-set}
+use mir.Syntax.{w64}
+use mir.ValLaws.{to_z-of_z}
+use Rattle.text.specs.Text.{minus, decimal, signed_decimal}
+use Rattle.text.specs.PutLaws.{put_none, byte_before}
+use Rattle.text.specs.SignedFormsLaws.{signed_above, signed_below}
+use Rattle.text.proofs.put_signed.Goals as goal
+use Rattle.text.proofs.put_signed.Goals.{After-signed_count-bytes, Else-out-at-2}
+
+-- the bytes counted are those of the number
+counted : (c : After-signed_count-bytes) → c.signed_count-bytes.result ≡ length (signed_decimal c.args.z)
+counted c = let s = c in rw (to_z-of_z w64 s.args.z s.ranges.z) at c.signed_count-bytes.ensures.count
+
+-- the number is below 0, and there is room for the minus and the digits
+below : (c : Else-out-at-2) → let a = c.args in signed_decimal a.z ≡ minus ∷ decimal (nat_abs a.z)
+below c =
+    let s = c in
+    signed_below s.args.z (simp (to_z-of_z w64 s.args.z s.ranges.z) at c.if-z-ge0.false)
+
+room : (c : Else-out-at-2) → let a = c.args in a.at + suc (length (decimal (nat_abs a.z))) ≤ length a.out.now
+room c = omega (arith, rw (below c) at (counted c.After-signed_count-bytes))
+
+pub returns-then-z-ge0 : goal.returns-then-z-ge0
+returns-then-z-ge0 c =
+    let p = c in
+    let s = p in
+    let e = to_z-of_z w64 s.args.z s.ranges.z in
+    let size : p.type_size.result ≡ nat_abs s.args.z = p.type_size.ensures ∙ ap nat_abs e in
+    rw (signed_above s.args.z (simp e at p.if-z-ge0.true)) (rw size at p.put_decimal.ensures)
+
+pub returns-then-out-at : goal.returns-then-out-at
+returns-then-out-at c =
+    let a = c.args in
+    put_none a.out.now a.at (signed_decimal a.z) (omega (arith, counted (goal.at.returns-then-out-at c).After-signed_count-bytes))
+
+pub returns-then-out-at-2 : goal.returns-then-out-at-2
+returns-then-out-at-2 c =
+    let a = c.args in
+    put_none a.out.now a.at (signed_decimal a.z) (omega (arith, counted (goal.at.returns-then-out-at-2 c).After-signed_count-bytes))
+
+pub bounds-out-at : goal.bounds-out-at
+bounds-out-at c = omega (arith, room c)
+
+pub shape_of-out : goal.shape_of-out
+shape_of-out c = c.put_decimal-2.auto.out ∙ simp length-set
+
+pub returns : goal.returns
+returns c =
+    let p = c in
+    let u = p in
+    let s = u in
+    let size : p.size_of-2.result ≡ nat_abs s.args.z = p.size_of-2.ensures ∙ ap nat_abs (to_z-of_z w64 s.args.z s.ranges.z) in
+    rw (below (goal.at.returns c).Else-out-at-2) (byte_before (room (goal.at.returns c).Else-out-at-2) (rw size at p.put_decimal-2.ensures))

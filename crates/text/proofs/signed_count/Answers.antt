@@ -1,0 +1,30 @@
+-- `text::signed_count` meets its contract: the digits of the size, and one byte more for the minus of a number below 0. Assumes nothing.
+use mathlib.Core.Path.{◌≡◌, ap, ◌∙◌}
+use native.Mathlib.Omega.{arith}
+use lib.IntN.{nat_abs}
+use lib.ListN.{length}
+use mir.Syntax.{w64}
+use mir.ValLaws.{to_z-of_z}
+use Rattle.text.specs.Text.{decimal}
+use Rattle.text.specs.SignedFormsLaws.{signed_above, signed_below}
+use Rattle.text.proofs.signed_count.Goals as goal
+use Rattle.text.proofs.signed_count.Goals.{After-digit_count-digits}
+
+-- the digits counted are those of the size
+digits : (c : After-digit_count-digits) → c.digit_count-digits.result ≡ length (decimal (nat_abs c.args.z))
+digits c =
+    let s = c in
+    let e : c.type_size.result ≡ nat_abs s.args.z = c.type_size.ensures ∙ ap nat_abs (to_z-of_z w64 s.args.z s.ranges.z) in
+    rw e at c.digit_count-digits.ensures.count
+
+pub returns-then-z-ge0 : goal.returns-then-z-ge0
+returns-then-z-ge0 c =
+    let s = c in
+    let e = signed_above s.args.z (simp (to_z-of_z w64 s.args.z s.ranges.z) at c.if-z-ge0.true) in
+    record { count = rw e (digits (goal.at.returns-then-z-ge0 c).After-digit_count-digits); most = omega (arith, c.digit_count-digits.ensures.most) }
+
+pub returns : goal.returns
+returns c =
+    let s = c in
+    let e = signed_below s.args.z (simp (to_z-of_z w64 s.args.z s.ranges.z) at c.if-z-ge0.false) in
+    record { count = rw e (omega (arith, digits (goal.at.returns c).After-digit_count-digits)); most = omega (arith, c.digit_count-digits.ensures.most) }
