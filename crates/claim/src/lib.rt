@@ -12,7 +12,7 @@ use plane_dec::svq1_plane::{ReadEnd, decode_inter_plane};
 use plane_enc::svq1_enc_inter::{WriteEnd, encode_inter_plane_stated};
 
 // What the writer answered, and the reader.
-#[derive(Drop)]
+#[derive(Clone, Copy)]
 pub struct TripEnd {
     pub written: WriteEnd,
     pub read: ReadEnd,

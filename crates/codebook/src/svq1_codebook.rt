@@ -14,7 +14,7 @@ use book::svq1_vlc::Svq1Half;
 pub const RASTER_NUMBERS: usize = 120;
 
 // A place in the payload or in a block; or none.
-#[derive(Drop)]
+#[derive(Clone, Copy)]
 pub enum Place {
     At(usize),
     Nowhere,

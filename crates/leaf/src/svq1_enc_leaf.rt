@@ -4,7 +4,7 @@ pub mod inner;
 use book::svq1_vlc::Svq1Half;
 
 // The code of a leaf: skip, or a mean with a stage count; its stage indices lie beside it.
-#[derive(Drop)]
+#[derive(Clone, Copy)]
 pub enum LeafCode {
     Skip,
     Coded { mean: i16, count: u8 },
@@ -12,7 +12,7 @@ pub enum LeafCode {
 
 // The terms of a leaf's search: which half's tables and vectors, at most how many stages, whether it may be skipped, and the margin: a stage
 // stays only where it lessens the error by more than this.
-#[derive(Drop)]
+#[derive(Clone, Copy)]
 pub struct LeafTerms {
     pub half: Svq1Half,
     pub cap: usize,

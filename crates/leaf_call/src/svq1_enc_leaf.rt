@@ -15,7 +15,7 @@ use leaf::svq1_enc_leaf::{LeafCode, LeafTerms};
 use leaf_search::svq1_enc_leaf::inner::level_leaf;
 
 // What the search answers: 0 and the leaf, its bits, its error and the samples that it shows; or a refusal's number and nothing else.
-#[derive(Drop)]
+#[derive(Clone, Copy)]
 pub struct LeafAnswer {
     pub refused: u8,
     pub code: LeafCode,

@@ -4,7 +4,7 @@ pub mod inner;
 use leaf::svq1_enc_leaf::LeafCode;
 
 // A leaf as the search chooses it, with its squared error.
-#[derive(Drop)]
+#[derive(Clone, Copy)]
 pub struct LeafChoice {
     pub code: LeafCode,
     pub stages: [u8; 6],

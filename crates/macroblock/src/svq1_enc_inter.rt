@@ -7,7 +7,7 @@ ghost use Rattle.macroblock.specs.Mode.{mode_position};
 use vectors::svq1_motion_predictor::Svq1Mv;
 
 // How a macroblock is coded.
-#[derive(Drop)]
+#[derive(Clone, Copy)]
 pub enum Svq1MbMode {
     Inter,
     Inter4Mv,
@@ -31,7 +31,7 @@ impl Svq1MbMode {
 
 // How a plane is written: what a bit costs against the squared error, how far a motion search goes, whether four vectors are tried, and the margin of
 // its leaves' stages.
-#[derive(Drop)]
+#[derive(Clone, Copy)]
 pub struct Settings {
     pub lambda: u64,
     pub radius: u8,
@@ -40,7 +40,7 @@ pub struct Settings {
 }
 
 // A macroblock's motion: none, one vector with its difference, as it is written or was read, or four, which lie in an array beside it.
-#[derive(Drop)]
+#[derive(Clone, Copy)]
 pub enum MbMotion {
     None,
     One { mv: Svq1Mv, diff: Svq1Mv },

@@ -12,7 +12,7 @@ use plane::svq1_plane::inner::SliceLengths;
 use plane_enc::svq1_enc_inter::inner::write_refusal;
 
 // What the refusals look at of a plane besides its reference.
-#[derive(Drop)]
+#[derive(Clone, Copy)]
 pub struct PlaneLengths {
     pub canvas: Svq1PlaneCanvas,
     pub source: usize,
@@ -20,7 +20,7 @@ pub struct PlaneLengths {
 }
 
 // The refusal of each plane's checks, where those before it pass, and that of the picture; 0 for none.
-#[derive(Drop)]
+#[derive(Clone, Copy)]
 pub struct PictureRefusals {
     pub first: u8,
     pub second: u8,

@@ -5,7 +5,7 @@ use plane_enc::svq1_enc_inter::WriteEnd;
 
 // What writing a picture answers: the number of a refusal, or 0; the macroblocks done in all planes, which with 22 is the index of the one that does not fit,
 // counted through the planes; and for each plane what a plane call answers.
-#[derive(Drop)]
+#[derive(Clone, Copy)]
 pub struct PictureEnd {
     pub refused: u8,
     pub done: usize,

@@ -15,13 +15,13 @@ use picture_enc::encode_picture;
 use plane_dec::svq1_plane::{ReadEnd, decode_inter_plane};
 
 // What the writer answered, and the reader of each plane.
-#[derive(Drop)]
+#[derive(Clone, Copy)]
 pub struct PictureTripEnd {
     pub written: PictureEnd,
     pub read: PlanesRead,
 }
 
-#[derive(Drop)]
+#[derive(Clone, Copy)]
 pub struct PlanesRead {
     pub first: ReadEnd,
     pub second: ReadEnd,

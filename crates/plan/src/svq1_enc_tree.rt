@@ -5,7 +5,7 @@ use leaf::svq1_enc_leaf::LeafCode;
 use tree::svq1_enc_tree::Block;
 
 // A plan: its bits, its error and its tree.
-#[derive(Drop)]
+#[derive(Clone, Copy)]
 pub struct MbPlan {
     pub bits: u32,
     pub error: u32,
@@ -13,7 +13,7 @@ pub struct MbPlan {
 }
 
 // What is planned for a block: whether it is split, and its bits and its error as that. Its leaf choice stands there either way.
-#[derive(Drop)]
+#[derive(Clone, Copy)]
 pub struct PlannedBlock {
     pub split: bool,
     pub bits: u32,

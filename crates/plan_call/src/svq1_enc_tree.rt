@@ -13,7 +13,7 @@ use plan::svq1_enc_tree::inner::{plan, plan_reconstruction};
 use tree::svq1_enc_tree::{Block, TreeNode};
 
 // What a plan call answers: 0 with the plan's bits, its error, its tree and the samples that it shows; or a refusal's number and nothing else.
-#[derive(Drop)]
+#[derive(Clone, Copy)]
 pub struct PlanAnswer {
     pub refused: u8,
     pub bits: u32,

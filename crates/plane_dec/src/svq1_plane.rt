@@ -12,7 +12,7 @@ use plane::svq1_plane::inner::SliceLengths;
 
 // What reading a plane answers: the number of a refusal, or 0; the macroblocks done, which with 10, 11 and 24 is the index of the one refused;
 // and the next bit.
-#[derive(Drop)]
+#[derive(Clone, Copy)]
 pub struct ReadEnd {
     pub refused: u8,
     pub done: usize,

@@ -16,7 +16,7 @@ use plane::svq1_plane::inner::SliceLengths;
 
 // What writing a plane answers: the number of a refusal, or 0; the macroblocks done, which with 22 is the index of the one that does not fit;
 // the next bit; and the bits and the squared error of the macroblocks done.
-#[derive(Drop)]
+#[derive(Clone, Copy)]
 pub struct WriteEnd {
     pub refused: u8,
     pub done: usize,

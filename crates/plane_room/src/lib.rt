@@ -14,7 +14,7 @@ use canvas::svq1_plane::size_refusal;
 use code_tables::inner::entry_len;
 
 // What a call answers: the number of a refusal and no bytes, or 0 and the bytes.
-#[derive(Drop)]
+#[derive(Clone, Copy)]
 pub struct Room {
     pub refused: u8,
     pub bytes: usize,

@@ -8,7 +8,7 @@ ghost use Rattle.tree.specs.NodeForms.{off_block};
 use leaf::svq1_enc_leaf::LeafCode;
 
 // A block of the tree: one that the tree does not reach, a split, or a leaf.
-#[derive(Drop)]
+#[derive(Clone, Copy)]
 pub enum TreeNode {
     Off,
     Split,
@@ -16,7 +16,7 @@ pub enum TreeNode {
 }
 
 // A block's record: its node, and a leaf's stage indices beside it.
-#[derive(Drop)]
+#[derive(Clone, Copy)]
 pub struct Block {
     pub node: TreeNode,
     pub stages: [u8; 6],

@@ -12,7 +12,7 @@ use book::svq1_vlc::Svq1Half;
 use code_tables::svq1_vlc::CodeRead;
 
 // What reading a leaf answers: 0, the bit behind the leaf and the leaf; or a refusal's number, and a skip that stands for nothing.
-#[derive(Drop)]
+#[derive(Clone, Copy)]
 pub struct ReadLeaf {
     pub refused: u8,
     pub next: usize,

@@ -20,7 +20,7 @@ use leaf_samples::svq1_enc_leaf::inner::{
     add_stage, bias_of, copy, distance_of, seed, show, sums_error, vector_sse, wide,
 };
 
-#[derive(Drop)]
+#[derive(Clone, Copy)]
 pub struct Best {
     pub index: usize,
     pub error: u32,
@@ -104,7 +104,7 @@ fn residual_mean(half: Svq1Half, t: &[u8], p: &[u8]) -> u16
     mean_of_sums(half, sum_of(t), sum_of(p), n)
 }
 
-#[derive(Drop)]
+#[derive(Clone, Copy)]
 pub struct Stages {
     pub count: usize,
     pub error: u32,

@@ -8,7 +8,7 @@ ghost use Rattle.plane.specs.PlaneNeeds.{Padded};
 use canvas::svq1_plane::Svq1PlaneCanvas;
 
 // The lengths of a plane call's result slices.
-#[derive(Drop)]
+#[derive(Clone, Copy)]
 pub struct SliceLengths {
     pub recon: usize,
     pub vx: usize,

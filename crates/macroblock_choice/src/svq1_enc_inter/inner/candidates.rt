@@ -24,7 +24,7 @@ use tree::svq1_enc_tree::{Block, no_blocks};
 use vectors::svq1_motion_predictor::{Svq1Mv, zero_vector};
 
 // A way to code a macroblock: its mode, its motion with the vectors that its four blocks store, its tree, all its bits, and its error.
-#[derive(Drop)]
+#[derive(Clone, Copy)]
 pub struct MbCandidate {
     pub mode: Svq1MbMode,
     pub motion: MbMotion,

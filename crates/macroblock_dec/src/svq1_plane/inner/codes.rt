@@ -18,7 +18,7 @@ use macroblock::svq1_enc_inter::Svq1MbMode;
 use vectors::svq1_motion_predictor::{Svq1Mv, final_motion_vector};
 
 // A code that was read: the number of a refusal, or 0 with the code's position in its table and the bit behind it.
-#[derive(Drop)]
+#[derive(Clone, Copy)]
 pub struct ReadPosition {
     pub refused: u8,
     pub next: usize,
@@ -26,14 +26,14 @@ pub struct ReadPosition {
 }
 
 // A mode, two positions (x before y) and a vector with its difference, that were read likewise.
-#[derive(Drop)]
+#[derive(Clone, Copy)]
 pub struct ReadMode {
     pub refused: u8,
     pub next: usize,
     pub mode: Svq1MbMode,
 }
 
-#[derive(Drop)]
+#[derive(Clone, Copy)]
 pub struct ReadPair {
     pub refused: u8,
     pub next: usize,
@@ -41,7 +41,7 @@ pub struct ReadPair {
     pub y: usize,
 }
 
-#[derive(Drop)]
+#[derive(Clone, Copy)]
 pub struct ReadMv {
     pub refused: u8,
     pub next: usize,

@@ -32,14 +32,14 @@ use vectors::svq1_motion_predictor::{Svq1Mv, zero_vector};
 
 // Four vectors, a motion with its four vectors, and a macroblock, that were read: each with the number of a refusal, or 0 and the bit behind it.
 // A refused one has vectors too, which mean nothing.
-#[derive(Drop)]
+#[derive(Clone, Copy)]
 pub struct ReadFour {
     pub refused: u8,
     pub next: usize,
     pub vectors: [Svq1Mv; 4],
 }
 
-#[derive(Drop)]
+#[derive(Clone, Copy)]
 pub struct ReadMotion {
     pub refused: u8,
     pub next: usize,
@@ -47,7 +47,7 @@ pub struct ReadMotion {
     pub vectors: [Svq1Mv; 4],
 }
 
-#[derive(Drop)]
+#[derive(Clone, Copy)]
 pub struct ReadChoice {
     pub refused: u8,
     pub next: usize,
@@ -58,7 +58,7 @@ pub struct ReadChoice {
 }
 
 // A macroblock that was read and laid: the number of a refusal, or 0 with the bit behind it.
-#[derive(Drop)]
+#[derive(Clone, Copy)]
 pub struct ReadMb {
     pub refused: u8,
     pub next: usize,

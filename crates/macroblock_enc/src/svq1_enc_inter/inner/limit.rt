@@ -9,7 +9,7 @@ use macroblock::svq1_enc_inter::Svq1MbMode;
 use macroblock_bits::svq1_enc_inter::inner::mb_mode_bits;
 
 // No limit; or an allowance of bits for this plane and those behind it, which have so many macroblocks.
-#[derive(Drop)]
+#[derive(Clone, Copy)]
 pub enum BitLimit {
     Unlimited,
     Within { allowance: u64, behind: u64 },

@@ -100,7 +100,7 @@ fn lay_candidate(
 
 // A macroblock that was written: 0, or 22 where it does not fit and everything lent is as it was. Its mode, bits and error are what was chosen,
 // in both cases; `next` is the bit behind it, or where it would have begun.
-#[derive(Drop)]
+#[derive(Clone, Copy)]
 pub struct WrittenMb {
     pub refused: u8,
     pub mode: Svq1MbMode,

@@ -16,7 +16,7 @@ use vectors::svq1_motion_predictor::inner::difference_of;
 use vectors::svq1_motion_predictor::{Svq1Mv, zero_vector};
 
 // A motion to try, if there is one, with the vectors that its four blocks store.
-#[derive(Drop)]
+#[derive(Clone, Copy)]
 pub struct FoundMotion {
     pub found: bool,
     pub motion: MbMotion,

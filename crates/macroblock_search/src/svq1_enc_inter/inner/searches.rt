@@ -19,14 +19,14 @@ use tree_samples::svq1_enc_tree::inner::gather_block;
 use vectors::svq1_motion_predictor::{Svq1Mv, zero_vector};
 
 // A vector, if it was found.
-#[derive(Drop)]
+#[derive(Clone, Copy)]
 pub struct FoundMv {
     pub found: bool,
     pub mv: Svq1Mv,
 }
 
 // Two vectors, if both were found.
-#[derive(Drop)]
+#[derive(Clone, Copy)]
 pub struct FoundPair {
     pub found: bool,
     pub a: Svq1Mv,
@@ -34,7 +34,7 @@ pub struct FoundPair {
 }
 
 // A macroblock's first column and row.
-#[derive(Drop)]
+#[derive(Clone, Copy)]
 pub struct Corner {
     pub x: usize,
     pub y: usize,

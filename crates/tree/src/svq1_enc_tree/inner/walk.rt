@@ -117,7 +117,7 @@ pub fn emit(blocks: [Block; 63], half: Svq1Half, book: &[u8], out: &mut [u8], at
 }
 
 // A block that was read: the number of a refusal, or 0 with the block and the bit behind it.
-#[derive(Drop)]
+#[derive(Clone, Copy)]
 pub struct ReadNode {
     pub refused: u8,
     pub next: usize,
@@ -125,7 +125,7 @@ pub struct ReadNode {
 }
 
 // A tree that was read, likewise.
-#[derive(Drop)]
+#[derive(Clone, Copy)]
 pub struct ReadTree {
     pub refused: u8,
     pub next: usize,

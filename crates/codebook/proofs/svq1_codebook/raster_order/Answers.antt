@@ -5,12 +5,8 @@ use Rattle.bits.specs.BasicsLaws.{below}
 use Rattle.codebook.specs.Codebook.{raster_of}
 use Rattle.codebook.specs.Raster.{raster_start}
 use Rattle.codebook.specs.RasterLaws.{number_test, level_test, raster_test, raster_by_test}
-use Rattle.codebook.proofs.svq1_codebook.raster_order.Statement.{statement}
-use Rattle.codebook.proofs.svq1_codebook.raster_order.Tie as tie
+use Rattle.codebook.proofs.svq1_codebook.raster_order.Goals as goal
 
-returns : tie.Need-returns
+pub returns : goal.returns
 unfolding raster_test level_test number_test raster_start raster_of below sum
 returns c = raster_by_test _ refl
-
-pub raster-order-spec : {M : Type 1} → statement M
-raster-order-spec = tie.close (tie.spec returns)
