@@ -1,6 +1,5 @@
 -- The stages, one behind the other. Assumes nothing.
 use mathlib.Core.Path.{◌≡◌, refl, ◌∙◌}
-use Prim.Native.Nat.{◌-◌}
 use lib.ListN.{length, get_or}
 use Rattle.bits.specs.BitsLaws.{length_msb}
 use Rattle.leaf.specs.LentNeedsLaws.{wrote_start, stage_put}
