@@ -1,5 +1,5 @@
 -- Document 01's emission of a tree: level by level, each split block's parts joining the next level's queue (document 01, `svq1_enc_tree.rs`).
-use Rattle.std.specs.Prelude.{Bool, true, false, List, [], ◌∷◌, ◌++◌, ℕ, zero, suc, ◌+◌}
+use Rattle.std.specs.Prelude.{Bool, true, false, List, [], ◌∷◌, ◌++◌, ℕ, zero, suc}
 use Rattle.book.specs.Book.{Tables}
 use Rattle.tree.specs.Blocks.{left, right}
 use Rattle.tree.specs.TreeBits.{Node, Off, Split, Ends, node_bits}

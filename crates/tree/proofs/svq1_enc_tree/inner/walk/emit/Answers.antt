@@ -2,7 +2,6 @@
 use Rattle.tree.specs.WalkNeedsLaws.{tree_at, tree-length, node_room, emit-begins, emit_turn, emit_ends}
 use Rattle.tree.specs.NodeForms.{tree_of}
 use mathlib.Core.Path.{◌∙◌, sym}
-use Prim.Native.Nat.{◌-◌}
 use borrow.Author.Rules.{rules}
 use Rattle.tree.proofs.svq1_enc_tree.inner.walk.emit.Goals as goal
 

@@ -2,9 +2,7 @@
 use Rattle.tree.specs.WalkReadLaws.{read_begins, read_ends, read_refused, passed, taken, refused, moved}
 use Rattle.tree.specs.NodeForms.{tree_of}
 use Rattle.book.specs.Book.{tables_of}
-use mathlib.Core.Logic.{⊎_elim}
 use mathlib.Core.Path.{◌∙◌, sym, refl}
-use Prim.Native.Nat.{◌-◌}
 use native.Mathlib.Omega.{arith}
 use borrow.Author.Rules.{rules}
 use Rattle.tree.proofs.svq1_enc_tree.inner.walk.read.Goals as goal
@@ -40,9 +38,9 @@ loop-i-preserved c =
     let h = c.loop-i-test.true in
     let r = sym c.is_reached.ensures in
     elim c.if-is_reached.branch [
-      then-is_reached+else-refused-ne0 w ↦ moved _ _ _ _ _ _ _ _ _ w.blocks-is w.k-is
-      (taken (tables_of a.book.now a.half) f.result a.s.now _ l.blocks l.k l.i l.invariant h _ w.level_of.ensures.0 w.read_node-g.result (r ∙ w.if-is_reached.true) w.read_node-g.ensures w.if-refused-ne0.false)
-    | else-is_reached w ↦ moved _ _ _ _ _ _ _ _ _ w.blocks-is w.k-is (passed (tables_of a.book.now a.half) f.result a.s.now _ l.blocks l.k l.i l.invariant h (r ∙ w.if-is_reached.false))
+      | then-is_reached+else-refused-ne0 w ↦ moved _ _ _ _ _ _ _ _ _ w.blocks-is w.k-is
+          (taken (tables_of a.book.now a.half) f.result a.s.now _ l.blocks l.k l.i l.invariant h _ w.level_of.ensures.0 w.read_node-g.result (r ∙ w.if-is_reached.true) w.read_node-g.ensures w.if-refused-ne0.false)
+      | else-is_reached w ↦ moved _ _ _ _ _ _ _ _ _ w.blocks-is w.k-is (passed (tables_of a.book.now a.half) f.result a.s.now _ l.blocks l.k l.i l.invariant h (r ∙ w.if-is_reached.false))
     ]
 
 pub returns : goal.returns
