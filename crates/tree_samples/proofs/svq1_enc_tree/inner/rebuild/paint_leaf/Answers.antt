@@ -18,7 +18,7 @@ gather_block-requires c =
 pub show_leaf-requires : goal.show_leaf-requires
 show_leaf-requires c =
     let s = c in
-    let u = c.gather_block.auto.1.1.1.1.1.0 ∙ s.requires.cells.predictor in
+    let u = c.gather_block.auto.out ∙ s.requires.cells.predictor in
     let most = area_most s.args.d (five _ _ _ _ _ s.requires.drawing.lies) in (
       record { few = omega (arith, u, most); sums = s.requires.cells.totals ∙ sym u; shown = s.requires.cells.samples ∙ sym u },
       code_shows s.args.half s.args.d _ _ _ s.args.code s.args.stages (search rules) s.requires.drawing.sound s.requires.drawing.copy c.page_start-page.ensures u,
@@ -27,7 +27,7 @@ show_leaf-requires c =
 pub paint_block-requires : goal.paint_block-requires
 paint_block-requires c =
     let s = c in
-    rows_over s.args.s s.args.d s.args.i _ _ _ _ _ s.requires.drawing.lies c.place_of-at.ensures.0 (c.block_dims-dims.ensures.0 ∙ ap width c.level_at-level.ensures) (c.block_dims-dims.ensures.1 ∙ ap height c.level_at-level.ensures) _ (c.show_leaf.auto.out.1.1.0 ∙ s.requires.cells.samples)
+    rows_over s.args.s s.args.d s.args.i _ _ _ _ _ s.requires.drawing.lies c.place_of-at.ensures.0 (c.block_dims-dims.ensures.0 ∙ ap width c.level_at-level.ensures) (c.block_dims-dims.ensures.1 ∙ ap height c.level_at-level.ensures) _ (c.show_leaf.auto.out ∙ s.requires.cells.samples)
 
 pub returns : goal.returns
 returns c =

@@ -1,0 +1,4 @@
+use Rattle.tree_samples.proofs.svq1_enc_tree.inner.rebuild.+rebuild.Given as goal
+
+abbrev pub decreases-rebuild : goal.decreases-rebuild
+decreases-rebuild l = l.level
