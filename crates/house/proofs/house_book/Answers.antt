@@ -5,12 +5,8 @@ use Rattle.code_tables.specs.Codes.{codes_of, good_table}
 use Rattle.house.specs.House.{rank, signed_rank, log_under}
 use Rattle.house.specs.TrieForms.{free, enter, all_free}
 use Rattle.house.specs.HouseLaws.{ruled, each_free, house_test, by_test}
-use Rattle.house.proofs.house_book.Statement.{statement}
-use Rattle.house.proofs.house_book.Tie as tie
+use Rattle.house.proofs.house_book.Goals as goal
 
-returns : tie.Need-returns
+pub returns : goal.returns
 unfolding house_test ruled each_free good_table rank signed_rank log_under all_free free enter codes_of msb
 returns c = by_test _ refl
-
-pub house-book-spec : {M : Type 1} → statement M
-house-book-spec = tie.close (tie.spec returns)
