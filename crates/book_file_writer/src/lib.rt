@@ -1,4 +1,6 @@
 // Book files written: the one file of a book, its tables and positions in their order.
+#![tactic(auto)]
+
 ghost use Rattle.std.specs.Prelude.{◌≡◌, [], ◌∷◌, ◌+◌, ◌≤◌, length};
 ghost use Rattle.text.specs.Text.{decimal, line_of};
 ghost use Rattle.text.specs.WritingForms.{PutInRoom, TextWritten};

@@ -1,5 +1,4 @@
 -- `book_file::all_met` meets its contract: as far as every entry passed was met, all are where those left are. Assumes nothing.
-use Prim.Native.Nat.{◌-◌}
 use mathlib.Core.Path.{refl, sym, ◌∙◌}
 use native.Mathlib.Omega.{arith}
 use lib.Dec.{eqb}
