@@ -1,5 +1,4 @@
 -- `book_file_writer::file_length` meets its contract: what every file holds, and the digits of the entries passed. Assumes nothing.
-use Prim.Native.Nat.{◌-◌}
 use mathlib.Core.Path.{◌≡◌, refl, ap}
 use native.Mathlib.Omega.{arith}
 use Rattle.bits.specs.Basics.{sum}
@@ -15,19 +14,15 @@ loop-e-init c = (omega arith, omega arith, refl)
 
 pub loop-e-preserved : goal.loop-e-preserved
 loop-e-preserved c =
-    let value = c in
-    let long = value in
-    let u = long in
-    let book = u.args.book.now in
-    let of-long = rw long.entry_len.ensures at value.digit_count-n.ensures.count in
-    let of-value = rw value.entry_val.ensures at c.digit_count-n-in-loop-e.ensures.count in
-    let more = sum_more (digits_at book) u.loop-e.e (sum (digits_at book) u.loop-e.e) (digits_at book u.loop-e.e) refl refl in
-    (omega arith, omega arith, omega (arith, u.loop-e.invariant.2, of-long, of-value, more))
+    let book = c.args.book.now in
+    let of-long = rw c.entry_len.ensures at c.digit_count-n.ensures.count in
+    let of-value = rw c.entry_val.ensures at c.digit_count-n-in-loop-e.ensures.count in
+    let more = sum_more (digits_at book) c.loop-e.e (sum (digits_at book) c.loop-e.e) (digits_at book c.loop-e.e) refl refl in
+    (omega arith, omega arith, omega (arith, c.loop-e.invariant.2, of-long, of-value, more))
 
 pub returns : goal.returns
 unfolding file_length
 returns c =
-    let u = c in
-    let book = u.args.book.now in
-    let e : u.loop-e.e ≡ book_entries = omega arith in
-    omega (arith, u.loop-e.invariant.2, ap (sum (digits_at book)) e, file_length_lem book)
+    let book = c.args.book.now in
+    let e : c.loop-e.e ≡ book_entries = omega arith in
+    omega (arith, c.loop-e.invariant.2, ap (sum (digits_at book)) e, file_length_lem book)

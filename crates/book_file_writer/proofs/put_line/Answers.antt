@@ -13,13 +13,8 @@ line_fields a b c d = simp append_assoc
 
 pub returns : goal.returns
 returns c =
-    let value = c in
-    let long = value in
-    let position = long in
-    let separator = position in
-    let name = separator in
-    let a = name.args in
+    let a = c.args in
     rw (← line_fields a.name.now (decimal a.position) (decimal a.long) (decimal a.value))
     (put_behind
-    (put_behind (put_behind (put_behind (in_room_lem name.put_text-a.ensures) (in_room_lem separator.put_text-b.ensures)) (in_room_lem position.put_field-c.ensures)) (in_room_lem long.put_field-d.ensures))
-    (in_room_lem value.put_field.ensures))
+    (put_behind (put_behind (put_behind (in_room_lem c.put_text-a.ensures) (in_room_lem c.put_text-b.ensures)) (in_room_lem c.put_field-c.ensures)) (in_room_lem c.put_field-d.ensures))
+    (in_room_lem c.put_field.ensures))

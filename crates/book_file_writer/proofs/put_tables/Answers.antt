@@ -13,14 +13,8 @@ shape_of-out c = omega (arith, c)
 pub returns : goal.returns
 unfolding book_file tables_text
 returns c =
-    let interstage = c in
-    let intrastage = interstage in
-    let intermean = intrastage in
-    let intramean = intermean in
-    let vector = intramean in
-    let mode = vector in
-    put_behind mode.put_table-a.ensures
-    (put_behind vector.put_table-b.ensures
-    (put_behind intramean.put_table-c.ensures
-    (put_behind intermean.put_table-d.ensures
-    (put_behind intrastage.put_table-e.ensures (put_behind interstage.put_table.ensures (put_nothing _ _))))))
+    put_behind c.put_table-a.ensures
+    (put_behind c.put_table-b.ensures
+    (put_behind c.put_table-c.ensures
+    (put_behind c.put_table-d.ensures
+    (put_behind c.put_table-e.ensures (put_behind c.put_table.ensures (put_nothing _ _))))))

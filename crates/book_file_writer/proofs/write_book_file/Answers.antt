@@ -29,12 +29,11 @@ file_length-requires c = sized _ _ c.book_refusal-refused.ensures c.if-refused-n
 pub returns-then-out-file_length : goal.returns-then-out-file_length
 unfolding write_file_refusal
 returns-then-out-file_length c =
-    let u = c in
-    let r = u.book_refusal-refused in
-    let file = book_file u.args.book.now in
-    let out = u.args.out.now in
+    let r = c.book_refusal-refused in
+    let file = book_file c.args.book.now in
+    let out = c.args.out.now in
     let room : 20 ≡ text_refusal file (length out) = rw (lt-leb (length file) (length out) (omega (arith, c.file_length.ensures))) in
-    text_refused _ 20 file out (first_passed 20 _ _ (sym r.ensures ∙ u.if-refused-ne0.false) (first_last 20 _ room)) (λ z. omega arith)
+    text_refused _ 20 file out (first_passed 20 _ _ (sym r.ensures ∙ c.if-refused-ne0.false) (first_last 20 _ room)) (λ z. omega arith)
 
 pub put_tables-bytes-requires : goal.put_tables-bytes-requires
 put_tables-bytes-requires c = let u = c in sized _ _ u.book_refusal-refused.ensures u.if-refused-ne0.false
@@ -42,10 +41,8 @@ put_tables-bytes-requires c = let u = c in sized _ _ u.book_refusal-refused.ensu
 pub returns : goal.returns
 unfolding write_file_refusal
 returns c =
-    let w = c in
-    let u = w in
-    let r = u.book_refusal-refused in
-    let file = book_file u.args.book.now in
-    let out = u.args.out.now in
-    let room : length file ≤ length out = omega (arith, w.file_length.ensures, w.if-out-file_length.false) in
-    text_written _ (sym (first_passed 0 _ _ (sym r.ensures ∙ u.if-refused-ne0.false) (first_last 0 _ (rw (le-leb (length file) (length out) room))))) room w.put_tables-bytes.ensures
+    let r = c.book_refusal-refused in
+    let file = book_file c.args.book.now in
+    let out = c.args.out.now in
+    let room : length file ≤ length out = omega (arith, c.file_length.ensures, c.if-out-file_length.false) in
+    text_written _ (sym (first_passed 0 _ _ (sym r.ensures ∙ c.if-refused-ne0.false) (first_last 0 _ (rw (le-leb (length file) (length out) room))))) room c.put_tables-bytes.ensures
