@@ -1,4 +1,6 @@
 // What refuses a lent book.
+#![tactic(auto)]
+
 ghost use Rattle.std.specs.Prelude.{◌≡◌, true, ◌<◌, length, get_or};
 ghost use Rattle.code_tables.specs.Codes.{good_table};
 ghost use Rattle.book.specs.Book.{book_bytes, code_table_sizes, each_prefix_free, book_refusal, data_refusal};

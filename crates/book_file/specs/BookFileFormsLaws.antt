@@ -112,7 +112,7 @@ field_below name (some p) e q = named_below file_tables name p e tables_fit q
 
 -- what is known of a line that was read
 pub record LineFits (l : Line) : Type 0 where
-  pub entry-below : l.entry < book_entries
+  pub entry_below : l.entry < book_entries
   pub long_le : l.long ≤ 65535
   pub value_le : l.value ≤ 65535
 
@@ -123,7 +123,7 @@ at_fits (some e) none k l ho hm hk q = none_some q
 at_fits (some e) (some n) none l ho hm hk q = none_some q
 at_fits (some e) (some n) (some v) l ho hm hk q =
     let w : record { entry = e; long = n; value = v } ≡ l = cc in
-    record { entry-below = rw (← w) (ho e refl); long_le = rw (← w) (hm n refl); value_le = rw (← w) (hk v refl) }
+    record { entry_below = rw (← w) (ho e refl); long_le = rw (← w) (hm n refl); value_le = rw (← w) (hk v refl) }
 
 pub line_fits : (fs : List (List ℕ)) (l : Line) → line_read fs ≡ some l → LineFits l
 unfolding line_read

@@ -28,7 +28,7 @@ module _ (book : List ℕ) (bytes : Bytes book) where
   values_fit zero e h = tt
   values_fit (suc n) e h = (
     record {
-      entry-below = omega arith;
+      entry_below = omega arith;
       long_le = omega (arith, bytes (3 * e + 2));
       value_le = omega (arith, bytes (3 * e), bytes (3 * e + 1));
     },

@@ -41,7 +41,7 @@ book_codes book h = or_next (unless (eqb (length book) book_bytes) 5) (codes_ref
 
 pub entries_below : (ls : List Line) → All LineFits ls → All (λ l. l.entry < book_entries) ls
 entries_below [] fit = tt
-entries_below (l ∷ ls) fit = (fit.0.entry-below, entries_below ls fit.1)
+entries_below (l ∷ ls) fit = (fit.0.entry_below, entries_below ls fit.1)
 
 -- a book's lines in order are as many as its entries
 pub whole_length : (ls : List Line) → All LineFits ls → once_each book_entries 0 ls ≡ true → in_order 0 ls ≡ true → length ls ≡ book_entries

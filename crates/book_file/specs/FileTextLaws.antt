@@ -100,14 +100,14 @@ fields_are l p = rw p.are
 line_back : (l : Line) → LineFits l → line_read (fields_of (joined (fields_for l))) ≡ some l
 unfolding line_read
 line_back l f =
-    let p = placed l.entry f.entry-below in
+    let p = placed l.entry f.entry_below in
     let apart = fields_joined p.name (decimal p.position ∷ decimal l.long ∷ decimal l.value ∷ [])
     (p.no_comma, (decimal-comma p.position, (decimal-comma l.long, (decimal-comma l.value, tt)))) in
     rw (fields_are l p, apart, number_back p.position p.small, p.means, number_back l.long f.long_le, number_back l.value f.value_le)
 
 line_feed_lem : (l : Line) → LineFits l → without line_feed (joined (fields_for l)) ≡ true
 line_feed_lem l f =
-    let p = placed l.entry f.entry-below in
+    let p = placed l.entry f.entry_below in
     rw (fields_are l p) (joined-without (p.name ∷ decimal p.position ∷ decimal l.long ∷ decimal l.value ∷ [])
     (p.no_feed, (decimal_feed p.position, (decimal_feed l.long, (decimal_feed l.value, tt)))))
 

@@ -1,4 +1,6 @@
 // Book files read: the text form of a book of code tables, its lines in one order.
+#![tactic(auto)]
+
 ghost use Rattle.std.specs.Prelude.{◌≡◌, ◌&&◌, ◌+◌, ◌*◌, ◌≤◌, ◌<◌, min, ltb, length};
 ghost use Rattle.std.proofs.Math.Option.{some, none};
 ghost use Rattle.bits.specs.Basics.{pick};

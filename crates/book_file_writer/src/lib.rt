@@ -1,4 +1,6 @@
 // Book files written: the one file of a book, its tables and positions in their order.
+#![tactic(auto)]
+
 ghost use Rattle.std.specs.Prelude.{◌≡◌, [], ◌∷◌, ◌+◌, ◌≤◌, length};
 ghost use Rattle.text.specs.Text.{decimal, line_of};
 ghost use Rattle.text.specs.WritingForms.{PutInRoom, TextWritten};
@@ -27,7 +29,7 @@ fn put_line(out: &mut [u8], at: usize, name: &[u8], position: u64, long: u64, va
 // The lines of the table that begins at entry `from` and has `size` entries.
 fn put_table(out: &mut [u8], at: usize, book: &[u8], name: &[u8], from: usize, size: usize) -> usize
     requires { (length book.now ≡ book_bytes) × (from + size ≤ book_entries) }
-    ensures { PutInRoom out.old at (table_lines book.now (record { name = name.entry.now; from = from; size = size }) size) result out.new }
+    ensures { PutInRoom out.old at (table_lines book.now (record { name = name.now; from = from; size = size }) size) result out.new }
 {
     let mut next = at;
     let mut p = 0;

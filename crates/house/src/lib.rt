@@ -1,4 +1,6 @@
 // The house book and the house codebook, which stand in for the data that the Rust does not come with.
+#![tactic(auto)]
+
 ghost use Rattle.std.specs.Prelude.{◌≡◌, ◌<◌};
 ghost use Rattle.book.specs.Book.{codebook_bytes};
 ghost use Rattle.house.specs.Fill.{BookFilled, CodebookFilled};

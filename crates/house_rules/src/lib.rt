@@ -1,5 +1,7 @@
 // The house book worked out from its rules: the position rule, the logarithm, and the entries one behind the other. The constant of `house` is not looked at.
 // The house codebook has no constant: `fill_house_codebook` of `house` works it out.
+#![tactic(auto)]
+
 ghost use Rattle.std.specs.Prelude.{◌≡◌, ◌≤◌, ◌<◌};
 ghost use Rattle.std.proofs.Math.IntN.{sub_ℕ};
 ghost use Rattle.book.specs.Book.{book_entries};

@@ -1,4 +1,6 @@
 // A book and a codebook as text: the book's file, then the codebook's numbers, one a line; and the house's, both worked out from their rules.
+#![tactic(auto)]
+
 ghost use Rattle.std.specs.Prelude.{◌≡◌, length};
 ghost use Rattle.bits.specs.Basics.{signed_of};
 ghost use Rattle.text.specs.WritingForms.{PutInRoom, TextWritten, text_refusal};

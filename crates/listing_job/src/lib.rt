@@ -1,4 +1,6 @@
 // The job line of the listing program: `width,height,lambda,radius,four,margin`.
+#![tactic(auto)]
+
 ghost use Rattle.std.specs.Prelude.{◌≡◌};
 ghost use Rattle.text.specs.Text.{fields_of};
 ghost use Rattle.listing_job.specs.Job.{job_in, job_read, job_answer};

@@ -2,7 +2,7 @@
 #![tactic(auto)]
 
 ghost use Rattle.std.specs.Prelude.{◌≡◌, [], ◌∷◌, ◌++◌, nat_abs};
-ghost use Rattle.text.specs.Text.{number_up_to, above_zero, below_zero, decimal, signed64, signed_decimal, same as sameText};
+ghost use Rattle.text.specs.Text.{number_up_to, above_zero, below_zero, decimal, signed64, signed_decimal, same as same_text};
 ghost use Rattle.text.specs.ReadingForms.{TextFound, digit_of, digits_from, number_of, NumberWithin, signed_number_of};
 ghost use Rattle.text.specs.WritingForms.{TextPut, DigitsCounted, SignedCounted};
 
@@ -45,7 +45,7 @@ pub fn find(t: &[u8], b: u8) -> usize
 
 // Whether two texts are the same.
 pub fn same(t: &[u8], u: &[u8]) -> bool
-    ensures { result ≡ sameText t.now u.now }
+    ensures { result ≡ same_text t.now u.now }
 {
     if t.len() != u.len() {
         return false;

@@ -10,10 +10,10 @@ use Rattle.text.specs.ReadingForms.{number_of}
 use Rattle.text.proofs.above_zero.Goals as goal
 
 pub overflow_cast-result : goal.overflow_cast-result
-overflow_cast-result c = let n = c.n-1.given in record { sfits = omega (arith, c.requires n.0.0 (ap number_of n.1)) }
+overflow_cast-result c = record { sfits = omega (arith, c.requires c.in-Number.size (ap number_of c.in-Number.is)) }
 
 pub returns-in-Number : goal.returns-in-Number
 returns-in-Number c =
-    let n = c.n-1.given in
-    let s : SFits w64 (pos n.0.0) = overflow_cast-result c in
-    rw n.1 (ap some (to_z-of_z w64 (pos n.0.0) s))
+    let n = c.in-Number in
+    let s : SFits w64 (pos n.size) = overflow_cast-result c in
+    rw n.is (ap some (to_z-of_z w64 (pos n.size) s))

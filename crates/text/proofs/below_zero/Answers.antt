@@ -8,20 +8,20 @@ use Rattle.text.proofs.below_zero.Goals.{Then-size-gt0}
 
 number : (c : Then-size-gt0) → MadeBelow c.in-Number.size
 number c =
-    let n = c.n-1.given in
-    made_below n.0.0 c.if-size-gt0.true (c.requires n.0.0 (ap number_of n.1))
+    let n = c.in-Number in
+    made_below n.size c.if-size-gt0.true (c.requires n.size (ap number_of n.is))
 
 pub overflow_cast-result : goal.overflow_cast-result
-overflow_cast-result c = (number c).ranges
+overflow_cast-result c = (number (goal.at.overflow_cast-result c).Then-size-gt0).fits
 
 pub overflow_sub-result-then-size-gt0 : goal.overflow_sub-result-then-size-gt0
-overflow_sub-result-then-size-gt0 c = (number c).whole
+overflow_sub-result-then-size-gt0 c = (number (goal.at.overflow_sub-result-then-size-gt0 c).Then-size-gt0).whole
 
 pub returns-then-size-gt0 : goal.returns-then-size-gt0
-returns-then-size-gt0 c = rw c.in-Number.is (number c).same
+returns-then-size-gt0 c = rw c.in-Number.is (number (goal.at.returns-then-size-gt0 c).Then-size-gt0).same
 
 pub returns : goal.returns
 returns c =
-    let n = c.n-1.given in
-    let zero : n.0.0 ≡ 0 = omega (arith, c.if-size-gt0.false) in
-    rw (n.1, zero)
+    let n = c.in-Number in
+    let zero : n.size ≡ 0 = omega (arith, c.if-size-gt0.false) in
+    rw (n.is, zero)

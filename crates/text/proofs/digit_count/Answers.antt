@@ -18,20 +18,18 @@ loop-m-smaller c = omega arith
 
 pub loop-m-preserved : goal.loop-m-preserved
 loop-m-preserved c =
-    let u = c in
-    let k : ℕ = u.loop-m.k in
-    let m : ℕ = u.loop-m.m in
+    let k : ℕ = c.loop-m.k in
+    let m : ℕ = c.loop-m.m in
     let f : ℕ = 21 - (k + 1) in
     let e : 21 - k ≡ suc f = omega arith in
-    let turn = count_turn f m (omega arith) (rw e at u.loop-m.invariant.2) in
-    let count : k + digit_count (suc f) m ≡ 1 + digit_count 20 u.args.n = rw e at u.loop-m.invariant.3 in
+    let turn = count_turn f m (omega arith) (rw e at c.loop-m.invariant.2) in
+    let count : k + digit_count (suc f) m ≡ 1 + digit_count 20 c.args.n = rw e at c.loop-m.invariant.3 in
     (omega arith, omega (arith, turn.0), turn.2, omega (arith, turn.1, count))
 
 pub returns : goal.returns
 unfolding decimal
 returns c =
-    let u = c in
-    let k : ℕ = u.loop-m.k in
+    let k : ℕ = c.loop-m.k in
     let e : 21 - k ≡ suc (20 - k) = omega arith in
-    let count : k + digit_count (suc (20 - k)) u.loop-m.m ≡ 1 + digit_count 20 u.args.n = rw e at u.loop-m.invariant.3 in
-    record { count = omega (arith, count, count_last (20 - k) u.loop-m.m (omega arith)); most = omega arith }
+    let count : k + digit_count (suc (20 - k)) c.loop-m.m ≡ 1 + digit_count 20 c.args.n = rw e at c.loop-m.invariant.3 in
+    record { count = omega (arith, count, count_last (20 - k) c.loop-m.m (omega arith)); most = omega arith }

@@ -1,5 +1,4 @@
 -- `text::find` meets its contract: the bytes passed and those that stand before the first b in what is left are those before it in the whole. Assumes nothing.
-use Prim.Native.Nat.{◌-◌}
 use native.Mathlib.Omega.{arith}
 use Rattle.text.specs.TextLaws.{count-step, count_here, count_end}
 use Rattle.text.proofs.find.Goals as goal
@@ -12,9 +11,7 @@ bounds-t-i c = omega arith
 
 pub returns-then-t-i : goal.returns-then-t-i
 returns-then-t-i c =
-    let u = c in
-    let s = u in
-    record { count = omega (arith, count_here s.args.b s.args.t.now u.loop-i.i (omega arith) c.if-t-i.true); within = omega arith }
+    record { count = omega (arith, count_here c.args.b c.args.t.now c.loop-i.i (omega arith) c.if-t-i.true); within = omega arith }
 
 pub overflow_add-i : goal.overflow_add-i
 overflow_add-i c = omega arith
@@ -24,12 +21,8 @@ loop-i-smaller c = omega arith
 
 pub loop-i-preserved : goal.loop-i-preserved
 loop-i-preserved c =
-    let u = c in
-    let s = u in
-    (omega arith, omega (arith, count-step s.args.b s.args.t.now u.loop-i.i (omega arith) c.if-t-i.false))
+    (omega arith, omega (arith, count-step c.args.b c.args.t.now c.loop-i.i (omega arith) c.if-t-i.false))
 
 pub returns : goal.returns
 returns c =
-    let u = c in
-    let s = u in
-    record { count = omega (arith, count_end s.args.b s.args.t.now u.loop-i.i (omega arith)); within = omega arith }
+    record { count = omega (arith, count_end c.args.b c.args.t.now c.loop-i.i (omega arith)); within = omega arith }

@@ -24,15 +24,14 @@ loop-i-init c =
 
 pub loop-i-preserved : goal.loop-i-preserved
 loop-i-preserved c =
-    let u = c in
-    let a = u.args in
-    let i : ℕ = u.loop-i.i in
-    let fits : u.digit_count-k.result + a.at ≤ length u.loop-i.out = omega arith in (
+    let a = c.args in
+    let i : ℕ = c.loop-i.i in
+    let fits : c.digit_count-k.result + a.at ≤ length c.loop-i.out = omega arith in (
       omega arith,
       omega arith,
-      simp length-set u.loop-i.invariant.2,
-      digits_kept i (48 + u.loop-i.m % 10) u.loop-i.out a.out.now (omega arith) u.loop-i.invariant.3,
-      sym (digits_turn a.at i u.loop-i.m u.loop-i.out (omega arith) (omega arith)) ∙ u.loop-i.invariant.4,
+      simp length-set c.loop-i.invariant.2,
+      digits_kept i (48 + c.loop-i.m % 10) c.loop-i.out a.out.now (omega arith) c.loop-i.invariant.3,
+      sym (digits_turn a.at i c.loop-i.m c.loop-i.out (omega arith) (omega arith)) ∙ c.loop-i.invariant.4,
     )
 
 pub shape_of-out : goal.shape_of-out
@@ -40,8 +39,7 @@ shape_of-out c = c.loop-i.invariant.2
 
 pub returns : goal.returns
 returns c =
-    let u = c in
-    let a = u.args in
-    let k = u.digit_count-k.ensures.count in
+    let a = c.args in
+    let k = c.digit_count-k.ensures.count in
     let room : a.at + length (decimal a.n) ≤ length a.out.now = omega (arith, k) in
-    rw k (digits_end a.out.now a.at a.n u.loop-i.i u.loop-i.m u.loop-i.out room (omega arith) u.loop-i.invariant.3 (rw k at u.loop-i.invariant.4))
+    rw k (digits_end a.out.now a.at a.n c.loop-i.i c.loop-i.m c.loop-i.out room (omega arith) c.loop-i.invariant.3 (rw k at c.loop-i.invariant.4))

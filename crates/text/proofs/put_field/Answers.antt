@@ -6,12 +6,6 @@ use lib.ListN.{length, length-append}
 use Rattle.text.specs.Text.{decimal}
 use Rattle.text.specs.PutLaws.{put_none, put_inside, put_byte}
 use Rattle.text.proofs.put_field.Goals as goal
-use Rattle.text.proofs.put_field.Goals.{After-slice_known-2-1}
-
--- where the digits end, a byte is left
-room : (c : After-slice_known-2-1)
-    → let a = c.args in a.at + length (decimal a.n) < length a.out.now
-room c = omega (arith, c.digit_count-size.ensures.count)
 
 pub returns-then-out-at : goal.returns-then-out-at
 returns-then-out-at c =
@@ -25,11 +19,21 @@ returns-then-out-at-2 c =
     put_none a.out.now a.at (decimal a.n ++ (a.behind ∷ []))
     (omega (arith, c.digit_count-size.ensures.count, length-append (decimal a.n) (a.behind ∷ [])))
 
+-- where the digits end, a byte is left
 pub bounds-out-next : goal.bounds-out-next
-bounds-out-next c = put_inside c.put_decimal-next.ensures (room c)
+bounds-out-next c =
+    let a = c.args in
+    let room : a.at + length (decimal a.n) < length a.out.now = omega (arith, c.digit_count-size.ensures.count) in
+    put_inside c.put_decimal-next.ensures room
 
 pub overflow_add-result : goal.overflow_add-result
-overflow_add-result c = omega (arith, put_inside c.put_decimal-next.ensures (room c))
+overflow_add-result c =
+    let a = c.args in
+    let room : a.at + length (decimal a.n) < length a.out.now = omega (arith, c.digit_count-size.ensures.count) in
+    omega (arith, put_inside c.put_decimal-next.ensures room)
 
 pub returns : goal.returns
-returns c = put_byte c.put_decimal-next.ensures (room c) _
+returns c =
+    let a = c.args in
+    let room : a.at + length (decimal a.n) < length a.out.now = omega (arith, c.digit_count-size.ensures.count) in
+    put_byte c.put_decimal-next.ensures room _

@@ -20,19 +20,16 @@ counted c = let s = c in rw (to_z-of_z w64 s.args.z s.ranges.z) at c.signed_coun
 -- the number is below 0, and there is room for the minus and the digits
 below : (c : Else-out-at-2) → let a = c.args in signed_decimal a.z ≡ minus ∷ decimal (nat_abs a.z)
 below c =
-    let s = c in
-    signed_below s.args.z (simp (to_z-of_z w64 s.args.z s.ranges.z) at c.if-z-ge0.false)
+    signed_below c.args.z (simp (to_z-of_z w64 c.args.z c.ranges.z) at c.if-z-ge0.false)
 
-room : (c : Else-out-at-2) → let a = c.args in a.at + suc (length (decimal (nat_abs a.z))) ≤ length a.out.now
-room c = omega (arith, rw (below c) at (counted c.After-signed_count-bytes))
+room : (c : Else-out-at-2) → let a = c.args in c.signed_count-bytes.result ≡ length (signed_decimal a.z) → a.at + suc (length (decimal (nat_abs a.z))) ≤ length a.out.now
+room c e = omega (arith, rw (below c) at e)
 
 pub returns-then-z-ge0 : goal.returns-then-z-ge0
 returns-then-z-ge0 c =
-    let p = c in
-    let s = p in
-    let e = to_z-of_z w64 s.args.z s.ranges.z in
-    let size : p.type_size.result ≡ nat_abs s.args.z = p.type_size.ensures ∙ ap nat_abs e in
-    rw (signed_above s.args.z (simp e at p.if-z-ge0.true)) (rw size at p.put_decimal.ensures)
+    let e = to_z-of_z w64 c.args.z c.ranges.z in
+    let size : c.size_of.result ≡ nat_abs c.args.z = c.size_of.ensures ∙ ap nat_abs e in
+    rw (signed_above c.args.z (simp e at c.if-z-ge0.true)) (rw size at c.put_decimal.ensures)
 
 pub returns-then-out-at : goal.returns-then-out-at
 returns-then-out-at c =
@@ -45,15 +42,15 @@ returns-then-out-at-2 c =
     put_none a.out.now a.at (signed_decimal a.z) (omega (arith, counted (goal.at.returns-then-out-at-2 c).After-signed_count-bytes))
 
 pub bounds-out-at : goal.bounds-out-at
-bounds-out-at c = omega (arith, room c)
+bounds-out-at c =
+    let s = goal.at.bounds-out-at c in
+    omega (arith, room s.Else-out-at-2 (counted s.After-signed_count-bytes))
 
 pub shape_of-out : goal.shape_of-out
 shape_of-out c = c.put_decimal-2.auto.out ∙ simp length-set
 
 pub returns : goal.returns
 returns c =
-    let p = c in
-    let u = p in
-    let s = u in
-    let size : p.size_of-2.result ≡ nat_abs s.args.z = p.size_of-2.ensures ∙ ap nat_abs (to_z-of_z w64 s.args.z s.ranges.z) in
-    rw (below (goal.at.returns c).Else-out-at-2) (byte_before (room (goal.at.returns c).Else-out-at-2) (rw size at p.put_decimal-2.ensures))
+    let s = goal.at.returns c in
+    let size : c.size_of-2.result ≡ nat_abs c.args.z = c.size_of-2.ensures ∙ ap nat_abs (to_z-of_z w64 c.args.z c.ranges.z) in
+    rw (below s.Else-out-at-2) (byte_before (room s.Else-out-at-2 (counted s.After-signed_count-bytes)) (rw size at c.put_decimal-2.ensures))

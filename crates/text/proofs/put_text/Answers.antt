@@ -20,6 +20,5 @@ overflow_add-result c = omega arith
 
 pub returns : goal.returns
 returns c =
-    let p = c in
-    let a = p.args in
-    put_end a.out.now a.at a.t.now (omega arith) _ p.put_row.ensures
+    let a = c.args in
+    put_end a.out.now a.at a.t.now (omega arith) _ c.put_row.ensures

@@ -11,19 +11,17 @@ pub returns-then-t-eq0 : goal.returns-then-t-eq0
 returns-then-t-eq0 c = sym (signed_empty _ _ c.args.t.now c.if-t-eq0.true)
 
 pub below_zero-requires : goal.below_zero-requires
-below_zero-requires c κs n q = number_le _ n _ (sym c.read_number.ensures ∙ q)
+below_zero-requires c n q = number_le _ n _ (sym c.read_number.ensures ∙ q)
 
 pub returns-then-t-eq45 : goal.returns-then-t-eq45
 returns-then-t-eq45 c =
-    let n = c in
-    let t = n.args.t.now in
-    c.below_zero.ensures ∙ ap below_zero n.read_number.ensures ∙ rw (part_from_lem 1 t) (sym (signed_minus _ _ t (omega arith) n.if-t-eq45.true))
+    let t = c.args.t.now in
+    c.below_zero.ensures ∙ ap below_zero c.read_number.ensures ∙ rw (part_from_lem 1 t) (sym (signed_minus _ _ t (omega arith) c.if-t-eq45.true))
 
 pub above_zero-requires : goal.above_zero-requires
-above_zero-requires c κs n q = number_le _ n _ (sym c.read_number2.ensures ∙ q)
+above_zero-requires c n q = number_le _ n _ (sym c.read_number-2.ensures ∙ q)
 
 pub returns : goal.returns
 returns c =
-    let n = c in
-    let t = n.args.t.now in
-    c.above_zero.ensures ∙ ap above_zero n.read_number-2.ensures ∙ sym (signed_plain _ _ t (omega arith) n.if-t-eq45.false)
+    let t = c.args.t.now in
+    c.above_zero.ensures ∙ ap above_zero c.read_number-2.ensures ∙ sym (signed_plain _ _ t (omega arith) c.if-t-eq45.false)

@@ -1,5 +1,4 @@
 -- `text::same` meets its contract: as far as the bytes passed agree, the texts are the same where what is left is. Assumes nothing.
-use Prim.Native.Nat.{◌-◌}
 use mathlib.Core.Path.{refl, sym, ◌∙◌}
 use native.Mathlib.Omega.{arith}
 use Rattle.text.specs.TextLaws.{same_length, same_step_lem, same_other, same_end}
@@ -19,9 +18,8 @@ bounds-u-i c = omega arith
 
 pub returns-then-t-i : goal.returns-then-t-i
 returns-then-t-i c =
-    let u = c in
-    let a = u.args in
-    sym (u.loop-i.invariant.1 ∙ same_other a.t.now a.u.now u.loop-i.i (omega arith) (omega arith) c.if-t-i.true)
+    let a = c.args in
+    sym (c.loop-i.invariant.1 ∙ same_other a.t.now a.u.now c.loop-i.i (omega arith) (omega arith) c.if-t-i.true)
 
 pub overflow_add-i : goal.overflow_add-i
 overflow_add-i c = omega arith
@@ -31,12 +29,10 @@ loop-i-smaller c = omega arith
 
 pub loop-i-preserved : goal.loop-i-preserved
 loop-i-preserved c =
-    let u = c in
-    let a = u.args in
-    (omega arith, u.loop-i.invariant.1 ∙ same_step_lem a.t.now a.u.now u.loop-i.i (omega arith) (omega arith) c.if-t-i.false)
+    let a = c.args in
+    (omega arith, c.loop-i.invariant.1 ∙ same_step_lem a.t.now a.u.now c.loop-i.i (omega arith) (omega arith) c.if-t-i.false)
 
 pub returns : goal.returns
 returns c =
-    let u = c in
-    let a = u.args in
-    sym (u.loop-i.invariant.1 ∙ same_end a.t.now a.u.now u.loop-i.i (omega arith) (omega arith))
+    let a = c.args in
+    sym (c.loop-i.invariant.1 ∙ same_end a.t.now a.u.now c.loop-i.i (omega arith) (omega arith))

@@ -13,18 +13,15 @@ use Rattle.text.proofs.signed_count.Goals.{After-digit_count-digits}
 -- the digits counted are those of the size
 digits : (c : After-digit_count-digits) → c.digit_count-digits.result ≡ length (decimal (nat_abs c.args.z))
 digits c =
-    let s = c in
-    let e : c.type_size.result ≡ nat_abs s.args.z = c.type_size.ensures ∙ ap nat_abs (to_z-of_z w64 s.args.z s.ranges.z) in
+    let e : c.size_of.result ≡ nat_abs c.args.z = c.size_of.ensures ∙ ap nat_abs (to_z-of_z w64 c.args.z c.ranges.z) in
     rw e at c.digit_count-digits.ensures.count
 
 pub returns-then-z-ge0 : goal.returns-then-z-ge0
 returns-then-z-ge0 c =
-    let s = c in
-    let e = signed_above s.args.z (simp (to_z-of_z w64 s.args.z s.ranges.z) at c.if-z-ge0.true) in
+    let e = signed_above c.args.z (simp (to_z-of_z w64 c.args.z c.ranges.z) at c.if-z-ge0.true) in
     record { count = rw e (digits (goal.at.returns-then-z-ge0 c).After-digit_count-digits); most = omega (arith, c.digit_count-digits.ensures.most) }
 
 pub returns : goal.returns
 returns c =
-    let s = c in
-    let e = signed_below s.args.z (simp (to_z-of_z w64 s.args.z s.ranges.z) at c.if-z-ge0.false) in
+    let e = signed_below c.args.z (simp (to_z-of_z w64 c.args.z c.ranges.z) at c.if-z-ge0.false) in
     record { count = rw e (omega (arith, digits (goal.at.returns c).After-digit_count-digits)); most = omega (arith, c.digit_count-digits.ensures.most) }

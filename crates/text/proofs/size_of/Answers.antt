@@ -13,9 +13,8 @@ below c = minus_one_less c.args.z c.ranges.z c.if-z-ge0.false
 
 pub overflow_cast-result : goal.overflow_cast-result
 overflow_cast-result c =
-    let s = c in
-    let e = to_z-of_z w64 s.args.z s.ranges.z in
-    rw (e ∙ above_is s.args.z (simp e at c.if-z-ge0.true)) (tt, record { fits = omega (arith, nat_abs-le s.args.z s.ranges.z.sfits) })
+    let e = to_z-of_z w64 c.args.z c.ranges.z in
+    rw (e ∙ above_is c.args.z (simp e at c.if-z-ge0.true)) (tt, record { fits = omega (arith, nat_abs-le c.args.z c.ranges.z.sfits) })
 
 pub overflow_sub-result : goal.overflow_sub-result
 overflow_sub-result c = (below c).whole
@@ -27,4 +26,4 @@ pub overflow_add-result : goal.overflow_add-result
 overflow_add-result c = rw (below c).less (record { fits = omega (arith, (below c).most) })
 
 pub returns : goal.returns
-returns c = rw (below c).less (omega (arith, (below c).not-zero))
+returns c = rw (below c).less (omega (arith, (below c).not_zero))

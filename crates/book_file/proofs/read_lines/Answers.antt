@@ -1,0 +1,139 @@
+-- `book_file::read_lines` meets its contract: what the lines read so far leave, with the lines left, makes what all lines leave. Assumes nothing.
+use Prim.Native.Nat.{ℕ, suc, ◌+◌, ◌-◌, ◌<◌}
+use mathlib.Core.Path.{◌≡◌, refl, sym, ap, ◌∙◌}
+use mathlib.Core.List.{List}
+use mathlib.Core.Option.{Option, some, none}
+use native.Mathlib.Numerals.{add-one}
+use native.Mathlib.Omega.{arith}
+use borrow.Author.Tests.{eq-eqb, ne_eqb}
+use lib.Dec.{eqb}
+use lib.ListN.{length, take, drop, get_or, length-set}
+use Rattle.bits.specs.Basics.{pick}
+use Rattle.bits.specs.BasicsLaws.{part_from, length_part}
+use lib.Seq.{length-take-le}
+use Rattle.text.specs.Text.{fields_of}
+use Rattle.book_file.specs.BookFile.{Line, line_read, file_lines}
+use Rattle.book_file.specs.BookFileForms.{BookHeld, begun, line_told, scan_lines, scanned, kept}
+use Rattle.book_file.specs.BookFileFormsLaws.{LineFits, line_fits, file_end, file_open, file_bad, file_line, scan_step, kept_is}
+use Rattle.book_file.proofs.read_lines.Goals as goal
+use Rattle.book_file.proofs.read_lines.Goals.{In-Entry}
+
+-- the line that was read, which says something
+abbrev line : In-Entry → Line
+line d = record { entry = d.in-Entry.e; long = d.in-Entry.long; value = d.in-Entry.value }
+
+abbrev bytes : In-Entry → ℕ
+bytes d = d.find-n.result
+
+abbrev state : In-Entry → BookHeld
+state d = record { book = d.loop-at.book; met = d.loop-at.met; ordered = d.loop-at.ordered }
+
+told : (d : In-Entry) → line_read (fields_of (take (bytes d) (part_from d.loop-at.at d.args.file.now))) ≡ some (line d)
+told d = sym d.read_line.ensures ∙ ap line_told d.in-Entry.is
+
+fits : (d : In-Entry) → LineFits (line d)
+fits d = line_fits (fields_of (take (bytes d) (part_from d.loop-at.at d.args.file.now))) (line d) (told d)
+
+-- what the line's turn makes of the whole
+more : (d : In-Entry) →
+    scanned 0 (file_lines d.args.file.now) (begun d.args.book.now d.args.met.now)
+    ≡ pick (eqb (get_or d.loop-at.met d.in-Entry.e 0) 0)
+    (scanned (suc d.loop-at.next) (file_lines (drop (d.loop-at.at + (bytes d + 1)) d.args.file.now)) (kept d.loop-at.next (line d) (state d)))
+    none
+more d =
+    let u = d.loop-at in
+    let file : List ℕ = d.args.file.now in
+    let rest : bytes d < length (part_from u.at file) = omega (arith, d.if-n-rest.false, d.find-n.ensures.within) in
+    sym u.invariant.4
+    ∙ ap (λ (o : Option (List Line)). scanned u.next o (state d)) (file_line file u.at (bytes d) d.find-n.ensures.count rest (line d) (told d))
+    ∙ scan_step u.next (line d) (file_lines (drop (u.at + (bytes d + 1)) file)) (state d)
+
+pub loop-at-init : goal.loop-at-init
+loop-at-init c = (omega arith, omega arith, refl, refl, refl)
+
+pub slice_bounds-rest-count : goal.slice_bounds-rest-count
+slice_bounds-rest-count c = omega arith
+
+pub slice_bounds-rest-start : goal.slice_bounds-rest-start
+slice_bounds-rest-start c = omega arith
+
+pub slice_bounds-rest-end : goal.slice_bounds-rest-end
+slice_bounds-rest-end c = omega arith
+
+pub shape_of-book-then-n-rest : goal.shape_of-book-then-n-rest
+shape_of-book-then-n-rest c = c.loop-at.invariant.2
+
+pub shape_of-met-then-n-rest : goal.shape_of-met-then-n-rest
+shape_of-met-then-n-rest c = c.loop-at.invariant.3
+
+pub returns-then-n-rest : goal.returns-then-n-rest
+returns-then-n-rest c =
+    sym (sym c.loop-at.invariant.4 ∙ rw (file_open c.args.file.now c.loop-at.at c.find-n.result c.loop-at-test.true c.find-n.ensures.count (omega arith)))
+
+pub slice_bounds-read_line-end : goal.slice_bounds-read_line-end
+slice_bounds-read_line-end c = sym (length-take-le c.find-n.result _ c.find-n.ensures.within)
+
+pub shape_of-book-in_default : goal.shape_of-book-in_default
+shape_of-book-in_default c = c.loop-at.invariant.2
+
+pub shape_of-met-in_default : goal.shape_of-met-in_default
+shape_of-met-in_default c = c.loop-at.invariant.3
+
+pub returns-in_default : goal.returns-in_default
+returns-in_default c =
+    let rest : c.find-n.result < length (part_from c.loop-at.at c.args.file.now) = omega (arith, c.if-n-rest.false, c.find-n.ensures.within) in
+    sym (sym c.loop-at.invariant.4 ∙ rw (file_bad c.args.file.now c.loop-at.at c.find-n.result c.find-n.ensures.count rest (sym c.read_line.ensures ∙ ap line_told c.in_default.is)))
+
+pub bounds-met-e : goal.bounds-met-e
+bounds-met-e c = omega (arith, (fits (goal.at.bounds-met-e c).In-Entry).entry_below, c.loop-at.invariant.3, c.requires)
+
+pub shape_of-book-then-met-e-ne0 : goal.shape_of-book-then-met-e-ne0
+shape_of-book-then-met-e-ne0 c = c.loop-at.invariant.2
+
+pub shape_of-met-then-met-e-ne0 : goal.shape_of-met-then-met-e-ne0
+shape_of-met-then-met-e-ne0 c = c.loop-at.invariant.3
+
+pub returns-then-met-e-ne0 : goal.returns-then-met-e-ne0
+returns-then-met-e-ne0 c = sym (more (goal.at.returns-then-met-e-ne0 c).In-Entry ∙ rw (ne_eqb (get_or c.loop-at.met c.in-Entry.e 0) 0 c.if-met-e-ne0.true))
+
+pub bounds-met-e-in-loop-at : goal.bounds-met-e-in-loop-at
+bounds-met-e-in-loop-at c = omega (arith, (fits (goal.at.bounds-met-e-in-loop-at c).In-Entry).entry_below, c.loop-at.invariant.3, c.requires)
+
+pub put_entry-requires : goal.put_entry-requires
+put_entry-requires c =
+    let d = c in (omega (arith, (fits (goal.at.put_entry-requires c).In-Entry).entry_below, c.loop-at.invariant.2, c.requires), (fits (goal.at.put_entry-requires c).In-Entry).value_le)
+
+pub overflow_add-next : goal.overflow_add-next
+overflow_add-next c = omega arith
+
+pub overflow_add-at : goal.overflow_add-at
+overflow_add-at c = omega arith
+
+pub overflow_add-at-in-loop-at : goal.overflow_add-at-in-loop-at
+overflow_add-at-in-loop-at c = omega arith
+
+pub loop-at-smaller : goal.loop-at-smaller
+loop-at-smaller c = omega arith
+
+pub loop-at-preserved : goal.loop-at-preserved
+loop-at-preserved c =
+    let s = goal.at.loop-at-preserved c in
+    let rest : length (part_from c.loop-at.at c.args.file.now) ≡ length c.args.file.now - c.loop-at.at = omega (arith, length_part c.loop-at.at c.args.file.now) in
+    let same = kept_is c.loop-at.next (line s.In-Entry) (state s.In-Entry) c.put_entry.new.book c.both-ordered.result c.put_entry.ensures c.both-ordered.ensures in (
+      omega (arith, c.if-n-rest.false, c.find-n.ensures.within, rest, c.loop-at.invariant.0),
+      omega (arith, c.loop-at.invariant.1),
+      c.put_entry.auto.book ∙ c.loop-at.invariant.2,
+      simp length-set c.loop-at.invariant.3,
+      rw (add-one c.loop-at.next, same) (sym (more s.In-Entry ∙ rw (eq-eqb (get_or c.loop-at.met c.in-Entry.e 0) 0 c.if-met-e-ne0.false))),
+    )
+
+pub shape_of-book : goal.shape_of-book
+shape_of-book c = c.loop-at.invariant.2
+
+pub shape_of-met : goal.shape_of-met
+shape_of-met c = c.loop-at.invariant.3
+
+pub returns : goal.returns
+unfolding scan_lines
+returns c =
+    sym (sym c.loop-at.invariant.4 ∙ rw (file_end c.args.file.now c.loop-at.at (omega arith)))
