@@ -1,4 +1,5 @@
 -- Each slice has room for the macroblock's four places; x goes into one, y into the other.
+use native.Mathlib.Omega.{arith}
 use mir.ValLaws.{to_z-of_z}
 use mir.Syntax.{w32}
 use Rattle.mv_cache.specs.CacheNeedsLaws.{room_x, room_y}
@@ -21,14 +22,14 @@ pub returns : goal.returns
 returns c =
     let s = c in
     let a = s.args in
-    let xa = to_z-of_z w32 a.a.x (record { sfits = c.struct_told-1.given.0.1 }) in
-    let xb = to_z-of_z w32 a.b.x (record { sfits = c.struct_told-2-1.given.0.1 }) in
-    let xc = to_z-of_z w32 a.c.x (record { sfits = c.struct_told-3-1.given.0.1 }) in
-    let xd = to_z-of_z w32 a.d.x (record { sfits = c.struct_told-4-1.given.0.1 }) in
-    let ya = to_z-of_z w32 a.a.y (record { sfits = c.struct_told-5-1.given.1.0.1 }) in
-    let yb = to_z-of_z w32 a.b.y (record { sfits = c.struct_told-6-1.given.1.0.1 }) in
-    let yc = to_z-of_z w32 a.c.y (record { sfits = c.struct_told-7-1.given.1.0.1 }) in
-    let yd = to_z-of_z w32 a.d.y (record { sfits = c.struct_told-8-1.given.1.0.1 }) in
+    let xa = to_z-of_z w32 a.a.x (record { sfits = omega arith }) in
+    let xb = to_z-of_z w32 a.b.x (record { sfits = omega arith }) in
+    let xc = to_z-of_z w32 a.c.x (record { sfits = omega arith }) in
+    let xd = to_z-of_z w32 a.d.x (record { sfits = omega arith }) in
+    let ya = to_z-of_z w32 a.a.y (record { sfits = omega arith }) in
+    let yb = to_z-of_z w32 a.b.y (record { sfits = omega arith }) in
+    let yc = to_z-of_z w32 a.c.y (record { sfits = omega arith }) in
+    let yd = to_z-of_z w32 a.d.y (record { sfits = omega arith }) in
     record {
       x_put = simp (xa, xb, xc, xd) at c.store_components.ensures;
       y_put = simp (ya, yb, yc, yd) at c.store_components-2.ensures;

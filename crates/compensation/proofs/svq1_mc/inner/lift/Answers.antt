@@ -6,14 +6,13 @@ use mir.Syntax.{w32, w64}
 use lib.IntN.{pos, ◌+ℤ◌}
 use Rattle.compensation.specs.MovedFormsLaws.{lift_of, lifted, lift_sum}
 use native.Mathlib.Omega.{arith}
-use Rattle.compensation.proofs.svq1_mc.inner.lift.Statement.{statement}
-use Rattle.compensation.proofs.svq1_mc.inner.lift.Tie as tie
+use Rattle.compensation.proofs.svq1_mc.inner.lift.Goals as goal
 
-cast-result : tie.Need-overflow-cast-result
-cast-result c = rw (to_z-of_z w32 c.args.z c.ranges.z) (record { sfits = omega (arith, c.ranges.z.sfits) })
+pub overflow_cast-result : goal.overflow_cast-result
+overflow_cast-result c = rw (to_z-of_z w32 c.args.z c.ranges.z) (record { sfits = omega (arith, c.ranges.z.sfits) })
 
-add-result : tie.Need-overflow-add-result
-add-result c =
+pub overflow_add-result : goal.overflow_add-result
+overflow_add-result c =
     let z = c.args.z in
     let e = to_z-of_z w32 z c.ranges.z in
     let w : SFits w64 z = record { sfits = omega (arith, c.ranges.z.sfits) } in
@@ -22,8 +21,8 @@ add-result c =
     let s = lift_sum z c.ranges.z.sfits in
     simp (e, f, s) (record { sfits = omega (arith, m.most) })
 
-cast-result-2 : tie.Need-overflow-cast-result-2
-cast-result-2 c =
+pub overflow_cast-result-2 : goal.overflow_cast-result-2
+overflow_cast-result-2 c =
     let z = c.args.z in
     let e = to_z-of_z w32 z c.ranges.z in
     let w : SFits w64 z = record { sfits = omega (arith, c.ranges.z.sfits) } in
@@ -33,7 +32,7 @@ cast-result-2 c =
     let k : to_z w64 (of_z w64 (to_z w64 (of_z w64 (to_z w32 (of_z w32 z))) +ℤ pos 4294967296)) ≡ pos (lift_of z) = simp (e, f, s) (to_z-of_z w64 (pos (lift_of z)) (record { sfits = omega (arith, m.most) })) in
     rw k (tt, record { fits = omega (arith, m.most) })
 
-returns : tie.Need-returns
+pub returns : goal.returns
 returns c =
     let z = c.args.z in
     let e = to_z-of_z w32 z c.ranges.z in
@@ -43,6 +42,3 @@ returns c =
     let s = lift_sum z c.ranges.z.sfits in
     let k : to_z w64 (of_z w64 (to_z w64 (of_z w64 (to_z w32 (of_z w32 z))) +ℤ pos 4294967296)) ≡ pos (lift_of z) = simp (e, f, s) (to_z-of_z w64 (pos (lift_of z)) (record { sfits = omega (arith, m.most) })) in
     rw k m
-
-pub lift-spec : {M : Type 1} → statement M
-lift-spec = tie.close (tie.spec cast-result add-result cast-result-2 returns)
