@@ -6,19 +6,18 @@ use mir.Syntax.{w32}
 use lib.IntN.{pos, ◌+ℤ◌}
 use Rattle.motion.specs.SearchCallLaws.{raised_of, raised_is, raised-sum}
 use native.Mathlib.Omega.{arith}
-use Rattle.motion.proofs.svq1_enc_inter.raise.Statement.{statement}
-use Rattle.motion.proofs.svq1_enc_inter.raise.Tie as tie
+use Rattle.motion.proofs.svq1_enc_inter.raise.Goals as goal
 
-add-result : tie.Need-overflow-add-result
-add-result c =
+pub overflow_add-result : goal.overflow_add-result
+overflow_add-result c =
     let z = c.args.z in
     let e = to_z-of_z w32 z c.ranges.z in
     let m = raised_is z c.requires in
     let s = raised-sum z c.requires in
     simp (e, s) (record { sfits = omega arith })
 
-cast-result : tie.Need-overflow-cast-result
-cast-result c =
+pub overflow_cast-result : goal.overflow_cast-result
+overflow_cast-result c =
     let z = c.args.z in
     let e = to_z-of_z w32 z c.ranges.z in
     let m = raised_is z c.requires in
@@ -26,7 +25,7 @@ cast-result c =
     let k : to_z w32 (of_z w32 (to_z w32 (of_z w32 z) +ℤ pos 1024)) ≡ pos (raised_of z) = simp (e, s) (to_z-of_z w32 (pos (raised_of z)) (record { sfits = omega arith })) in
     rw k (tt, omega arith)
 
-returns : tie.Need-returns
+pub returns : goal.returns
 returns c =
     let z = c.args.z in
     let e = to_z-of_z w32 z c.ranges.z in
@@ -34,6 +33,3 @@ returns c =
     let s = raised-sum z c.requires in
     let k : to_z w32 (of_z w32 (to_z w32 (of_z w32 z) +ℤ pos 1024)) ≡ pos (raised_of z) = simp (e, s) (to_z-of_z w32 (pos (raised_of z)) (record { sfits = omega arith })) in
     rw k m
-
-pub raise-spec : {M : Type 1} → statement M
-raise-spec = tie.close (tie.spec add-result cast-result returns)

@@ -7,28 +7,20 @@ use mir.Syntax.{w32}
 use lib.IntN.{pos, ◌-ℤ◌}
 use Rattle.motion.specs.CandidateForms.{lowered}
 use Rattle.vectors.specs.ClipLaws.{sub_mag}
-use borrow.Author.Rules.{rules}
-use Rattle.motion.proofs.svq1_enc_inter.lower.Statement.{statement}
-use Rattle.motion.proofs.svq1_enc_inter.lower.Tie as tie
+use Rattle.motion.proofs.svq1_enc_inter.lower.Goals as goal
 
-cast-result : tie.Need-overflow-cast-result
-cast-result c = search rules
-
-sub-result : tie.Need-overflow-sub-result
-sub-result c =
+pub overflow_sub-result : goal.overflow_sub-result
+overflow_sub-result c =
     let u = c.args.u in
     let e = to_z-of_z w32 (pos u) (record { sfits = omega arith }) in
     let k : to_z w32 u -ℤ pos 1024 ≡ lowered u = rw e refl in
     let f : SFits w32 (lowered u) = record { sfits = omega (arith, sub_mag u 1024) } in
     rw k f
 
-returns : tie.Need-returns
+pub returns : goal.returns
 returns c =
     let u = c.args.u in
     let e = to_z-of_z w32 (pos u) (record { sfits = omega arith }) in
     let k : to_z w32 u -ℤ pos 1024 ≡ lowered u = rw e refl in
     let f : SFits w32 (lowered u) = record { sfits = omega (arith, sub_mag u 1024) } in
     rw k (to_z-of_z w32 (lowered u) f)
-
-pub lower_spec : {M : Type 1} → statement M
-lower_spec = tie.close (tie.spec cast-result sub-result returns)
