@@ -12,7 +12,7 @@ pub const MB_DIM: usize = 16;
 pub const LARGEST_SIDE: usize = 1024;
 
 // A plane's size, and that of its canvas: the size rounded up to whole macroblocks. Its samples are lent beside it.
-#[derive(Drop)]
+#[derive(Clone, Copy)]
 pub struct Svq1PlaneCanvas {
     pub width: usize,
     pub height: usize,

@@ -1,2 +1,4 @@
 // The motion search.
+#![tactic(auto)]
+
 pub mod svq1_enc_inter;

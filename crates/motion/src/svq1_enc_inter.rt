@@ -16,14 +16,14 @@ use compensation::svq1_enc_inter::inner::VectorSum;
 use vectors::svq1_motion_predictor::Svq1Mv;
 
 // What a search answers: the vector, or the number of the refusal.
-#[derive(Drop)]
+#[derive(Clone, Copy)]
 pub enum Searched {
     Vector(Svq1Mv),
     Refused(u8),
 }
 
 // What summing one vector answers: its sum and the rows taken, or the number of the refusal.
-#[derive(Drop)]
+#[derive(Clone, Copy)]
 pub enum SummedVector {
     Sum(VectorSum),
     Refused(u8),
@@ -84,7 +84,7 @@ fn search_refusal(
     predictor: Svq1Mv,
     radius: u8,
 ) -> u8
-    ensures { result ≡ search_refusal (record { reference = record { samples = reference.entry.now; stride = stride; rows = rows }; width = width; height = height; target = target.now; side = side; x = x; y = y; predictor = predictor; radius = radius }) }
+    ensures { result ≡ search_refusal (record { reference = record { samples = reference.now; stride = stride; rows = rows }; width = width; height = height; target = target.now; side = side; x = x; y = y; predictor = predictor; radius = radius }) }
 {
     let n = plane_refusal(reference, width, height, stride, rows);
     if n != 0 {
@@ -140,7 +140,7 @@ pub fn search_motion_vector(
     predictor: Svq1Mv,
     radius: u8,
 ) -> Searched
-    ensures { searched_answer result ≡ search_answer (record { reference = record { samples = reference.entry.now; stride = stride; rows = rows }; width = width; height = height; target = target.now; side = side; x = x; y = y; predictor = predictor; radius = radius }) }
+    ensures { searched_answer result ≡ search_answer (record { reference = record { samples = reference.now; stride = stride; rows = rows }; width = width; height = height; target = target.now; side = side; x = x; y = y; predictor = predictor; radius = radius }) }
 {
     let n = search_refusal(
         reference, width, height, stride, rows, target, side, x, y, predictor, radius,
@@ -201,7 +201,7 @@ pub fn sum_motion_vector(
     v: Svq1Mv,
     best: u64,
 ) -> SummedVector
-    ensures { summed_answer result ≡ sum_answer (record { reference = record { samples = reference.entry.now; stride = stride; rows = rows }; width = width; height = height; target = target.now; side = side; x = x; y = y; predictor = predictor; radius = 0 }) v (best_or_none best) }
+    ensures { summed_answer result ≡ sum_answer (record { reference = record { samples = reference.now; stride = stride; rows = rows }; width = width; height = height; target = target.now; side = side; x = x; y = y; predictor = predictor; radius = 0 }) v (best_or_none best) }
 {
     let n = search_refusal(
         reference, width, height, stride, rows, target, side, x, y, predictor, 0,

@@ -9,7 +9,7 @@ use vectors::svq1_motion_predictor::{Neighbour, Svq1Mv, predict};
 
 // The seven neighbours outside a macroblock that predictions use: left of its upper and its lower blocks; two 8x8 rows above it,
 // over its first column and to its right; one row above it, over its first, its second and the column to its right.
-#[derive(Drop)]
+#[derive(Clone, Copy)]
 pub struct NearBlocks {
     pub left: Neighbour,
     pub low_left: Neighbour,

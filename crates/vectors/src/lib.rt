@@ -1,2 +1,4 @@
 // Motion vectors and their predictor.
+#![tactic(auto)]
+
 pub mod svq1_motion_predictor;

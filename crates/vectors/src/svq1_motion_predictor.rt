@@ -5,7 +5,7 @@ ghost use Rattle.std.specs.Prelude.{◌≡◌, ◌+ℤ◌};
 ghost use Rattle.vectors.specs.Vectors.{zero_mv, min_z, max_z, median, median_mv, predicted, clipped, final_mv};
 
 // A motion vector, in half samples.
-#[derive(Drop)]
+#[derive(Clone, Copy)]
 pub struct Svq1Mv {
     pub x: i32,
     pub y: i32,
@@ -22,7 +22,7 @@ impl Svq1Mv {
 }
 
 // A neighbouring block's vector; off the plane there is none.
-#[derive(Drop)]
+#[derive(Clone, Copy)]
 pub enum Neighbour {
     Absent,
     Present(Svq1Mv),

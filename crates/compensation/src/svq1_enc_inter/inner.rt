@@ -5,7 +5,7 @@ ghost use Rattle.compensation.specs.Compensation.{mean2 as meanOf2, mean4 as mea
 ghost use Rattle.compensation.specs.RowForms.{against, against_two, against_four, cells, ReadIn, Summed};
 
 // What summing a vector's absolute error against the best found so far answers: the sum of the rows taken, and their number.
-#[derive(Drop)]
+#[derive(Clone, Copy)]
 pub struct VectorSum {
     pub sum: u64,
     pub rows: usize,

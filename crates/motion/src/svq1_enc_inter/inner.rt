@@ -8,7 +8,7 @@ ghost use Rattle.motion.specs.CandidateForms.{raised_end, spot_search, MotionRea
 use compensation::svq1_enc_inter::inner::{VectorSum, block_sum, sum_full};
 
 // A block's place, the visible size, the canvas, the block's side, the predicted vector, raised by 1024, and the radius.
-#[derive(Drop)]
+#[derive(Clone, Copy)]
 pub struct Spot {
     pub x: usize,
     pub y: usize,
@@ -24,7 +24,7 @@ pub struct Spot {
 
 // The best vector so far, raised by 1024, and its absolute error. An error of 65536 or more, which no block's is, stands for none, with the
 // vector at zero: the half-sample neighbours are then those of zero.
-#[derive(Drop)]
+#[derive(Clone, Copy)]
 pub struct Candidate {
     pub ux: usize,
     pub uy: usize,
@@ -32,7 +32,7 @@ pub struct Candidate {
 }
 
 // The full-sample candidates of an axis that can be codable.
-#[derive(Drop)]
+#[derive(Clone, Copy)]
 pub struct Span {
     pub from: usize,
     pub to: usize,
