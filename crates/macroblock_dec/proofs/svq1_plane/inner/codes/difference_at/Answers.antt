@@ -7,28 +7,20 @@ use mir.Syntax.{w32}
 use lib.IntN.{pos, ◌-ℤ◌}
 use Rattle.vectors.specs.Vectors.{difference_at}
 use Rattle.vectors.specs.ClipLaws.{sub_mag}
-use borrow.Author.Rules.{rules}
-use Rattle.macroblock_dec.proofs.svq1_plane.inner.codes.difference_at.Statement.{statement}
-use Rattle.macroblock_dec.proofs.svq1_plane.inner.codes.difference_at.Tie as tie
+use Rattle.macroblock_dec.proofs.svq1_plane.inner.codes.difference_at.Goals as goal
 
-cast-result : tie.Need-overflow-cast-result
-cast-result c = search rules
-
-sub-result : tie.Need-overflow-sub-result
-sub-result c =
+pub overflow_sub-result : goal.overflow_sub-result
+overflow_sub-result c =
     let k = c.args.k in
     let e = to_z-of_z w32 (pos k) (record { sfits = omega arith }) in
     let d : to_z w32 k -ℤ pos 32 ≡ difference_at k = rw e refl in
     let f : SFits w32 (difference_at k) = record { sfits = omega (arith, sub_mag k 32) } in
     rw d f
 
-returns : tie.Need-returns
+pub returns : goal.returns
 returns c =
     let k = c.args.k in
     let e = to_z-of_z w32 (pos k) (record { sfits = omega arith }) in
     let d : to_z w32 k -ℤ pos 32 ≡ difference_at k = rw e refl in
     let f : SFits w32 (difference_at k) = record { sfits = omega (arith, sub_mag k 32) } in
     rw d (to_z-of_z w32 (difference_at k) f)
-
-pub difference-at-spec : {M : Type 1} → statement M
-difference-at-spec = tie.close (tie.spec cast-result sub-result returns)
