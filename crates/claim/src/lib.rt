@@ -1,4 +1,6 @@
 // A plane written and read back: what is claimed of a whole plane, tied to memory.
+#![tactic(auto)]
+
 ghost use Rattle.macroblock_choice.specs.ChosenNeeds.{task_by};
 ghost use Rattle.macroblock.specs.MacroblockNeeds.{given_by};
 ghost use Rattle.plane_dec.specs.ReaderNeeds as reader;
