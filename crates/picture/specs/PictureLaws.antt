@@ -8,7 +8,6 @@ use Rattle.std.proofs.Math.Dec.{eqb}
 use borrow.Author.Tests.{eq-eqb, ne_eqb, eqb-true, leb-true, le-leb}
 use Rattle.bits.specs.Basics.{pick, or_else}
 use Rattle.bits.specs.Bits.{bits_of}
-use Rattle.bits.specs.BitsLaws.{length_bits_of}
 use Rattle.macroblock.specs.Macroblock.{Given}
 use Rattle.macroblock.specs.Limit.{can_skip_rest}
 use Rattle.macroblock.specs.Choice.{Task}

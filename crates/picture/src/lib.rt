@@ -1,4 +1,6 @@
 // A picture of three planes inside one allowance of bits: its rules, what writing one answers, and its refusals.
+#![tactic(auto)]
+
 pub mod inner;
 
 use plane_enc::svq1_enc_inter::WriteEnd;
