@@ -14,6 +14,7 @@ pub enum Svq1Half {
 
 impl Svq1Level {
     // The level's eight entries of a family of 48; nothing of a slice that is no family.
+    #[tactic(auto, using(crate::specs::LevelLaws::family_part_none))]
     pub fn family_part(self, family: &[u8]) -> &[u8]
         ensures { result.now ≡ family_part (level_number self) family.now }
     {

@@ -1,4 +1,6 @@
 // The boundary for a C host: the plane calls, the picture call, the error that the panel shows, the room that suffices, book files and the built-in tables. include/cabunlis.h says the same in C.
+#![tactic(auto)]
+
 pub mod books;
 pub mod errors;
 pub mod pictures;

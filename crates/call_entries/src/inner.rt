@@ -9,7 +9,7 @@ use leaf::svq1_enc_leaf::LeafCode;
 
 // A block: 0 not reached, 1 split, 2 skip, 3 coded with its mean and as many stage indices as `count` says; zeros for the rest.
 #[repr(C)]
-#[derive(Drop)]
+#[derive(Clone, Copy)]
 pub struct NodePart {
     pub mean: i16,
     pub kind: u8,

@@ -52,7 +52,7 @@ pub extern "C" fn parts_sum_motion_vector(
     vy: i32,
     best: u64,
 ) -> SumPart
-    ensures { result ≡ sum_part (sum_answer (record { reference = record { samples = reference.entry.now; stride = stride; rows = rows }; width = width; height = height; target = target.now; side = side; x = x; y = y; predictor = record { x = px; y = py }; radius = 0 }) (record { x = vx; y = vy }) (best_or_none best)) }
+    ensures { result ≡ sum_part (sum_answer (record { reference = record { samples = reference.now; stride = stride; rows = rows }; width = width; height = height; target = target.now; side = side; x = x; y = y; predictor = record { x = px; y = py }; radius = 0 }) (record { x = vx; y = vy }) (best_or_none best)) }
 {
     let predictor = Svq1Mv { x: px, y: py };
     let v = Svq1Mv { x: vx, y: vy };

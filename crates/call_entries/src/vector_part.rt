@@ -49,7 +49,7 @@ pub extern "C" fn parts_search_motion_vector(
     py: i32,
     radius: u8,
 ) -> VectorPart
-    ensures { result ≡ vector_part (search_answer (record { reference = record { samples = reference.entry.now; stride = stride; rows = rows }; width = width; height = height; target = target.now; side = side; x = x; y = y; predictor = record { x = px; y = py }; radius = radius })) }
+    ensures { result ≡ vector_part (search_answer (record { reference = record { samples = reference.now; stride = stride; rows = rows }; width = width; height = height; target = target.now; side = side; x = x; y = y; predictor = record { x = px; y = py }; radius = radius })) }
 {
     let predictor = Svq1Mv { x: px, y: py };
     part_of(search_motion_vector(

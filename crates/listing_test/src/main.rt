@@ -1,9 +1,11 @@
 // Prints what the listing program prints for jobs and files of all kinds: for each case its name and the text. Where a case says nothing else, the files are those of
 // the first bench card.
+#![tactic(auto)]
+
 ghost use Rattle.std.specs.Prelude.{◌≤◌, length};
 
-use libc::STDOUT_FILENO;
 use listing_text::listing::listing;
+use std::io;
 
 // The bytes of s from a to e; none where there are not so many.
 fn part(s: &[u8], a: usize, e: usize) -> &[u8] {
@@ -17,17 +19,40 @@ fn part(s: &[u8], a: usize, e: usize) -> &[u8] {
 }
 
 // ---- cases
-fn show(name: &[u8], book: &[u8], codebook: &[u8], source: &[u8], reference: &[u8], job: &[u8]) {
+fn show(
+    rt: &impl Print,
+    name: &[u8],
+    book: &[u8],
+    codebook: &[u8],
+    source: &[u8],
+    reference: &[u8],
+    job: &[u8],
+) -> io::Result<()> {
     let mut text = [0u8; 16384];
     let n = listing(book, codebook, source, reference, job, &mut text);
-    io::write_all(STDOUT_FILENO, name);
-    io::write_all(STDOUT_FILENO, b": ");
-    io::write_all(STDOUT_FILENO, &text[..n]);
+    rt.write_all(name)?;
+    rt.write_all(b": ")?;
+    rt.write_all(&text[..n])
 }
 
 // The job of the first card.
-fn card(name: &[u8], book: &[u8], codebook: &[u8], source: &[u8], reference: &[u8]) {
-    show(name, book, codebook, source, reference, b"16,16,32,8,1,0\n");
+fn card(
+    rt: &impl Print,
+    name: &[u8],
+    book: &[u8],
+    codebook: &[u8],
+    source: &[u8],
+    reference: &[u8],
+) -> io::Result<()> {
+    show(
+        rt,
+        name,
+        book,
+        codebook,
+        source,
+        reference,
+        b"16,16,32,8,1,0\n",
+    )
 }
 
 // The place of the next b from `at` on, or the end.
@@ -47,28 +72,37 @@ fn bar(s: &[u8], at: usize) -> usize
 }
 
 // Job files: each case is a name and the bytes, with a bar behind each.
-fn jobs(cases: &[u8], book: &[u8], codebook: &[u8], source: &[u8], reference: &[u8]) {
+fn jobs(
+    rt: &impl Print,
+    cases: &[u8],
+    book: &[u8],
+    codebook: &[u8],
+    source: &[u8],
+    reference: &[u8],
+) -> io::Result<()> {
     let mut at = 0;
     while at < cases.len() {
         let named = bar(cases, at);
         if named == cases.len() {
-            return;
+            return Ok(());
         }
         let from = named + 1;
         let to = bar(cases, from);
         if to == cases.len() {
-            return;
+            return Ok(());
         }
         show(
+            rt,
             part(cases, at, named),
             book,
             codebook,
             source,
             reference,
             part(cases, from, to),
-        );
+        )?;
         at = to + 1;
     }
+    Ok(())
 }
 
 // Where line k of a file begins; the end where there is none.
@@ -87,7 +121,7 @@ fn line(file: &[u8], k: usize) -> usize {
 }
 
 // Lines that are taken out of the house book's file: a up to b, and c up to d, b and d themselves staying.
-#[derive(Drop)]
+#[derive(Clone, Copy)]
 struct Gaps {
     a: usize,
     b: usize,
@@ -108,6 +142,7 @@ fn fill(made: &mut [u8], house: &[u8], gaps: Gaps, x: &[u8], y: &[u8]) -> usize 
 
 // The first card under that file.
 fn filled(
+    rt: &impl Print,
     name: &[u8],
     house: &[u8],
     gaps: Gaps,
@@ -116,31 +151,40 @@ fn filled(
     codebook: &[u8],
     source: &[u8],
     reference: &[u8],
-) {
+) -> io::Result<()> {
     let mut made = [0u8; 24576];
     let n = fill(&mut made, house, gaps, x, y);
-    card(name, part(&made, 0, n), codebook, source, reference);
+    card(rt, name, part(&made, 0, n), codebook, source, reference)
 }
 
 // Book files: each case is a name and the bytes that stand in the two gaps, with a bar behind each.
-fn books(cases: &[u8], house: &[u8], gaps: Gaps, codebook: &[u8], source: &[u8], reference: &[u8]) {
+fn books(
+    rt: &impl Print,
+    cases: &[u8],
+    house: &[u8],
+    gaps: Gaps,
+    codebook: &[u8],
+    source: &[u8],
+    reference: &[u8],
+) -> io::Result<()> {
     let mut at = 0;
     while at < cases.len() {
         let named = bar(cases, at);
         if named == cases.len() {
-            return;
+            return Ok(());
         }
         let x = named + 1;
         let x_end = bar(cases, x);
         if x_end == cases.len() {
-            return;
+            return Ok(());
         }
         let y = x_end + 1;
         let y_end = bar(cases, y);
         if y_end == cases.len() {
-            return;
+            return Ok(());
         }
         filled(
+            rt,
             part(cases, at, named),
             house,
             gaps,
@@ -149,30 +193,44 @@ fn books(cases: &[u8], house: &[u8], gaps: Gaps, codebook: &[u8], source: &[u8],
             codebook,
             source,
             reference,
-        );
+        )?;
         at = y_end + 1;
     }
+    Ok(())
 }
 
 // Files of another length. Codebook, source and reference are a byte too long.
-fn lengths(book: &[u8], codebook: &[u8], source: &[u8], reference: &[u8]) {
+fn lengths(
+    rt: &impl Print,
+    book: &[u8],
+    codebook: &[u8],
+    source: &[u8],
+    reference: &[u8],
+) -> io::Result<()> {
     let c = part(codebook, 0, 23040);
     let s = part(source, 0, 256);
     let r = part(reference, 0, 256);
-    card(b"source too short", book, c, part(s, 0, 255), r);
-    card(b"source too long", book, c, source, r);
-    card(b"reference too short", book, c, s, part(r, 0, 255));
-    card(b"reference too long", book, c, s, reference);
-    card(b"codebook too short", book, part(c, 0, 23039), s, r);
-    card(b"codebook too long", book, codebook, s, r);
-    show(b"1 and 2", book, c, b"", r, b"16,16,32,8,2,0\n");
-    card(b"2 and 4", book, c, b"", b"");
-    card(b"4 and 5", book, b"", s, b"");
-    card(b"no file but the job", b"", b"", b"", b"");
+    card(rt, b"source too short", book, c, part(s, 0, 255), r)?;
+    card(rt, b"source too long", book, c, source, r)?;
+    card(rt, b"reference too short", book, c, s, part(r, 0, 255))?;
+    card(rt, b"reference too long", book, c, s, reference)?;
+    card(rt, b"codebook too short", book, part(c, 0, 23039), s, r)?;
+    card(rt, b"codebook too long", book, codebook, s, r)?;
+    show(rt, b"1 and 2", book, c, b"", r, b"16,16,32,8,2,0\n")?;
+    card(rt, b"2 and 4", book, c, b"", b"")?;
+    card(rt, b"4 and 5", book, b"", s, b"")?;
+    card(rt, b"no file but the job", b"", b"", b"", b"")
 }
 
-fn job_cases(book: &[u8], codebook: &[u8], source: &[u8], reference: &[u8]) {
+fn job_cases(
+    rt: &impl Print,
+    book: &[u8],
+    codebook: &[u8],
+    source: &[u8],
+    reference: &[u8],
+) -> io::Result<()> {
     jobs(
+        rt,
         b"first card|16,16,32,8,1,0\n|\
         no job||\
         no line feed|16,16,32,8,1,0|\
@@ -215,11 +273,17 @@ fn job_cases(book: &[u8], codebook: &[u8], source: &[u8], reference: &[u8]) {
         codebook,
         source,
         reference,
-    );
+    )
 }
 
 // The first line, `mode,0,3,2`, in its place or behind the last one.
-fn first_line(house: &[u8], codebook: &[u8], source: &[u8], reference: &[u8]) {
+fn first_line(
+    rt: &impl Print,
+    house: &[u8],
+    codebook: &[u8],
+    source: &[u8],
+    reference: &[u8],
+) -> io::Result<()> {
     let gaps = Gaps {
         a: 0,
         b: 1,
@@ -227,6 +291,7 @@ fn first_line(house: &[u8], codebook: &[u8], source: &[u8], reference: &[u8]) {
         d: 932,
     };
     books(
+        rt,
         b"line in its place|mode,0,3,2\n||\
         line moved||mode,0,3,2\n|\
         line missing|||\
@@ -266,8 +331,9 @@ fn first_line(house: &[u8], codebook: &[u8], source: &[u8], reference: &[u8]) {
         codebook,
         source,
         reference,
-    );
+    )?;
     books(
+        rt,
         b"5 of the codebook and 6|mode,0,33,2\n||\
         5 of the codebook and 30||mode,0,3,2\n|",
         house,
@@ -275,19 +341,26 @@ fn first_line(house: &[u8], codebook: &[u8], source: &[u8], reference: &[u8]) {
         b"",
         source,
         reference,
-    );
+    )?;
     books(
+        rt,
         b"4 and 30||mode,0,3,2\n|",
         house,
         gaps,
         codebook,
         source,
         b"",
-    );
+    )
 }
 
 // The first two lines.
-fn first_lines(house: &[u8], codebook: &[u8], source: &[u8], reference: &[u8]) {
+fn first_lines(
+    rt: &impl Print,
+    house: &[u8],
+    codebook: &[u8],
+    source: &[u8],
+    reference: &[u8],
+) -> io::Result<()> {
     let gaps = Gaps {
         a: 0,
         b: 2,
@@ -295,6 +368,7 @@ fn first_lines(house: &[u8], codebook: &[u8], source: &[u8], reference: &[u8]) {
         d: 932,
     };
     books(
+        rt,
         b"first two lines change places|mode,1,3,3\nmode,0,3,2\n||\
         moved and a line missing||mode,1,3,3\n|\
         one line doubled, one missing|mode,1,3,3\nmode,1,3,3\n||\
@@ -305,11 +379,17 @@ fn first_lines(house: &[u8], codebook: &[u8], source: &[u8], reference: &[u8]) {
         codebook,
         source,
         reference,
-    );
+    )
 }
 
 // Two lines of the middle, `intermean,176,15,161` and `intermean,177,15,159`.
-fn middle_lines(house: &[u8], codebook: &[u8], source: &[u8], reference: &[u8]) {
+fn middle_lines(
+    rt: &impl Print,
+    house: &[u8],
+    codebook: &[u8],
+    source: &[u8],
+    reference: &[u8],
+) -> io::Result<()> {
     let gaps = Gaps {
         a: 500,
         b: 502,
@@ -317,6 +397,7 @@ fn middle_lines(house: &[u8], codebook: &[u8], source: &[u8], reference: &[u8]) 
         d: 932,
     };
     books(
+        rt,
         b"middle lines change places|intermean,177,15,159\nintermean,176,15,161\n||\
         middle line moved to the end|intermean,177,15,159\n|intermean,176,15,161\n|\
         middle line missing, another moved||intermean,176,15,161\n|\
@@ -327,7 +408,7 @@ fn middle_lines(house: &[u8], codebook: &[u8], source: &[u8], reference: &[u8]) 
         codebook,
         source,
         reference,
-    );
+    )?;
     let ahead = Gaps {
         a: 0,
         b: 0,
@@ -335,17 +416,24 @@ fn middle_lines(house: &[u8], codebook: &[u8], source: &[u8], reference: &[u8]) 
         d: 501,
     };
     books(
+        rt,
         b"middle line moved to the front|intermean,176,15,161\n||",
         house,
         ahead,
         codebook,
         source,
         reference,
-    );
+    )
 }
 
 // The last line, `interstage,47,7,8`, in its place or before the first one; the last two.
-fn last_lines(house: &[u8], codebook: &[u8], source: &[u8], reference: &[u8]) {
+fn last_lines(
+    rt: &impl Print,
+    house: &[u8],
+    codebook: &[u8],
+    source: &[u8],
+    reference: &[u8],
+) -> io::Result<()> {
     let gaps = Gaps {
         a: 0,
         b: 0,
@@ -353,6 +441,7 @@ fn last_lines(house: &[u8], codebook: &[u8], source: &[u8], reference: &[u8]) {
         d: 932,
     };
     books(
+        rt,
         b"last line moved to the front|interstage,47,7,8\n||\
         last line missing|||\
         last line not ended||interstage,47,7,8|\
@@ -366,7 +455,7 @@ fn last_lines(house: &[u8], codebook: &[u8], source: &[u8], reference: &[u8]) {
         codebook,
         source,
         reference,
-    );
+    )?;
     let both = Gaps {
         a: 0,
         b: 0,
@@ -374,66 +463,79 @@ fn last_lines(house: &[u8], codebook: &[u8], source: &[u8], reference: &[u8]) {
         d: 932,
     };
     books(
+        rt,
         b"last two lines change places||interstage,47,7,8\ninterstage,46,5,7\n|",
         house,
         both,
         codebook,
         source,
         reference,
-    );
+    )
 }
 
 // Planes of which a part of the last macroblocks lies beyond the picture, all samples 100 over a reference of 0. At the largest lambda every macroblock is skipped,
 // so its error is 10,000 for each sample that it shows.
-fn cut_planes(book: &[u8], codebook: &[u8], source: &[u8], reference: &[u8]) {
+fn cut_planes(
+    rt: &impl Print,
+    book: &[u8],
+    codebook: &[u8],
+    source: &[u8],
+    reference: &[u8],
+) -> io::Result<()> {
     show(
+        rt,
         b"1 by 1",
         book,
         codebook,
         part(source, 0, 1),
         part(reference, 0, 256),
         b"1,1,18446744073709551615,8,1,0\n",
-    );
+    )?;
     show(
+        rt,
         b"17 by 16",
         book,
         codebook,
         part(source, 0, 272),
         part(reference, 0, 512),
         b"17,16,18446744073709551615,8,1,0\n",
-    );
+    )?;
     show(
+        rt,
         b"16 by 17",
         book,
         codebook,
         part(source, 0, 272),
         part(reference, 0, 512),
         b"16,17,18446744073709551615,8,1,0\n",
-    );
+    )?;
     show(
+        rt,
         b"15 by 1",
         book,
         codebook,
         part(source, 0, 15),
         part(reference, 0, 256),
         b"15,1,18446744073709551615,8,1,0\n",
-    );
+    )?;
     show(
+        rt,
         b"176 by 143",
         book,
         codebook,
         part(source, 0, 25168),
         reference,
         b"176,143,18446744073709551615,8,1,0\n",
-    );
+    )?;
     show(
+        rt,
         b"175 by 144",
         book,
         codebook,
         part(source, 0, 25200),
         reference,
         b"175,144,18446744073709551615,8,1,0\n",
-    );
+    )
 }
 
 // Columns of 103 and 97 over a reference of 0, at lambda 0, where cost is error alone. The codebook is 0 but for two vectors of one half's 8 by 8 blocks, in such columns too:
@@ -445,7 +547,14 @@ fn cut_planes(book: &[u8], codebook: &[u8], source: &[u8], reference: &[u8]) {
 //   5 + 3 + 4 * (1 + 3 + 13 + 4) = 92 with one, 5 + 3 + 4 * (1 + 5 + 13 + 8) = 116 with two; INTER 5 + 3 + 4 * (1 + 3 + 15 + 4) = 100 and 5 + 3 + 4 * (1 + 5 + 15 + 8) = 124.
 // - INTER_4MV has INTER's errors with more bits; SKIP has 128 * (103^2 + 97^2). So the half that has the vectors is written while a stage stays, else INTRA.
 // At 2^32-1 a sum of 32 bits would wrap, 256 + 2^32-1 to 255, and stage 0 would stay.
-fn stripes(cases: &[u8], book: &[u8], reference: &[u8], ones_at: usize, twos_at: usize) {
+fn stripes(
+    rt: &impl Print,
+    cases: &[u8],
+    book: &[u8],
+    reference: &[u8],
+    ones_at: usize,
+    twos_at: usize,
+) -> io::Result<()> {
     let source = b"gagagagagagagagagagagagagagagagagagagagagagagagagagagagagagagaga\
         gagagagagagagagagagagagagagagagagagagagagagagagagagagagagagagaga\
         gagagagagagagagagagagagagagagagagagagagagagagagagagagagagagagaga\
@@ -461,12 +570,13 @@ fn stripes(cases: &[u8], book: &[u8], reference: &[u8], ones_at: usize, twos_at:
     let mut codebook = [0u8; 23040];
     text::put_text(&mut codebook, ones_at, ones);
     text::put_text(&mut codebook, twos_at, twos);
-    jobs(cases, book, &codebook, source, reference);
+    jobs(rt, cases, book, &codebook, source, reference)
 }
 
 // The vectors in the intra page, and in the inter page behind it.
-fn margins(book: &[u8], reference: &[u8]) {
+fn margins(rt: &impl Print, book: &[u8], reference: &[u8]) -> io::Result<()> {
     stripes(
+        rt,
         b"intra stripes, margin 0|16,16,0,8,1,0\n|\
         intra stripes, margin 255|16,16,0,8,1,255\n|\
         intra stripes, margin 256|16,16,0,8,1,256\n|\
@@ -477,8 +587,9 @@ fn margins(book: &[u8], reference: &[u8]) {
         reference,
         0,
         1024,
-    );
+    )?;
     stripes(
+        rt,
         b"inter stripes, margin 0|16,16,0,8,1,0\n|\
         inter stripes, margin 255|16,16,0,8,1,255\n|\
         inter stripes, margin 256|16,16,0,8,1,256\n|\
@@ -489,7 +600,7 @@ fn margins(book: &[u8], reference: &[u8]) {
         reference,
         6144,
         7168,
-    );
+    )
 }
 
 fn put_codebook(codebook: &mut [u8]) {
@@ -498,27 +609,33 @@ fn put_codebook(codebook: &mut [u8]) {
     text::put_text(codebook, 0, &house);
 }
 
-fn run(house: &[u8], codebook: &[u8], source: &[u8], reference: &[u8]) {
+fn run(
+    rt: &impl Print,
+    house: &[u8],
+    codebook: &[u8],
+    source: &[u8],
+    reference: &[u8],
+) -> io::Result<()> {
     let c = part(codebook, 0, 23040);
     let s = part(source, 0, 256);
     let r = part(reference, 0, 256);
-    job_cases(house, c, s, r);
-    lengths(house, codebook, source, reference);
-    first_line(house, c, s, r);
-    first_lines(house, c, s, r);
-    middle_lines(house, c, s, r);
-    last_lines(house, c, s, r);
-    margins(house, r);
+    job_cases(rt, house, c, s, r)?;
+    lengths(rt, house, codebook, source, reference)?;
+    first_line(rt, house, c, s, r)?;
+    first_lines(rt, house, c, s, r)?;
+    middle_lines(rt, house, c, s, r)?;
+    last_lines(rt, house, c, s, r)?;
+    margins(rt, house, r)
 }
 
 // The planes that are cut, under the house book.
-fn run_cut(house: &[u8], codebook: &[u8]) {
+fn run_cut(rt: &impl Print, house: &[u8], codebook: &[u8]) -> io::Result<()> {
     let source = [100u8; 25200];
     let reference = [0u8; 25344];
-    cut_planes(house, part(codebook, 0, 23040), &source, &reference);
+    cut_planes(rt, house, part(codebook, 0, 23040), &source, &reference)
 }
 
-fn main() {
+fn main(rt: HostRuntime) -> io::Result<()> {
     let mut file = [0u8; 24576];
     let mut codebook = [0u8; 23041];
     let source = [100u8; 257];
@@ -527,6 +644,6 @@ fn main() {
     let written = book_file_writer::write_book_file(&book, &mut file);
     let house = part(&file, 0, written.bytes);
     put_codebook(&mut codebook);
-    run(house, &codebook, &source, &reference);
-    run_cut(house, &codebook);
+    run(&rt, house, &codebook, &source, &reference)?;
+    run_cut(&rt, house, &codebook)
 }

@@ -12,7 +12,7 @@ use Rattle.mv_cache.specs.NeighboursLaws.{stored_component}
 use Rattle.vectors.specs.VectorsLaws.{InRange, Inside}
 use Rattle.tree.specs.TreeBits.{Node}
 use Rattle.canvas.specs.declared.svq1_plane.Svq1PlaneCanvas.{Svq1PlaneCanvas}
-use Rattle.macroblock.specs.Macroblock.{Given, cols, rows, Motion, Choice, coded, vectors_of, shown}
+use Rattle.macroblock.specs.Macroblock.{Given, cols, Motion, Choice, coded, vectors_of, shown}
 use Rattle.macroblock.specs.Slices.{Slices, BlockSlice, x_slice, y_slice, blocks_in, stored_in, laid}
 use Rattle.macroblock.specs.LayingNeeds.{choice_by, Laying, LaysChoice}
 use Rattle.macroblock.specs.SampleNeeds.{Stands, Laid, Shows}

@@ -1,6 +1,6 @@
 -- Laws of the choice: a motion's candidate by its plan, the best of all motions, and the block of a source.
 -- Assumes nothing.
-use Rattle.std.specs.Prelude.{◌≡◌, refl, Bool, true, false, List, [], ◌∷◌, ℕ, ◌≤◌, length}
+use Rattle.std.specs.Prelude.{◌≡◌, refl, true, false, List, [], ◌∷◌, ℕ, ◌≤◌, length}
 use Rattle.std.proofs.Common.{sym, ap, ◌∙◌, true≢false, arith}
 use Rattle.bits.specs.Basics.{pick, Bytes}
 use Rattle.book.specs.Book.{tables_of}

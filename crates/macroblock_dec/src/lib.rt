@@ -1,2 +1,4 @@
 // One macroblock read.
+#![tactic(auto)]
+
 pub mod svq1_plane;

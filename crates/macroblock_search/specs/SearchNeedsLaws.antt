@@ -24,7 +24,7 @@ use Rattle.macroblock_search.specs.declared.svq1_enc_inter.inner.searches.FoundP
 use Rattle.canvas.specs.declared.svq1_plane.Svq1PlaneCanvas.{Svq1PlaneCanvas}
 use Rattle.macroblock.specs.Macroblock.{Given, Motion, still, four}
 use Rattle.macroblock.specs.MacroblockLaws.{Codables}
-use Rattle.macroblock.specs.Choice.{Task, target, if_found, single_tried, four_tried}
+use Rattle.macroblock.specs.Choice.{Task, if_found, single_tried, four_tried}
 use Rattle.macroblock.specs.MotionForms.{motion_of}
 use Rattle.macroblock_search.specs.SearchNeeds.{search_by, whole_by, quarter_by, Cornered, Searching, vector_found, PairFound, motions_of, none_found, still_found, one_found, four_found, MotionsFound}
 

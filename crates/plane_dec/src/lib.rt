@@ -1,2 +1,4 @@
 // The reader of a plane.
+#![tactic(auto)]
+
 pub mod svq1_plane;

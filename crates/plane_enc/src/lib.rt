@@ -1,2 +1,4 @@
 // The plane writer.
+#![tactic(auto)]
+
 pub mod svq1_enc_inter;

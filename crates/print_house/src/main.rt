@@ -1,10 +1,12 @@
 // Prints the house book's file and behind it the house codebook's numbers, one a line, both worked out from their rules (document 02, §3).
-use house_text::{HOUSE_TEXT_BYTES, write_house};
-use libc::STDOUT_FILENO;
+#![tactic(auto)]
 
-fn main() {
+use house_text::{HOUSE_TEXT_BYTES, write_house};
+use std::io;
+
+fn main(rt: HostRuntime) -> io::Result<()> {
     let mut text = [0u8; HOUSE_TEXT_BYTES];
     let written = write_house(&mut text);
     let bytes = written.bytes;
-    io::write_all(STDOUT_FILENO, &text[..bytes]);
+    rt.write_all(&text[..bytes])
 }

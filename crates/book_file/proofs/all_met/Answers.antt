@@ -2,6 +2,7 @@
 use mathlib.Core.Path.{refl, sym, ◌∙◌}
 use native.Mathlib.Omega.{arith}
 use lib.Dec.{eqb}
+use lib.ListN.{get_or}
 use borrow.Author.Tests.{eq-eqb, ne_eqb}
 use Rattle.book_file.specs.BookFileFormsLaws.{every-step, every_end}
 use Rattle.book_file.proofs.all_met.Goals as goal
@@ -24,7 +25,7 @@ loop-i-smaller c = omega arith
 
 pub loop-i-preserved : goal.loop-i-preserved
 loop-i-preserved c =
-    (omega arith, c.loop-i.invariant.1 ∙ every-step (λ m. eqb m 1) c.args.met.now c.loop-i.i (omega arith) ∙ rw (eq-eqb _ _ c.if-met-i-ne1.false))
+    (omega arith, c.loop-i.invariant.1 ∙ every-step (λ m. eqb m 1) c.args.met.now c.loop-i.i (omega arith) ∙ rw (eq-eqb (get_or c.args.met.now c.loop-i.i 0) 1 (omega arith)))
 
 pub returns : goal.returns
 returns c =

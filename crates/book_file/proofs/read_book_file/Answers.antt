@@ -1,5 +1,6 @@
 -- `book_file::read_book_file` meets its contract: the size decides first, then what was read into local bytes. Assumes nothing.
-use mathlib.Core.Path.{refl, sym, ◌∙◌}
+use mathlib.Core.Path.{◌≡◌, refl, sym, ◌∙◌}
+use native.Mathlib.Omega.{arith}
 use Rattle.text.specs.PutLaws.{put_all}
 use Rattle.book_file.specs.CallLaws.{unmet_at_first, call_size, call_refused, call_read}
 use Rattle.book_file.proofs.read_book_file.Goals as goal
@@ -29,7 +30,7 @@ pub returns : goal.returns
 returns c =
     let a = c.args in
     let r = c.read_into-refusal in
-    let none = c.if-refusal-ne0.false in
+    let none : r.result ≡ 0 = omega arith in
     let size = c.if-book-ne-BOOK_BYTES.false in
     let p = c.put_text in
     let all = put_all a.book.now r.new.book p.result p.new.out (r.auto.book ∙ sym size) p.ensures in

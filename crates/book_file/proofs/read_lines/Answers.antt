@@ -124,7 +124,7 @@ loop-at-preserved c =
       omega (arith, c.loop-at.invariant.1),
       c.put_entry.auto.book ∙ c.loop-at.invariant.2,
       simp length-set c.loop-at.invariant.3,
-      rw (add-one c.loop-at.next, same) (sym (more s.In-Entry ∙ rw (eq-eqb (get_or c.loop-at.met c.in-Entry.e 0) 0 c.if-met-e-ne0.false))),
+      rw (add-one c.loop-at.next, same) (sym (more s.In-Entry ∙ rw (eq-eqb (get_or c.loop-at.met c.in-Entry.e 0) 0 (omega arith)))),
     )
 
 pub shape_of-book : goal.shape_of-book

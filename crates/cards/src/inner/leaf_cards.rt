@@ -26,6 +26,7 @@ fn put_residual(line: &mut [u8], sum: i32) -> usize {
 }
 
 fn print_mean(
+    rt: &impl Print,
     line: &mut [u8],
     book: &[u8],
     codebook: &[u8],
@@ -38,11 +39,11 @@ fn print_mean(
     let found = search_leaf(book, codebook, 0, 1, &target, &predictor, 0, false, 0);
     let code = found.code;
     let all = put_mean(line, asked, found.refused, code);
-    print_line(line, all)
+    print_line(rt, line, all)
 }
 
 // Residual sums 4, 3, -3 and -4, each of three samples that differ.
-pub fn print_means(line: &mut [u8], book: &[u8], codebook: &[u8]) -> usize
+pub fn print_means(rt: &impl Print, line: &mut [u8], book: &[u8], codebook: &[u8]) -> usize
     ensures { result ≤ 4 }
 {
     let flat = [100u8; 8];
@@ -50,9 +51,9 @@ pub fn print_means(line: &mut [u8], book: &[u8], codebook: &[u8]) -> usize
     let three = [110, 95, 98, 100, 100, 100, 100, 100];
     let less_three = [90, 105, 102, 100, 100, 100, 100, 100];
     let less_four = [90, 105, 101, 100, 100, 100, 100, 100];
-    let a = print_mean(line, book, codebook, four, flat);
-    let b = print_mean(line, book, codebook, three, flat);
-    let c = print_mean(line, book, codebook, less_three, flat);
-    let d = print_mean(line, book, codebook, less_four, flat);
+    let a = print_mean(rt, line, book, codebook, four, flat);
+    let b = print_mean(rt, line, book, codebook, three, flat);
+    let c = print_mean(rt, line, book, codebook, less_three, flat);
+    let d = print_mean(rt, line, book, codebook, less_four, flat);
     a + b + c + d
 }

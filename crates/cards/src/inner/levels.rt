@@ -32,7 +32,7 @@ fn put_size(line: &mut [u8], level: Svq1Level) -> usize {
     put_number(line, width, b"x", dims.height as u64)
 }
 
-fn print_level(line: &mut [u8], level: Svq1Level) -> usize
+fn print_level(rt: &impl Print, line: &mut [u8], level: Svq1Level) -> usize
     ensures { result ≤ 1 }
 {
     let size = put_size(line, level);
@@ -41,33 +41,33 @@ fn print_level(line: &mut [u8], level: Svq1Level) -> usize
     let intra = put_page(line, parts, b", intra page ", first);
     let second = half_byte_offset_in_payload(level, Svq1Half::Inter);
     let all = put_page(line, intra, b", inter page ", second);
-    print_line(line, all)
+    print_line(rt, line, all)
 }
 
-pub fn print_levels(line: &mut [u8]) -> usize
+pub fn print_levels(rt: &impl Print, line: &mut [u8]) -> usize
     ensures { result ≤ 6 }
 {
-    let a = print_level(line, Svq1Level::L0);
-    let b = print_level(line, Svq1Level::L1);
-    let c = print_level(line, Svq1Level::L2);
-    let d = print_level(line, Svq1Level::L3);
-    let e = print_level(line, Svq1Level::L4);
-    a + b + c + d + e + print_level(line, Svq1Level::L5)
+    let a = print_level(rt, line, Svq1Level::L0);
+    let b = print_level(rt, line, Svq1Level::L1);
+    let c = print_level(rt, line, Svq1Level::L2);
+    let d = print_level(rt, line, Svq1Level::L3);
+    let e = print_level(rt, line, Svq1Level::L4);
+    a + b + c + d + e + print_level(rt, line, Svq1Level::L5)
 }
 
-fn print_sum(line: &mut [u8], sum: i16) -> usize
+fn print_sum(rt: &impl Print, line: &mut [u8], sum: i16) -> usize
     ensures { result ≤ 1 }
 {
     let asked = put_short(line, 0, b"sum ", sum);
     let all = put_number(line, asked, b": sample ", saturate_u8(sum) as u64);
-    print_line(line, all)
+    print_line(rt, line, all)
 }
 
 // Below, in and above the range of samples.
-pub fn print_sums(line: &mut [u8]) -> usize
+pub fn print_sums(rt: &impl Print, line: &mut [u8]) -> usize
     ensures { result ≤ 3 }
 {
-    let low = print_sum(line, -1);
-    let in_range = print_sum(line, 255);
-    low + in_range + print_sum(line, 256)
+    let low = print_sum(rt, line, -1);
+    let in_range = print_sum(rt, line, 255);
+    low + in_range + print_sum(rt, line, 256)
 }

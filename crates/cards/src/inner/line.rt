@@ -1,9 +1,9 @@
 // Parts of a line, put at a place of a lent slice. The answer is the place behind what was put; a text or a number that has no room is left out.
-ghost use Rattle.std.specs.Prelude.{◌≡◌, ◌≤◌, ◌<◌};
+ghost use Rattle.std.specs.Prelude.{◌≡◌, ◌≤◌, ◌<◌, IfOk};
 ghost use Rattle.text.specs.WritingForms.{TextPut};
 ghost use Rattle.cards.specs.Numbers.{hex_digit, hex_byte};
 
-use libc::STDOUT_FILENO;
+use std::io;
 use text::{put_decimal, put_signed, put_text};
 use vectors::svq1_motion_predictor::Svq1Mv;
 
@@ -83,23 +83,28 @@ pub fn put_numbers(line: &mut [u8], at: usize, bytes: &[u8]) -> usize {
     end
 }
 
-// The first n bytes written out, with a line feed behind them: 1 for a line that was printed, else 0.
-pub fn print_line(line: &mut [u8], n: usize) -> usize
-    ensures { result ≤ 1 }
+// The first n bytes written out, with a line feed behind them: 1 for a line that was printed, 0 where there is no room for it.
+fn write_line(rt: &impl Print, line: &mut [u8], n: usize) -> io::Result<usize>
+    ensures { IfOk result (λ lines. lines ≤ 1) }
 {
     let end = put_text(line, n, b"\n");
     if line.len() < end {
-        return 0;
+        return Ok(0);
     }
-    if io::write_all(STDOUT_FILENO, &line[..end]) {
-        1
-    } else {
-        0
-    }
+    rt.write_all(&line[..end])?;
+    Ok(1)
+}
+
+// The same: 1 for a line that was printed, else 0.
+pub fn print_line(rt: &impl Print, line: &mut [u8], n: usize) -> usize
+    ensures { result ≤ 1 }
+{
+    write_line(rt, line, n).unwrap_or(0)
 }
 
 // The last line: how many cards and other lines were printed.
 pub fn print_counts(
+    rt: &impl Print,
     line: &mut [u8],
     cards: usize,
     back: usize,
@@ -107,12 +112,13 @@ pub fn print_counts(
     sums: usize,
     texts: usize,
     margins: usize,
-) {
+) -> io::Result<()> {
     let a = put_number(line, 0, b"cards ", cards as u64);
     let b = put_number(line, a, b", read back ", back as u64);
     let c = put_number(line, b, b", levels ", levels as u64);
     let d = put_number(line, c, b", sums ", sums as u64);
     let e = put_number(line, d, b", texts ", texts as u64);
     let all = put_number(line, e, b", margins ", margins as u64);
-    print_line(line, all);
+    write_line(rt, line, all)?;
+    Ok(())
 }

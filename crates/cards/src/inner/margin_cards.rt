@@ -64,6 +64,7 @@ fn put_asked(line: &mut [u8], target: [u8; 8], skip: bool, margin: u32) -> usize
 }
 
 fn print_leaf(
+    rt: &impl Print,
     line: &mut [u8],
     book: &[u8],
     codebook: &[u8],
@@ -80,55 +81,67 @@ fn print_leaf(
     let stages = found.stages;
     let leaf = put_leaf(line, asked, found.refused, code, stages);
     let all = put_weight(line, leaf, found.error, found.bits);
-    print_line(line, all)
+    print_line(rt, line, all)
 }
 
 // The last stage, of gain 8: no margin, one less than the gain, the gain, one more.
-fn print_last_stage(line: &mut [u8], book: &[u8], codebook: &[u8], target: [u8; 8]) -> usize
+fn print_last_stage(
+    rt: &impl Print,
+    line: &mut [u8],
+    book: &[u8],
+    codebook: &[u8],
+    target: [u8; 8],
+) -> usize
     ensures { result ≤ 4 }
 {
-    let none = print_leaf(line, book, codebook, target, false, 0);
-    let less = print_leaf(line, book, codebook, target, false, 7);
-    let same = print_leaf(line, book, codebook, target, false, 8);
-    none + less + same + print_leaf(line, book, codebook, target, false, 9)
+    let none = print_leaf(rt, line, book, codebook, target, false, 0);
+    let less = print_leaf(rt, line, book, codebook, target, false, 7);
+    let same = print_leaf(rt, line, book, codebook, target, false, 8);
+    none + less + same + print_leaf(rt, line, book, codebook, target, false, 9)
 }
 
 // The first stage, of gain 192: one less, the gain, the same with skip allowed, which wins at equal error, and the largest margin, where a sum of 32 bits
 // would wrap.
-fn print_first_stage(line: &mut [u8], book: &[u8], codebook: &[u8], target: [u8; 8]) -> usize
+fn print_first_stage(
+    rt: &impl Print,
+    line: &mut [u8],
+    book: &[u8],
+    codebook: &[u8],
+    target: [u8; 8],
+) -> usize
     ensures { result ≤ 4 }
 {
-    let less = print_leaf(line, book, codebook, target, false, 191);
-    let same = print_leaf(line, book, codebook, target, false, 192);
-    let skipped = print_leaf(line, book, codebook, target, true, 192);
-    less + same + skipped + print_leaf(line, book, codebook, target, false, 4294967295)
+    let less = print_leaf(rt, line, book, codebook, target, false, 191);
+    let same = print_leaf(rt, line, book, codebook, target, false, 192);
+    let skipped = print_leaf(rt, line, book, codebook, target, true, 192);
+    less + same + skipped + print_leaf(rt, line, book, codebook, target, false, 4294967295)
 }
 
 // A first stage of gain 64 ends the leaf at that margin, whatever the second would gain.
-fn print_early_end(line: &mut [u8], book: &[u8], codebook: &[u8]) -> usize
+fn print_early_end(rt: &impl Print, line: &mut [u8], book: &[u8], codebook: &[u8]) -> usize
     ensures { result ≤ 2 }
 {
     let target = [111, 95, 111, 95, 105, 89, 105, 89];
-    let goes_on = print_leaf(line, book, codebook, target, false, 63);
-    goes_on + print_leaf(line, book, codebook, target, false, 64)
+    let goes_on = print_leaf(rt, line, book, codebook, target, false, 63);
+    goes_on + print_leaf(rt, line, book, codebook, target, false, 64)
 }
 
 // Skip is compared by plain errors: 8 against 0, whatever the margin is.
-fn print_skip(line: &mut [u8], book: &[u8], codebook: &[u8]) -> usize
+fn print_skip(rt: &impl Print, line: &mut [u8], book: &[u8], codebook: &[u8]) -> usize
     ensures { result ≤ 1 }
 {
     let target = [101u8; 8];
-    print_leaf(line, book, codebook, target, true, 8)
+    print_leaf(rt, line, book, codebook, target, true, 8)
 }
 
-pub fn print_margins(line: &mut [u8], book: &[u8]) -> usize
+pub fn print_margins(rt: &impl Print, line: &mut [u8], book: &[u8]) -> usize
     ensures { result ≤ 11 }
 {
     let mut codebook = [0u8; CODEBOOK_BYTES];
     lay_vectors(&mut codebook);
     let target = [105, 105, 105, 105, 95, 95, 95, 95];
-    let last = print_last_stage(line, book, &codebook, target);
-    let first = print_first_stage(line, book, &codebook, target);
-    let early = print_early_end(line, book, &codebook);
-    last + first + early + print_skip(line, book, &codebook)
+    let last = print_last_stage(rt, line, book, &codebook, target);
+    let first = print_first_stage(rt, line, book, &codebook, target);
+    let early = print_early_end(rt, line, book, &codebook);
+    last + first + early + print_skip(rt, line, book, &codebook)
 }

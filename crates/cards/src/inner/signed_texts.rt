@@ -11,21 +11,21 @@ fn put_read(line: &mut [u8], at: usize, read: SignedRead) -> usize {
     }
 }
 
-fn print_text(line: &mut [u8], t: &[u8]) -> usize
+fn print_text(rt: &impl Print, line: &mut [u8], t: &[u8]) -> usize
     ensures { result ≤ 1 }
 {
     let word = put_text(line, 0, b"text ");
     let asked = put_text(line, word, t);
     let number = put_text(line, asked, b": number ");
     let all = put_read(line, number, read_signed(t));
-    print_line(line, all)
+    print_line(rt, line, all)
 }
 
-pub fn print_texts(line: &mut [u8]) -> usize
+pub fn print_texts(rt: &impl Print, line: &mut [u8]) -> usize
     ensures { result ≤ 4 }
 {
-    let least = print_text(line, b"-9223372036854775808");
-    let largest = print_text(line, b"9223372036854775807");
-    let past = print_text(line, b"9223372036854775808");
-    least + largest + past + print_text(line, b"-0")
+    let least = print_text(rt, line, b"-9223372036854775808");
+    let largest = print_text(rt, line, b"9223372036854775807");
+    let past = print_text(rt, line, b"9223372036854775808");
+    least + largest + past + print_text(rt, line, b"-0")
 }

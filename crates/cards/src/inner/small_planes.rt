@@ -67,6 +67,7 @@ fn put_plane(
 }
 
 fn print_plane(
+    rt: &impl Print,
     line: &mut [u8],
     book: &[u8],
     codebook: &[u8],
@@ -77,21 +78,29 @@ fn print_plane(
     ensures { result ≤ 1 }
 {
     let all = put_plane(line, book, codebook, lambda, out, start);
-    print_line(line, all)
+    print_line(rt, line, all)
 }
 
 // The first card; the same at the largest lambda; the first in three bytes from bits 2 and 3 on. The bytes are 255 before.
-pub fn print_planes(line: &mut [u8], book: &[u8], codebook: &[u8]) -> usize
+pub fn print_planes(rt: &impl Print, line: &mut [u8], book: &[u8], codebook: &[u8]) -> usize
     ensures { result ≤ 4 }
 {
     let mut first = [255u8; 3];
     let mut second = [255u8; 1];
     let mut third = [255u8; 3];
     let mut fourth = [255u8; 3];
-    let a = print_plane(line, book, codebook, LAMBDA, &mut first, 0);
-    let b = print_plane(line, book, codebook, 18446744073709551615, &mut second, 0);
-    let c = print_plane(line, book, codebook, LAMBDA, &mut third, 2);
-    let d = print_plane(line, book, codebook, LAMBDA, &mut fourth, 3);
+    let a = print_plane(rt, line, book, codebook, LAMBDA, &mut first, 0);
+    let b = print_plane(
+        rt,
+        line,
+        book,
+        codebook,
+        18446744073709551615,
+        &mut second,
+        0,
+    );
+    let c = print_plane(rt, line, book, codebook, LAMBDA, &mut third, 2);
+    let d = print_plane(rt, line, book, codebook, LAMBDA, &mut fourth, 3);
     a + b + c + d
 }
 
@@ -121,12 +130,12 @@ fn put_read(line: &mut [u8], at: usize, book: &[u8], codebook: &[u8], bytes: &[u
 }
 
 // The first card's three bytes read.
-pub fn print_read_back(line: &mut [u8], book: &[u8], codebook: &[u8]) -> usize
+pub fn print_read_back(rt: &impl Print, line: &mut [u8], book: &[u8], codebook: &[u8]) -> usize
     ensures { result ≤ 1 }
 {
     let mut bytes = [255u8; 3];
     write_plane(book, codebook, LAMBDA, &mut bytes, 0);
     let asked = put_text(line, 0, b"the first card read back");
     let all = put_read(line, asked, book, codebook, &bytes);
-    print_line(line, all)
+    print_line(rt, line, all)
 }

@@ -20,27 +20,35 @@ fn put_neighbour(line: &mut [u8], at: usize, name: &[u8], n: Neighbour) -> usize
     }
 }
 
-fn print_predictor(line: &mut [u8], left: Neighbour, top: Neighbour, top_right: Neighbour) -> usize
+fn print_predictor(
+    rt: &impl Print,
+    line: &mut [u8],
+    left: Neighbour,
+    top: Neighbour,
+    top_right: Neighbour,
+) -> usize
     ensures { result ≤ 1 }
 {
     let a = put_neighbour(line, 0, b"left ", left);
     let b = put_neighbour(line, a, b", top ", top);
     let asked = put_neighbour(line, b, b", top right ", top_right);
     let all = put_vector(line, asked, b": predictor ", predict(left, top, top_right));
-    print_line(line, all)
+    print_line(rt, line, all)
 }
 
 // Left (4,4) and top (6,-1) only; top (7,-2) only.
-pub fn print_predictors(line: &mut [u8]) -> usize
+pub fn print_predictors(rt: &impl Print, line: &mut [u8]) -> usize
     ensures { result ≤ 2 }
 {
     let two = print_predictor(
+        rt,
         line,
         Neighbour::Present(Svq1Mv { x: 4, y: 4 }),
         Neighbour::Present(Svq1Mv { x: 6, y: -1 }),
         Neighbour::Absent,
     );
     let one = print_predictor(
+        rt,
         line,
         Neighbour::Absent,
         Neighbour::Present(Svq1Mv { x: 7, y: -2 }),
@@ -65,7 +73,7 @@ fn search_flat(x: usize, y: usize, predictor: Svq1Mv) -> Searched
     search_motion_vector(&reference, 32, 32, 32, 32, &target, 16, x, y, predictor, 8)
 }
 
-fn print_search(line: &mut [u8], x: usize, y: usize, predictor: Svq1Mv) -> usize
+fn print_search(rt: &impl Print, line: &mut [u8], x: usize, y: usize, predictor: Svq1Mv) -> usize
     ensures { result ≤ 1 }
 {
     let p = put_vector(
@@ -78,14 +86,14 @@ fn print_search(line: &mut [u8], x: usize, y: usize, predictor: Svq1Mv) -> usize
     let row = put_number(line, column, b",", y as u64);
     let asked = put_text(line, row, b": ");
     let all = put_searched(line, asked, search_flat(x, y, predictor));
-    print_line(line, all)
+    print_line(rt, line, all)
 }
 
 // Predictor (-32,0) at 0,0 and at 16,0.
-pub fn print_searches(line: &mut [u8]) -> usize
+pub fn print_searches(rt: &impl Print, line: &mut [u8]) -> usize
     ensures { result ≤ 2 }
 {
     let p = Svq1Mv { x: -32, y: 0 };
-    let corner = print_search(line, 0, 0, p);
-    corner + print_search(line, 16, 0, p)
+    let corner = print_search(rt, line, 0, 0, p);
+    corner + print_search(rt, line, 16, 0, p)
 }

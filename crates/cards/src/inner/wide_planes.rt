@@ -39,6 +39,7 @@ fn write_plane(
 }
 
 fn print_plane(
+    rt: &impl Print,
     line: &mut [u8],
     canvas: Svq1PlaneCanvas,
     source: &[u8],
@@ -54,10 +55,10 @@ fn print_plane(
     let asked = put_asked(line, flat, LAMBDA, out.len(), 0);
     let end = write_plane(canvas, source, reference, book, codebook, &mut out, recon);
     let all = put_written(line, asked, end, &out);
-    print_line(line, all)
+    print_line(rt, line, all)
 }
 
-fn print_1024(line: &mut [u8], book: &[u8], codebook: &[u8]) -> usize
+fn print_1024(rt: &impl Print, line: &mut [u8], book: &[u8], codebook: &[u8]) -> usize
     ensures { result ≤ 1 }
 {
     let source = [SAMPLE; 1024];
@@ -70,11 +71,11 @@ fn print_1024(line: &mut [u8], book: &[u8], codebook: &[u8]) -> usize
         rows: 16,
     };
     print_plane(
-        line, canvas, &source, &reference, book, codebook, &mut recon,
+        rt, line, canvas, &source, &reference, book, codebook, &mut recon,
     )
 }
 
-fn print_1025(line: &mut [u8], book: &[u8], codebook: &[u8]) -> usize
+fn print_1025(rt: &impl Print, line: &mut [u8], book: &[u8], codebook: &[u8]) -> usize
     ensures { result ≤ 1 }
 {
     let source = [SAMPLE; 1025];
@@ -87,14 +88,14 @@ fn print_1025(line: &mut [u8], book: &[u8], codebook: &[u8]) -> usize
         rows: 16,
     };
     print_plane(
-        line, canvas, &source, &reference, book, codebook, &mut recon,
+        rt, line, canvas, &source, &reference, book, codebook, &mut recon,
     )
 }
 
 // Width 1,024, and one more: all else is of the right size.
-pub fn print_planes(line: &mut [u8], book: &[u8], codebook: &[u8]) -> usize
+pub fn print_planes(rt: &impl Print, line: &mut [u8], book: &[u8], codebook: &[u8]) -> usize
     ensures { result ≤ 2 }
 {
-    let largest = print_1024(line, book, codebook);
-    largest + print_1025(line, book, codebook)
+    let largest = print_1024(rt, line, book, codebook);
+    largest + print_1025(rt, line, book, codebook)
 }

@@ -10,7 +10,7 @@ use plane_enc::svq1_enc_inter::WriteEnd;
 use text::same;
 
 // The first thing that differs.
-#[derive(Drop)]
+#[derive(Clone, Copy)]
 pub enum Difference {
     Same,
     Refusal,

@@ -1,14 +1,16 @@
 // The fixed list of jobs and answers: its numbers and parts, and where the parts of a scene and of a job stand in it.
-ghost use Rattle.std.specs.Prelude.{◌≡◌, ◌+◌, ◌/◌, ◌≤◌, length, get_or};
+ghost use Rattle.std.specs.Prelude.{◌≡◌, ◌+◌, ◌/◌, ◌≤◌, IfOk, length, get_or};
 ghost use Rattle.canvas.specs.Canvas.{padded16};
 ghost use Rattle.replay.specs.Layout.{part_in, number_in, bytes_for, most_side, most_size, Begun, sized_in, scene_in, measured_in, job_of_list};
 
 use book::inner::{BOOK_BYTES, CODEBOOK_BYTES};
 use canvas::svq1_plane::Svq1PlaneCanvas;
+use std::io;
+use std::io::Read;
 
 // A scene: the canvas of its planes; the samples of its source and of its canvas; the places of its source and its reference; how many jobs
 // it has, and the place of the first.
-#[derive(Drop)]
+#[derive(Clone, Copy)]
 pub struct Scene {
     pub canvas: Svq1PlaneCanvas,
     pub samples: usize,
@@ -27,7 +29,7 @@ pub enum SceneRead {
 }
 
 // A job: the places of its tables, its numbers, the answer's bit count, the places of the answer's parts, and the place behind it.
-#[derive(Drop)]
+#[derive(Clone, Copy)]
 pub struct Job {
     pub book: usize,
     pub codebook: usize,
@@ -47,6 +49,21 @@ pub struct Job {
 pub enum JobRead {
     Whole(Job),
     Ends,
+}
+
+// Reads until there is no more room or the file ends; the answer is how many bytes were read.
+pub fn read_full(file: &mut impl Read, bytes: &mut [u8]) -> io::Result<usize>
+    ensures { IfOk result (λ n. n ≤ length bytes.new) }
+{
+    let mut done = 0;
+    while done < bytes.len() {
+        let n = file.read(&mut bytes[done..])?;
+        if n == 0 {
+            return Ok(done);
+        }
+        done += n;
+    }
+    Ok(done)
 }
 
 // The n bytes at a place; none where they are not all there.

@@ -5,12 +5,12 @@ ghost use Rattle.replay.specs.Tally.{none, added, tallied_of};
 use super::super::inner::compare::{Difference, count_mode, first, is_same};
 use super::super::inner::file::part;
 use costs::svq1_enc_tree::saturating_add;
-use libc::STDOUT_FILENO;
 use plane_enc::svq1_enc_inter::WriteEnd;
+use std::io;
 use text::{put_decimal, put_text};
 
 // Jobs, macroblocks, macroblocks of each mode, bits and error; and the first difference of the writer and of the reader.
-#[derive(Drop)]
+#[derive(Clone, Copy)]
 pub struct Tally {
     pub jobs: u64,
     pub blocks: u64,
@@ -96,8 +96,8 @@ pub fn add(a: Tally, b: Tally) -> Tally
 }
 
 // A line's first n bytes, to standard output.
-pub fn write_line(line: &[u8], n: usize) {
-    io::write_all(STDOUT_FILENO, part(line, 0, n));
+pub fn write_line(rt: &impl Print, line: &[u8], n: usize) -> io::Result<()> {
+    rt.write_all(part(line, 0, n))
 }
 
 // A number behind its name.
