@@ -21,6 +21,7 @@ pub enum Place {
 }
 
 // Where the half's page of the level begins in the payload.
+#[tactic(auto, using(crate::specs::CodebookCallsLaws::page_at))]
 pub fn half_byte_offset_in_payload(level: Svq1Level, half: Svq1Half) -> Place
     ensures { place_number result ≡ page_place (level_number level) half }
 {

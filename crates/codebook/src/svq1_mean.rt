@@ -3,6 +3,7 @@ ghost use Rattle.std.specs.Prelude.{◌≡◌};
 ghost use Rattle.codebook.specs.Mean.{saturate};
 
 // The sample that a sum shows.
+#[tactic(auto, using(crate::proofs::Saturated::saturated))]
 pub fn saturate_u8(value: i16) -> u8
     ensures { result ≡ saturate value }
 {

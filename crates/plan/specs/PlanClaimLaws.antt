@@ -27,7 +27,8 @@ use Rattle.tree.specs.Plan.{Weight, Planning, total, pruned, root, leaf_at, show
 use Rattle.plan.specs.PlanLaws.{Under, most_bits_lem, most_err, planned_under, optimal, room, own_plan, splits_zero}
 use Rattle.tree.specs.TreeBits.{Split, Ends, plan_tree, tree_bits, read_tree, tree_shown}
 use Rattle.plan.specs.PlanAnswer.{planning_of}
-use Rattle.tree.specs.TreeLaws.{TreeStands, tree_read}
+use Rattle.tree.specs.TreeLaws.{TreeStands}
+use Rattle.tree.proofs.TreeLaws.{tree_read}
 use Rattle.plan.specs.ChoiceLaws.{bits_are, shown_are}
 use Rattle.plan.specs.PlanClaim.{largest_lambda, plan_cost, PlanClaimed}
 

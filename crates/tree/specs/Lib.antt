@@ -12,5 +12,4 @@ pub mod WalkNeeds
 pub mod WalkNeedsLaws
 pub mod WalkReadLaws
 pub mod Queue
-pub mod QueueLaws
 pub mod ReadSoundLaws

@@ -1,18 +1,16 @@
 -- Laws of a tree as an array of block records, and of writing it block by block.
 -- Assumes nothing.
-use Rattle.std.specs.Prelude.{◌≡◌, true, false, get_or, set, take, drop}
+use Rattle.std.specs.Prelude.{◌≡◌, true, false, get_or, set, take}
 use Rattle.std.proofs.Math.Path.{refl, ap}
-use Rattle.std.proofs.Common.{sym, ◌∙◌, add-zero, add-one, eq-eqb, ne_eqb, take-append-drop, take_all}
-use mathlib.Core.List.{List, [], ◌∷◌, ◌++◌, append_assoc, append-nil}
-use Prim.Native.Nat.{ℕ, zero, suc, ◌+◌, ◌-◌, ◌/◌, ◌≤◌, ◌<◌}
+use Rattle.std.proofs.Common.{sym, ◌∙◌, eq-eqb, ne_eqb, take_all}
+use mathlib.Core.List.{List, [], ◌∷◌, ◌++◌}
+use Prim.Native.Nat.{ℕ, zero, suc, ◌+◌, ◌-◌, ◌/◌, ◌≤◌}
 use native.Mathlib.Omega.{arith}
-use Rattle.std.proofs.Math.Nat.{zero-add}
 use Rattle.std.proofs.Math.ListN.{length, length-append, get_or-append, get_or-map}
 use Rattle.std.proofs.lemmas.List.{length-map}
-use Rattle.std.proofs.Math.Seq.{take-suc, length-take-le}
 use Rattle.bits.specs.Bits.{msb}
 use Rattle.bits.specs.BitNeeds.{Fits, Wrote}
-use Rattle.bits.specs.BitNeedsLaws.{wrote_none, wrote_more}
+use Rattle.bits.specs.BitNeedsLaws.{wrote_none}
 use Rattle.book.specs.Book.{Tables, tables_of, mean_table, stage_family, stage_table}
 use Rattle.book.specs.declared.svq1_vlc.Svq1Half.{Svq1Half}
 use Rattle.leaf.specs.Leaf.{Leaf}
@@ -22,8 +20,7 @@ use Rattle.leaf.specs.LentNeedsLaws.{book_bits_lem, book_tables}
 use Rattle.leaf.specs.LeafForms.{leaf_of}
 use Rattle.leaf.specs.declared.svq1_enc_leaf.LeafCode.{LeafCode}
 use Rattle.leaf.specs.declared.svq1_enc_leaf.LeafCode.TheVariants as code
-use Rattle.tree.specs.Blocks.{block_count, level}
-use Rattle.tree.specs.BlocksLaws.{level_le}
+use Rattle.tree.specs.Blocks.{block_count}
 use Rattle.tree.specs.TreeBits.{Node, Off, Split, Ends, is_split, reached, node_bits, emit, tree_bits}
 use Rattle.tree.specs.NodeForms.{node_of, tree_of}
 use Rattle.tree.specs.WalkNeeds.{leaf_flag, Sound, LeafRoom, NodeRoom, TreeRoom}
@@ -152,13 +149,6 @@ module _ (book : List ℕ) (half : Svq1Half) (d : ℕ) (stage mean : List ℕ) (
   leaf_wrote l w = wrote_as (lent_bits half stage mean l) (leaf_bits (tables_of book half) d l) (sym (lent_bits_lem l)) w
 
 -- ---- writing block by block
-emit-append : (T : Tables) (j : ℕ) (xs ys : List Node) → emit T j (xs ++ ys) ≡ emit T j xs ++ emit T (j + length xs) ys
-unfolding emit
-emit-append T j [] ys = rw add-zero
-emit-append T j (x ∷ xs) ys =
-    let e : suc j + length xs ≡ j + suc (length xs) = omega arith in
-    rw (append_assoc, ← e) (ap (λ (l : List ℕ). node_bits T (level j) x ++ l) (emit-append T (suc j) xs ys))
-
 -- the first i blocks are written
 pub record Emitting (T : Tables) (t : List Node) (old : List ℕ) (at : ℕ) (new : List ℕ) (k i : ℕ) : Type 0 where
   pub upto : i ≤ block_count
@@ -169,52 +159,9 @@ module _ (book : List ℕ) (half : Svq1Half) (t : List Node) (len : length t ≡
   abbrev T : Tables
   T = tables_of book half
 
-  abbrev bits_at : ℕ → List ℕ
-  bits_at i = node_bits T (level i) (get_or t i Off)
-
-  more_bits : (i : ℕ) → i < block_count → emit T 0 (take (i + 1) t) ≡ emit T 0 (take i t) ++ bits_at i
-  unfolding emit
-  more_bits i h =
-      let l : length (take i t) ≡ i = length-take-le i t (omega arith) in
-      let in_tree : i < length t = omega arith in
-      rw (add-one, take-suc t i Off in_tree, emit-append T 0 (take i t) (get_or t i Off ∷ []), l, zero-add i, append-nil (bits_at i))
-
-  -- the bits of the first i blocks are no more than all
-  few_bits : (i : ℕ) → i ≤ block_count → length (emit T 0 (take i t)) ≤ length (tree_bits T t)
-  unfolding tree_bits
-  few_bits i h =
-      omega (
-        arith,
-        ap (λ (l : List Node). length (emit T 0 l)) (take-append-drop i t),
-        ap length (emit-append T 0 (take i t) (drop i t)),
-        length-append (emit T 0 (take i t)) (emit T (0 + length (take i t)) (drop i t)),
-      )
-
   pub emit-begins : Emitting T t old at old at 0
   unfolding emit
   emit-begins = record { upto = omega arith; same = refl; done = wrote_none old at }
-
-  module _ (new : List ℕ) (k i : ℕ) (e : Emitting T t old at new k i) (h : i < block_count) (d : ℕ) (deep : d ≡ level i) (x : Node) (here : x ≡ get_or t i Off) where
-    pub node_room : NodeRoom book half d x (length new) k
-    node_room =
-        rw (here, deep)
-        (record {
-          passes = r.passes;
-          deep = level_le i;
-          sound = r.sound i;
-          room = record {
-            bytes_fit = omega (arith, r.room.bytes_fit, e.same);
-            bits_fit = omega (arith, r.room.bits_fit, e.same, e.done.behind, few_bits (i + 1) (omega arith), ap length (more_bits i h), length-append (emit T 0 (take i t)) (bits_at i));
-          };
-        })
-
-    pub emit_turn : (new' : List ℕ) (k' : ℕ) → length new' ≡ length new → Wrote new k (node_bits T d x) k' new' → Emitting T t old at new' k' (i + 1)
-    emit_turn new' k' size w =
-        record {
-          upto = omega arith;
-          same = size ∙ e.same;
-          done = rw (more_bits i h) (wrote_more (omega (arith, r.room.bits_fit)) e.done (rw (here, deep) at w));
-        }
 
   pub emit_ends : (new : List ℕ) (k i : ℕ) → Emitting T t old at new k i → block_count ≤ i → Wrote old at (tree_bits T t) k new
   unfolding tree_bits

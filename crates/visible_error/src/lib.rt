@@ -1,4 +1,6 @@
 // The error of a plane over the samples that the panel shows.
+#![tactic(auto)]
+
 pub mod inner;
 
 ghost use Rattle.std.specs.Prelude.{◌≡◌};

@@ -115,6 +115,7 @@ fn read_skip(s: &[u8], at: usize, half: Svq1Half) -> ReadLeaf
 }
 
 // Whether a level has no place for this many stages.
+#[tactic(auto, using(std::proofs::lemmas::Bool::Decides::nat_tests))]
 fn stages_closed(level: usize, count: usize) -> bool
     ensures { result ≡ (ltb 3 level && ltb 0 count) }
 {

@@ -168,6 +168,7 @@ fn read_leaf_at(s: &[u8], at: usize, half: Svq1Half, book: &[u8], d: usize) -> R
 }
 
 // The block of level d that stands at bit `at`, where it is reached.
+#[tactic(auto, using(crate::proofs::FlagLaws::leaf_behind))]
 fn read_node(s: &[u8], at: usize, half: Svq1Half, book: &[u8], d: usize) -> ReadNode
     requires { Reads book.now d (length s.now) at }
     ensures { NodeHere (tables_of book.now half) d s.now at result }

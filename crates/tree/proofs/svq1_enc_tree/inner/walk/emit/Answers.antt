@@ -1,5 +1,6 @@
 -- The blocks by number, one behind the other. Assumes nothing.
-use Rattle.tree.specs.WalkNeedsLaws.{tree_at, tree-length, node_room, emit-begins, emit_turn, emit_ends}
+use Rattle.tree.specs.WalkNeedsLaws.{tree_at, tree-length, emit-begins, emit_ends}
+use Rattle.tree.proofs.WalkNeedsLaws.{node_room, emit_turn}
 use Rattle.tree.specs.NodeForms.{tree_of}
 use mathlib.Core.Path.{◌∙◌, sym}
 use borrow.Author.Rules.{rules}

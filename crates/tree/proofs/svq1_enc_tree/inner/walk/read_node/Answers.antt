@@ -1,12 +1,12 @@
 -- A leaf at L0, and above it what the flag says. Assumes nothing.
 use native.Mathlib.Omega.{arith}
-use Rattle.tree.specs.WalkReadLaws.{flag_none, flag_short, flag_leaf, flag_split}
+use Rattle.tree.specs.WalkReadLaws.{flag_none, flag_short, flag_split}
 use Rattle.book.specs.Book.{tables_of}
 use Rattle.bits.specs.BitsLaws.{length_bits_of}
 use Rattle.bits.specs.Bits.{bits_of}
 use lib.ListN.{length}
 use Prim.Native.Nat.{◌<◌, ◌≤◌}
-use mathlib.Core.Path.{◌∙◌, sym}
+use mathlib.Core.Path.{◌≡◌, ◌∙◌}
 use borrow.Author.Rules.{rules}
 use Rattle.tree.proofs.svq1_enc_tree.inner.walk.read_node.Goals as goal
 
@@ -27,26 +27,11 @@ returns-then-s-at c =
       within = omega (arith, c.requires.from.bits_fit);
     }
 
-pub read_leaf_at-requires-then-get_bits-eq0 : goal.read_leaf_at-requires-then-get_bits-eq0
-read_leaf_at-requires-then-get_bits-eq0 c =
-    let p = c.requires in
-    record { passes = p.passes; deep = p.deep; from = record { bytes_fit = p.from.bytes_fit; bits_fit = omega arith } }
-
-pub returns-then-get_bits-eq0 : goal.returns-then-get_bits-eq0
-returns-then-get_bits-eq0 c =
-    let a = c.args in
-    let h : a.at < length (bits_of a.s.now) = rw length_bits_of (search rules) in
-    record {
-      is = c.read_leaf_at-then-get_bits-eq0.ensures.is
-          ∙ flag_leaf (tables_of a.book.now a.half) a.d a.at (bits_of a.s.now) c.if-d-eq0.false h (sym c.get_bits.ensures ∙ c.if-get_bits-eq0.true);
-      within = c.read_leaf_at-then-get_bits-eq0.ensures.within;
-    }
-
 pub returns : goal.returns
 returns c =
     let a = c.args in
     let h : a.at < length (bits_of a.s.now) = rw length_bits_of (search rules) in
     record {
-      is = flag_split (tables_of a.book.now a.half) a.d a.at (bits_of a.s.now) c.if-d-eq0.false h (λ e. c.if-get_bits-eq0.false (c.get_bits.ensures ∙ e));
+      is = flag_split (tables_of a.book.now a.half) a.d a.at (bits_of a.s.now) c.if-d-eq0.false h (λ e. let z : c.get_bits.result ≡ 0 = c.get_bits.ensures ∙ e in omega arith);
       within = omega arith;
     }
