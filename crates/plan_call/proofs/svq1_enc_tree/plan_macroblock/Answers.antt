@@ -1,5 +1,5 @@
 -- Refused, or planned. Assumes nothing.
-use mathlib.Core.Path.{◌≡◌, refl, ◌∙◌, sym}
+use mathlib.Core.Path.{◌≡◌, refl}
 use native.Mathlib.Omega.{arith}
 use Rattle.bits.specs.Basics.{Bytes}
 use Rattle.leaf.specs.LeafCall.{BlockIn, block_by, block_refusal}
@@ -17,7 +17,7 @@ pub terms_of-requires : goal.terms_of-requires
 terms_of-requires c =
     let a = c.args in
     let b : BlockIn = block_by a.book.now a.codebook.now a.level a.half a.target.now a.predictor.now a.cap a.skip a.margin in
-    let none : block_refusal b ≡ 0 = sym (c.block_refusal-refusal.ensures a.margin) ∙ c.if-refusal-ne0.false in
+    let none : block_refusal b ≡ 0 = omega (arith, c.block_refusal-refusal.ensures a.margin) in
     let p = block_passes b none in
     omega (arith, p.half)
 
@@ -25,7 +25,7 @@ pub planned-p-requires : goal.planned-p-requires
 planned-p-requires c =
     let a = c.args in
     let b : BlockIn = block_by a.book.now a.codebook.now a.level a.half a.target.now a.predictor.now a.cap a.skip a.margin in
-    let none : block_refusal b ≡ 0 = sym (c.block_refusal-refusal.ensures a.margin) ∙ c.if-refusal-ne0.false in
+    let none : block_refusal b ≡ 0 = omega (arith, c.block_refusal-refusal.ensures a.margin) in
     let p = block_passes b none in
     record {
       ready = record {
@@ -45,7 +45,7 @@ pub returns : goal.returns
 returns c =
     let a = c.args in
     let b : BlockIn = block_by a.book.now a.codebook.now a.level a.half a.target.now a.predictor.now a.cap a.skip a.margin in
-    let none : block_refusal b ≡ 0 = sym (c.block_refusal-refusal.ensures a.margin) ∙ c.if-refusal-ne0.false in
+    let none : block_refusal b ≡ 0 = omega (arith, c.block_refusal-refusal.ensures a.margin) in
     let bt : Bytes a.target.now = λ k. omega (arith, c.type_inv.target k) in
     let bp : Bytes a.predictor.now = λ k. omega (arith, c.type_inv.predictor k) in
     plan_answered b a.lambda bt bp none _ c.terms_of.ensures c.planned-p.result _ c.planned-p.ensures
