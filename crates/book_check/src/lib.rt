@@ -66,6 +66,7 @@ pub fn book_refusal(book: &[u8]) -> u8
 }
 
 // The same of a lent book and codebook.
+#[tactic(auto, using(std::proofs::lemmas::Bool::Decides::nat_tests), unfolding(book::specs::Book::data_refusal))]
 pub fn data_refusal(book: &[u8], codebook: &[u8]) -> u8
     ensures { result ≡ data_refusal book.now codebook.now }
 {

@@ -142,6 +142,7 @@ pub fn house_book() -> [u8; BOOK_BYTES]
 }
 
 // The house book put into a slice of 2,796 bytes; 5 for a slice of another length.
+#[tactic(auto, using(crate::specs::FillLaws::fill_refused))]
 pub fn fill_house_book(out: &mut [u8]) -> u8
     ensures { BookFilled out.old result out.new }
 {

@@ -97,6 +97,7 @@ fn read_digits(t: &[u8], most: u64) -> NumberRead
 }
 
 // A decimal number of at most `most` with no leading zeros.
+#[tactic(auto, using(crate::specs::TextLaws::number_zeros))]
 pub fn read_number(t: &[u8], most: u64) -> NumberRead
     ensures { number_of result ≡ number_up_to most t.now }
 {
