@@ -122,6 +122,7 @@ pub fn candidate_of(
 }
 
 // The later of two candidates where it costs less, or the same with fewer bits; else the earlier.
+#[tactic(auto, using(std::proofs::lemmas::Bool::Decides::nat_tests), unfolding(crate::specs::CandidateNeeds::preferred))]
 pub fn better(lambda: u64, best: MbCandidate, c: MbCandidate) -> MbCandidate
     ensures { result ≡ pick (preferred lambda c best) c best }
 {

@@ -1,4 +1,5 @@
 -- The plan by the motion's half, and over its baseline. Assumes nothing.
+use native.Mathlib.Omega.{arith}
 use mathlib.Core.Path.{ap, ◌∙◌}
 use lib.ListN.{length}
 use Rattle.macroblock.specs.Choice.{plane_terms}
@@ -19,11 +20,11 @@ pub plan-requires : goal.plan-requires
 plan-requires c =
     let s = c in
     let a = s.args in
-    plan_ready (given_by a.canvas a.reference.now a.book.now a.codebook.now) a.raised.now a.k a.target.now s.requires.0 (λ j. (c.shared_slice_known-5-1.given j).fits) (λ j. (c.shared_slice_known-1.given j).fits) a.settings (motion_of a.motion a.vectors) _ _ (c.plane_terms-terms.ensures ∙ ap (plane_terms a.settings.margin) (c.half_of.ensures a.vectors))
+    plan_ready (given_by a.canvas a.reference.now a.book.now a.codebook.now) a.raised.now a.k a.target.now s.requires.0 (λ j. omega (arith, c.type_inv.target j)) (λ j. omega (arith, c.type_inv.reference j)) a.settings (motion_of a.motion a.vectors) _ _ (c.plane_terms-terms.ensures ∙ ap (plane_terms a.settings.margin) (c.half_of.ensures a.vectors))
     (ap length (c.baseline_of.ensures a.book.now a.codebook.now) ∙ length_baseline (given_by a.canvas a.reference.now a.book.now a.codebook.now) a.k (motion_of a.motion a.vectors))
 
 pub returns : goal.returns
 returns c =
     let s = c in
     let a = s.args in
-    found_by (given_by a.canvas a.reference.now a.book.now a.codebook.now) a.raised.now a.k a.target.now s.requires.0 (λ j. (c.shared_slice_known-5-1.given j).fits) (λ j. (c.shared_slice_known-1.given j).fits) a.settings (motion_of a.motion a.vectors) _ _ _ (c.plane_terms-terms.ensures ∙ ap (plane_terms a.settings.margin) (c.half_of.ensures a.vectors)) (c.baseline_of.ensures a.book.now a.codebook.now) c.plan.ensures
+    found_by (given_by a.canvas a.reference.now a.book.now a.codebook.now) a.raised.now a.k a.target.now s.requires.0 (λ j. omega (arith, c.type_inv.target j)) (λ j. omega (arith, c.type_inv.reference j)) a.settings (motion_of a.motion a.vectors) _ _ _ (c.plane_terms-terms.ensures ∙ ap (plane_terms a.settings.margin) (c.half_of.ensures a.vectors)) (c.baseline_of.ensures a.book.now a.codebook.now) c.plan.ensures
