@@ -1,6 +1,6 @@
 -- Laws of the C host's calls: the answers of the calls below, field by field.
 -- Assumes nothing.
-use Rattle.std.specs.Prelude.{ℕ, ◌≡◌, refl, List, [], ◌∷◌}
+use Rattle.std.specs.Prelude.{ℕ, ◌≡◌, refl, List}
 use Rattle.std.proofs.Common.{ap, ◌∙◌}
 use Rattle.bits.specs.Basics.{pick}
 use Rattle.macroblock.specs.Macroblock.{Given}

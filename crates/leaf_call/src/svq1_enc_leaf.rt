@@ -26,6 +26,7 @@ pub struct LeafAnswer {
 }
 
 // Whether 8 passes: a known level and half, blocks of its length, a cap of at most 6, no skip with intra.
+#[tactic(auto, using(std::proofs::lemmas::Bool::Decides::nat_tests), unfolding(crate::specs::LeafAnswer::block_fits))]
 fn block_fits(level: u8, half: u8, target: usize, predictor: usize, cap: u8, skip: bool) -> bool
     ensures { result ≡ block_fits level half target predictor cap skip }
 {

@@ -1,4 +1,6 @@
 // The writer of pictures.
+#![tactic(auto)]
+
 ghost use Rattle.std.specs.Prelude.{◌≡◌, [], ◌∷◌};
 ghost use Rattle.picture.specs.Picture.{shared_by, results_by, plane_by};
 ghost use Rattle.picture.specs.Calls.{PictureWritten};

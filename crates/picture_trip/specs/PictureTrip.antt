@@ -7,7 +7,7 @@ use Rattle.plane.specs.Calls.{PlaneAnswer, PlaneRead}
 use Rattle.claim.specs.RoundTrip.{Returned}
 use Rattle.picture.specs.Picture.{Shared, Results, PlaneIn, plane_given}
 use Rattle.picture.specs.Refusals.{picture_refusal}
-use Rattle.picture.specs.Calls.{PictureAnswer, PictureWritten}
+use Rattle.picture.specs.Calls.{PictureWritten}
 use Rattle.picture_claim.specs.PictureClaim.{PictureClaim}
 
 -- a plane there and back: as it was given, the writer's answer and what it left, the reader's slices, its answer, and what it left in them

@@ -5,7 +5,6 @@ use Rattle.std.proofs.Math.Path.{sym, ap}
 use Rattle.std.proofs.Common.{◌∙◌, eq-eqb}
 use mathlib.Core.List.{List, [], ◌∷◌, map}
 use Prim.Native.Nat.{ℕ, ◌≤◌}
-use Rattle.bits.specs.Basics.{or_else}
 use Rattle.bits.specs.BasicsLaws.{or_next}
 use Rattle.bits.specs.Bits.{bits_of}
 use Rattle.bits.specs.Calls.{start_refusal}
@@ -13,7 +12,7 @@ use Rattle.plan.specs.PlanClaim.{largest_lambda}
 use Rattle.macroblock.specs.Macroblock.{Given}
 use Rattle.macroblock.specs.Choice.{Task}
 use Rattle.plane.specs.Run.{End}
-use Rattle.plane.specs.Plane.{count, Writing}
+use Rattle.plane.specs.Plane.{Writing}
 use Rattle.plane.specs.Refusals.{slices_refusal}
 use Rattle.plane.specs.RefusalsLaws.{results_pass}
 use Rattle.plane.specs.Calls.{PlaneAnswer, PlaneRead, written_answer}

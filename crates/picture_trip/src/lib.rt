@@ -1,4 +1,6 @@
 // A picture written, and its planes read back: what is claimed of a picture, tied to memory.
+#![tactic(auto)]
+
 ghost use Rattle.std.specs.Prelude.{[], ◌∷◌};
 ghost use Rattle.macroblock.specs.MacroblockNeeds.{given_by};
 ghost use Rattle.macroblock.specs.Slices.{slices_by};

@@ -1,4 +1,6 @@
 // The room that always suffices: a writer that is lent so many bytes behind its start bit never answers 22.
+#![tactic(auto)]
+
 ghost use Rattle.std.specs.Prelude.{◌≡◌, ◌+◌, ◌*◌, ◌≤◌, max};
 ghost use Rattle.book.specs.Book.{book_refusal};
 ghost use Rattle.canvas.specs.Canvas.{largest_side, blocks_along};

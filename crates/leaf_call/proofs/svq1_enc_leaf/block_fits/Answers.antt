@@ -2,8 +2,9 @@
 use mathlib.Core.Bool.{Bool, not, ◌&&◌}
 use lib.Dec.{eqb}
 use mathlib.Core.Path.{◌≡◌, ◌∙◌, sym, ap}
+use native.Mathlib.Omega.{arith}
 use Rattle.book.specs.Level.{area}
-use Rattle.leaf_call.specs.LeafAnswerLaws.{no_level, no_half, no_target, no_predictor, no_cap, last_test}
+use Rattle.leaf_call.specs.LeafAnswerLaws.{no_level, no_half, no_target, no_predictor, last_test}
 use Rattle.leaf_call.proofs.svq1_enc_leaf.block_fits.Goals as goal
 
 pub returns-then-level-gt5 : goal.returns-then-level-gt5
@@ -28,22 +29,16 @@ returns-then-predictor-n c =
     let n : c.vector_length-n.result ≡ area a.level = rw c.level_at.ensures at c.vector_length-n.ensures in
     no_predictor a.level a.half a.target a.predictor a.cap a.skip c.if-level-gt5.false c.if-half-gt1.false _ n c.if-target-n.false c.if-predictor-n.true
 
-pub returns-then-cap-gt6 : goal.returns-then-cap-gt6
-returns-then-cap-gt6 c =
-    let a = c.args in
-    let n : c.vector_length-n.result ≡ area a.level = rw c.level_at.ensures at c.vector_length-n.ensures in
-    no_cap a.level a.half a.target a.predictor a.cap a.skip c.if-level-gt5.false c.if-half-gt1.false _ n c.if-target-n.false c.if-predictor-n.false c.if-cap-gt6.true
-
 pub returns-then-skip : goal.returns-then-skip
 returns-then-skip c =
     let a = c.args in
     let n : c.vector_length-n.result ≡ area a.level = rw c.level_at.ensures at c.vector_length-n.ensures in
-    let l = last_test a.level a.half a.target a.predictor a.cap a.skip c.if-level-gt5.false c.if-half-gt1.false _ n c.if-target-n.false c.if-predictor-n.false c.if-cap-gt6.false in
+    let l = last_test a.level a.half a.target a.predictor a.cap a.skip c.if-level-gt5.false c.if-half-gt1.false _ n c.if-target-n.false c.if-predictor-n.false (omega arith) in
     ap (λ (s : Bool). not (s && eqb a.half 0)) (sym c.if-skip.true) ∙ l
 
 pub returns : goal.returns
 returns c =
     let a = c.args in
     let n : c.vector_length-n.result ≡ area a.level = rw c.level_at.ensures at c.vector_length-n.ensures in
-    let l = last_test a.level a.half a.target a.predictor a.cap a.skip c.if-level-gt5.false c.if-half-gt1.false _ n c.if-target-n.false c.if-predictor-n.false c.if-cap-gt6.false in
+    let l = last_test a.level a.half a.target a.predictor a.cap a.skip c.if-level-gt5.false c.if-half-gt1.false _ n c.if-target-n.false c.if-predictor-n.false (omega arith) in
     ap (λ (s : Bool). not (s && eqb a.half 0)) (sym c.if-skip.false) ∙ l
