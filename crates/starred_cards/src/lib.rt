@@ -1,1 +1,2 @@
 // The starred cards.
+#![tactic(auto)]
