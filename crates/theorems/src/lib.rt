@@ -1,1 +1,2 @@
 // The main theorems of this repository (specs/Main.antt).
+#![tactic(auto)]
