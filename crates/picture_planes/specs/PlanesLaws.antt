@@ -16,7 +16,8 @@ use Rattle.picture.specs.Picture.{Shared, Results, PlaneIn, plane_given, canvas_
 use Rattle.picture.specs.Refusals.{plane_refusal, plane_lengths, picture_refusal}
 use Rattle.picture.specs.PictureNeeds.{SmallSides, Intact, NextReady, PlaneThrough, PictureThrough}
 use Rattle.picture.specs.RefusalsLaws.{checks_pass, planes_pass, most_blocks, few_blocks}
-use Rattle.picture.specs.PictureLaws.{done_most, spent_most, handed_on, next_ready, three_through}
+use Rattle.picture.specs.PictureLaws.{done_most, spent_most, handed_on, next_ready}
+use Rattle.picture.proofs.PictureLaws.{three_through}
 
 -- ---- planes that pass
 pub small_sides : (s : Shared) (p : PlaneIn) (bytes start : ℕ) → plane_refusal s bytes start p ≡ 0 → SmallSides p.canvas
