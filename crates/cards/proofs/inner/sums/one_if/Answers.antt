@@ -1,0 +1,10 @@
+-- Equal, or not. Assumes nothing.
+use borrow.Author.Tests.{eq-eqb, ne_eqb}
+use borrow.Author.Rules.{rules}
+use Rattle.cards.proofs.inner.sums.one_if.Goals as goal
+
+pub returns-then-a-b : goal.returns-then-a-b
+returns-then-a-b c = (simp (eq-eqb _ _ c.if-a-b.true), search rules)
+
+pub returns-else-a-b : goal.returns-else-a-b
+returns-else-a-b c = (simp (ne_eqb _ _ c.if-a-b.false), search rules)

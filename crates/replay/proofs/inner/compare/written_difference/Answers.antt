@@ -1,0 +1,7 @@
+-- One test after the other. Assumes nothing.
+use Rattle.replay.specs.Compare.{written_differ}
+use Rattle.replay.proofs.inner.compare.written_difference.Goals as goal
+
+pub returns : goal.returns
+unfolding written_differ
+returns c = rw (c.judged.ensures, c.judged-done.ensures, c.judged-next.ensures, c.judged-bits.ensures)
