@@ -241,7 +241,8 @@ struct cabunlis_answer {
  * Time grows with the number of macroblocks, up to a radius of 32 with the radius (by half from 8 to 32), and with how little of
  * the picture is known from the one before: where it is all noise, the worst measured, a macroblock takes two to three times as
  * long as in a drawn scene. On one core of a server, in pictures of three planes a second at radius 8 and 32: luma of 176 x 144
- * drawn 134 and 97, noise 42 to 50 and 35 to 40; of 352 x 288 drawn 36 and 24, noise 13 and 10.
+ * drawn 134 and 97, noise 42 to 50 and 35 to 40; of 352 x 288 drawn 36 and 24, noise 13 and 10. These were taken of the library
+ * that an older kit built.
  *
  * Leaves: in `out` the bits of the macroblocks done, zeros behind them to the end of their last byte, everything else as it was,
  * the bits before `start` too (where none is done, every byte); in `recon` their samples as a reader shows them; in `vx` and `vy`
