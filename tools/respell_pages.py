@@ -31,7 +31,8 @@ def other(met):
         return word
     joined = "_".join(snake(part) for part in word.split("-"))
     parts = word.split("-")
-    options = [joined, joined + "_lem"]
+    # a word with a dash was a lemma
+    options = [joined + "_lem", joined] if "-" in word else [joined, joined + "_lem"]
     for i in range(1, len(parts)):
         options.append("_".join(map(snake, parts[:i])) + "-" + "_".join(map(snake, parts[i:])))
     for new in options:
