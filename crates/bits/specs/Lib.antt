@@ -9,6 +9,7 @@ pub mod BitsLaws
 pub mod ReadLaws
 pub mod BitNeeds
 pub mod BitNeedsLaws
+pub mod Refusals
 pub mod Calls
 pub mod CallsLaws
 pub mod DifferenceLaws

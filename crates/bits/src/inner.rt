@@ -5,7 +5,13 @@ ghost use Rattle.std.proofs.lemmas.List.Edits.{sets};
 ghost use Rattle.bits.specs.Basics.{signed_of};
 ghost use Rattle.bits.specs.Bits.{msb, val_of, bits_of, put_bits};
 ghost use Rattle.bits.specs.BitNeeds.{Fits, Wrote};
+ghost use Rattle.bits.specs.Refusals.{number_of, refused_by};
 ghost use Rattle.bits.specs.Calls.{start_refusal, room_refusal, bits_refusal};
+
+use super::refusal::Refusal;
+
+// The most bytes of a bit string: 2^28.
+const MOST_BYTES: usize = 1 << 28;
 
 // The byte b with its low k bits replaced by v shifted up by z.
 fn byte_with(b: u8, k: u32, z: u32, v: u32) -> u8
@@ -26,12 +32,6 @@ fn put_part(out: &mut [u8], at: usize, n: u32, v: u32)
     out[q] = byte_with(out[q], n + z, z, v);
 }
 
-fn lesser(a: u32, b: u32) -> u32
-    ensures { result ≡ min a b }
-{
-    if a < b { a } else { b }
-}
-
 // The n bits of `value` from bit `down` up, bit 0 being the lowest.
 fn part_of(value: u32, down: u32, n: u32) -> u32
     requires { (down < 32) × (n ≤ 8) }
@@ -49,7 +49,7 @@ pub fn put_bits(out: &mut [u8], at: usize, width: u32, value: u32) -> usize
     let mut left = width;
     while 0 < left {
         let room = 8 - (p % 8) as u32;
-        let n = lesser(left, room);
+        let n = left.min(room);
         let part = part_of(value, left - n, n);
         put_part(out, p, n, part);
         p += n as usize;
@@ -68,7 +68,7 @@ pub fn get_bits(s: &[u8], at: usize, n: u32) -> u32
     let mut left = n;
     while 0 < left {
         let room = 8 - (p % 8) as u32;
-        let k = lesser(left, room);
+        let k = left.min(room);
         let q = p / 8;
         let part = part_of(s[q] as u32, room - k, k);
         acc = joined(acc, k, part);
@@ -86,40 +86,35 @@ fn joined(acc: u32, k: u32, part: u32) -> u32
     (acc << k) + part
 }
 
-// 21 where a bit string is too long or the start bit lies beyond it, else 0.
-pub fn start_refusal(bytes: usize, at: usize) -> u8
-    ensures { result ≡ start_refusal bytes at }
+// Refuses a bit string that is too long, or a start bit that lies beyond it.
+pub fn check_start(bytes: usize, at: usize) -> Result<(), Refusal>
+    ensures { refused_by result ≡ start_refusal bytes at }
 {
-    if 268435456 < bytes {
-        return 21;
+    if MOST_BYTES < bytes || 8 * bytes < at {
+        return Err(Refusal::StartBit);
     }
-    if 8 * bytes < at {
-        return 21;
-    }
-    0
+    Ok(())
 }
 
-// The same, and `short` where fewer than `width` bits are left.
-pub fn room_refusal(bytes: usize, at: usize, width: u32, short: u8) -> u8
-    ensures { result ≡ room_refusal bytes at width short }
+// The same, and answers `short` where fewer than `width` bits are left.
+pub fn check_room(bytes: usize, at: usize, width: u32, short: Refusal) -> Result<(), Refusal>
+    ensures { refused_by result ≡ room_refusal bytes at width (number_of short) }
 {
-    if start_refusal(bytes, at) != 0 {
-        return 21;
-    }
+    check_start(bytes, at)?;
     if 8 * bytes - at < width as usize {
-        return short;
+        return Err(short);
     }
-    0
+    Ok(())
 }
 
-// The same, and before it 6 for a width above 32.
-pub fn bits_refusal(bytes: usize, at: usize, width: u32, short: u8) -> u8
-    ensures { result ≡ bits_refusal bytes at width short }
+// The same, and before it refuses a width above 32.
+pub fn check_bits(bytes: usize, at: usize, width: u32, short: Refusal) -> Result<(), Refusal>
+    ensures { refused_by result ≡ bits_refusal bytes at width (number_of short) }
 {
     if 32 < width {
-        return 6;
+        return Err(Refusal::CodeWidth);
     }
-    room_refusal(bytes, at, width, short)
+    check_room(bytes, at, width, short)
 }
 
 // The run `xs` into `out` from place `at` on.
@@ -127,11 +122,8 @@ pub fn put_row(out: &mut [u8], at: usize, xs: &[u8])
     requires { at + length xs.now ≤ length out.old }
     ensures { out.new ≡ sets out.old at xs.now }
 {
-    let mut i = 0;
-    while i < xs.len() {
-        out[at + i] = xs[i];
-        i += 1;
-    }
+    let end = at + xs.len();
+    out[at..end].copy_from_slice(xs);
 }
 
 // The number that a two's complement byte stands for.

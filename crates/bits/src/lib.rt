@@ -2,5 +2,6 @@
 #![tactic(auto)]
 
 pub mod inner;
+pub mod refusal;
 pub mod svq1_enc;
 pub mod svq1_vlc;

@@ -4,21 +4,12 @@ ghost use Rattle.bits.specs.Bits.{msb};
 ghost use Rattle.bits.specs.Calls.{bits_refusal, Put};
 
 use super::inner;
+use super::refusal::Refusal;
 
-// The bit behind what was written, or the number of a refusal.
-#[derive(Drop)]
-pub enum Pushed {
-    Next(usize),
-    Refused(u8),
-}
-
-// The low `width` bits of `value`, from bit `at` on.
-pub fn push_bits(out: &mut [u8], at: usize, width: u32, value: u32) -> Pushed
+// The low `width` bits of `value`, from bit `at` on; the answer is the bit behind them.
+pub fn push_bits(out: &mut [u8], at: usize, width: u32, value: u32) -> Result<usize, Refusal>
     ensures { Put (bits_refusal (length out.old) at width 22) out.old at (msb width value) result out.new }
 {
-    let refusal = inner::bits_refusal(out.len(), at, width, 22);
-    if refusal != 0 {
-        return Pushed::Refused(refusal);
-    }
-    Pushed::Next(inner::put_bits(out, at, width, value))
+    inner::check_bits(out.len(), at, width, Refusal::NoRoom)?;
+    Ok(inner::put_bits(out, at, width, value))
 }

@@ -1,23 +1,25 @@
 // Numbers read from a lent slice.
 ghost use Rattle.std.specs.Prelude.{◌≡◌};
-ghost use Rattle.bits.specs.Calls.{bits_answer, bits_at};
+ghost use Rattle.bits.specs.Refusals.{answer_of};
+ghost use Rattle.bits.specs.Calls.{bits_at};
 
 use super::inner;
+use super::refusal::Refusal;
 
-// The number that was read and the bit behind it, or the number of a refusal.
-#[derive(Drop)]
-pub enum BitsRead {
-    Bits(u32, usize),
-    Refused(u8),
+// A number that was read, and the bit behind it.
+#[derive(Clone, Copy)]
+pub struct BitsRead {
+    pub value: u32,
+    pub next: usize,
 }
 
 // The `width` bits from bit `at` on, as a number.
-pub fn read_bits(s: &[u8], at: usize, width: u32) -> BitsRead
-    ensures { bits_answer result ≡ bits_at s.now at width }
+pub fn read_bits(s: &[u8], at: usize, width: u32) -> Result<BitsRead, Refusal>
+    ensures { answer_of result ≡ bits_at s.now at width }
 {
-    let refusal = inner::bits_refusal(s.len(), at, width, 24);
-    if refusal != 0 {
-        return BitsRead::Refused(refusal);
-    }
-    BitsRead::Bits(inner::get_bits(s, at, width), at + width as usize)
+    inner::check_bits(s.len(), at, width, Refusal::BitsEnd)?;
+    Ok(BitsRead {
+        value: inner::get_bits(s, at, width),
+        next: at + width as usize,
+    })
 }

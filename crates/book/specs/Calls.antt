@@ -1,23 +1,21 @@
 -- What this crate's calls answer and leave: a level's parts, a part of a lent stage family (document 01, `svq1_blocktree.rs`, "The shape of some places", refusal 5).
-use Rattle.std.specs.Prelude.{ℕ, zero, suc, List, [], eqb, length}
-use Rattle.std.proofs.Math.Option.{Option, some, none}
+use Rattle.std.specs.Prelude.{ℕ, zero, suc, List, [], eqb, length, Option, Some, None}
 use Rattle.bits.specs.Basics.{pick}
 use Rattle.book.specs.Level.{level_number}
 use Rattle.book.specs.Book.{stage_table}
-use Rattle.book.specs.declared.svq1_blocktree.Subdivision.{Subdivision}
-use Rattle.book.specs.declared.svq1_blocktree.Subdivision.TheVariants.{Parts, Whole}
+use Rattle.book.specs.declared.svq1_blocktree.Svq1Level.{Svq1Level}
 use Rattle.book.specs.declared.svq1_vlc.Svq1Half.{Svq1Half}
 use Rattle.book.specs.declared.svq1_vlc.Svq1Half.TheVariants.{Intra, Inter}
 
--- the number of the level of a block's two parts, for each case of the answer's enum; none for a block that is not split
-abbrev pub parts_of : Subdivision → Option ℕ
-parts_of (Parts l) = some (level_number l)
-parts_of Whole = none
+-- the number of the level of a block's two parts; none for a block that is not split
+abbrev pub parts_of : Option Svq1Level → Option ℕ
+parts_of (Some l) = Some (level_number l)
+parts_of None = None
 
 -- a block's two parts are one level down; L0 has none
 abbrev pub parts_level : ℕ → Option ℕ
-parts_level zero = none
-parts_level (suc d) = some d
+parts_level zero = None
+parts_level (suc d) = Some d
 
 -- of two lent stage families the one that the half names
 abbrev pub lent_family : Svq1Half → List ℕ → List ℕ → List ℕ

@@ -57,53 +57,32 @@ pub fn vector_table(book: &[u8]) -> &[u8]
     &book[MODE_END..VECTOR_END]
 }
 
-// Those of the means, for each half.
-pub fn intra_mean_table(book: &[u8]) -> &[u8]
-    requires { length book.now ≡ book_bytes }
-    ensures { result.now ≡ mean_table Svq1Half.Intra book.now }
-{
-    &book[VECTOR_END..INTRA_MEAN_END]
-}
-
-pub fn inter_mean_table(book: &[u8]) -> &[u8]
-    requires { length book.now ≡ book_bytes }
-    ensures { result.now ≡ mean_table Svq1Half.Inter book.now }
-{
-    &book[INTRA_MEAN_END..INTER_MEAN_END]
-}
-
-// Those of the stage counts at all levels, for each half.
-pub fn intra_stage_family(book: &[u8]) -> &[u8]
-    requires { length book.now ≡ book_bytes }
-    ensures { result.now ≡ stage_family Svq1Half.Intra book.now }
-{
-    &book[INTER_MEAN_END..INTRA_STAGE_END]
-}
-
-pub fn inter_stage_family(book: &[u8]) -> &[u8]
-    requires { length book.now ≡ book_bytes }
-    ensures { result.now ≡ stage_family Svq1Half.Inter book.now }
-{
-    &book[INTRA_STAGE_END..BOOK_BYTES]
-}
-
-// The mean table of a half.
+// Those of a half's means.
 pub fn mean_table(book: &[u8], half: Svq1Half) -> &[u8]
     requires { length book.now ≡ book_bytes }
     ensures { result.now ≡ mean_table half book.now }
 {
     match half {
-        Svq1Half::Intra => intra_mean_table(book),
-        Svq1Half::Inter => inter_mean_table(book),
+        Svq1Half::Intra => &book[VECTOR_END..INTRA_MEAN_END],
+        Svq1Half::Inter => &book[INTRA_MEAN_END..INTER_MEAN_END],
     }
 }
 
-// The stage table of a half and a level.
+// Those of a half's stage counts at all levels.
+pub fn stage_family(book: &[u8], half: Svq1Half) -> &[u8]
+    requires { length book.now ≡ book_bytes }
+    ensures { result.now ≡ stage_family half book.now }
+{
+    match half {
+        Svq1Half::Intra => &book[INTER_MEAN_END..INTRA_STAGE_END],
+        Svq1Half::Inter => &book[INTRA_STAGE_END..BOOK_BYTES],
+    }
+}
+
+// Those of a half's stage counts at a level.
 pub fn stage_table(book: &[u8], half: Svq1Half, level: Svq1Level) -> &[u8]
     requires { length book.now ≡ book_bytes }
     ensures { result.now ≡ stage_table (level_number level) (stage_family half book.now) }
 {
-    let intra = intra_stage_family(book);
-    let inter = inter_stage_family(book);
-    level.stage_table(intra, inter, half)
+    level.family_part(stage_family(book, half))
 }

@@ -4,7 +4,7 @@ ghost use Rattle.book.specs.Calls.{parts_of, parts_level};
 ghost use Rattle.book.specs.Level.{level_number, width, height, area};
 
 // The six block sizes of a macroblock's tree, from 4×2 samples to 16×16.
-#[derive(Clone, Copy)]
+#[derive(Clone, Copy, Debug, PartialEq, Eq)]
 pub enum Svq1Level {
     L0,
     L1,
@@ -21,25 +21,11 @@ pub struct BlockDims {
     pub height: usize,
 }
 
-// The level of a block's two parts, or none: an L0 block is not split.
-#[derive(Clone, Copy)]
-pub enum Subdivision {
-    Parts(Svq1Level),
-    Whole,
-}
-
 impl Svq1Level {
     pub fn number(self) -> usize
         ensures { (result ≡ level_number self) × (result ≤ 5) }
     {
-        match self {
-            Svq1Level::L0 => 0,
-            Svq1Level::L1 => 1,
-            Svq1Level::L2 => 2,
-            Svq1Level::L3 => 3,
-            Svq1Level::L4 => 4,
-            Svq1Level::L5 => 5,
-        }
+        self as usize
     }
 
     pub fn block_dims(self) -> BlockDims
@@ -87,16 +73,17 @@ impl Svq1Level {
         }
     }
 
-    pub fn subdivide(self) -> Subdivision
+    // The level of a block's two parts; an L0 block is not split.
+    pub fn subdivide(self) -> Option<Svq1Level>
         ensures { parts_of result ≡ parts_level (level_number self) }
     {
         match self {
-            Svq1Level::L0 => Subdivision::Whole,
-            Svq1Level::L1 => Subdivision::Parts(Svq1Level::L0),
-            Svq1Level::L2 => Subdivision::Parts(Svq1Level::L1),
-            Svq1Level::L3 => Subdivision::Parts(Svq1Level::L2),
-            Svq1Level::L4 => Subdivision::Parts(Svq1Level::L3),
-            Svq1Level::L5 => Subdivision::Parts(Svq1Level::L4),
+            Svq1Level::L0 => None,
+            Svq1Level::L1 => Some(Svq1Level::L0),
+            Svq1Level::L2 => Some(Svq1Level::L1),
+            Svq1Level::L3 => Some(Svq1Level::L2),
+            Svq1Level::L4 => Some(Svq1Level::L3),
+            Svq1Level::L5 => Some(Svq1Level::L4),
         }
     }
 }

@@ -6,7 +6,7 @@ ghost use Rattle.book.specs.Calls.{lent_family, family_part};
 use super::svq1_blocktree::Svq1Level;
 
 // Which half of a family of tables or codebook pages a block uses.
-#[derive(Clone, Copy)]
+#[derive(Clone, Copy, Debug, PartialEq, Eq)]
 pub enum Svq1Half {
     Intra,
     Inter,

@@ -1,6 +1,5 @@
 -- A book file: its text, its lines, what refuses it and the book that it holds (document 01, "The book", refusals 5, 6, 7; document 02, §2, refusals 20, 30).
-use Rattle.std.specs.Prelude.{ℕ, zero, suc, ◌+◌, ◌/◌, ◌%◌, Bool, true, ◌&&◌, List, [], ◌∷◌, ◌++◌, eqb, ltb}
-use Rattle.std.proofs.Math.Option.{Option, none, some}
+use Rattle.std.specs.Prelude.{ℕ, zero, suc, ◌+◌, ◌/◌, ◌%◌, Bool, true, ◌&&◌, List, [], ◌∷◌, ◌++◌, eqb, ltb, Option, None, Some}
 use Rattle.bits.specs.Basics.{pick, first_of, unless}
 use Rattle.code_tables.specs.Codes.{code_len, code_val}
 use Rattle.text.specs.Text.{ascii, decimal, number_up_to, line_of, lines_of, fields_of, same}
@@ -56,46 +55,46 @@ pub record Line : Type 0 where
 
 -- the entry that a table's name and a position mean; none for another name or a position past the table
 unfoldable pub entry_named : List Table → List ℕ → ℕ → Option ℕ
-entry_named [] name p = none
-entry_named (t ∷ ts) name p = pick (same t.name name) (pick (ltb p t.size) (some (t.from + p)) none) (entry_named ts name p)
+entry_named [] name p = None
+entry_named (t ∷ ts) name p = pick (same t.name name) (pick (ltb p t.size) (Some (t.from + p)) None) (entry_named ts name p)
 
 -- a field of a line: a decimal number up to 65,535
 abbrev pub line_number : List ℕ → Option ℕ
 line_number = number_up_to 65535
 
 abbrev pub line_at : Option ℕ → Option ℕ → Option ℕ → Option Line
-line_at none n v = none
-line_at (some e) none v = none
-line_at (some e) (some n) none = none
-line_at (some e) (some n) (some v) = some (record { entry = e; long = n; value = v })
+line_at None n v = None
+line_at (Some e) None v = None
+line_at (Some e) (Some n) None = None
+line_at (Some e) (Some n) (Some v) = Some (record { entry = e; long = n; value = v })
 
 -- the entry of a name and a position field
 abbrev pub entry_field : List ℕ → Option ℕ → Option ℕ
-entry_field name none = none
-entry_field name (some p) = entry_named file_tables name p
+entry_field name None = None
+entry_field name (Some p) = entry_named file_tables name p
 
 -- table, position, length, code; none where a line has another form
 unfoldable pub line_read : List (List ℕ) → Option Line
-line_read [] = none
-line_read (t ∷ []) = none
-line_read (t ∷ (p ∷ [])) = none
-line_read (t ∷ (p ∷ (n ∷ []))) = none
+line_read [] = None
+line_read (t ∷ []) = None
+line_read (t ∷ (p ∷ [])) = None
+line_read (t ∷ (p ∷ (n ∷ []))) = None
 line_read (t ∷ (p ∷ (n ∷ (v ∷ [])))) = line_at (entry_field t (line_number p)) (line_number n) (line_number v)
-line_read (t ∷ (p ∷ (n ∷ (v ∷ (x ∷ xs))))) = none
+line_read (t ∷ (p ∷ (n ∷ (v ∷ (x ∷ xs))))) = None
 
 -- all lines, none where one of them is malformed
 abbrev pub onto_lines : Option Line → Option (List Line) → Option (List Line)
-onto_lines none ls = none
-onto_lines (some l) none = none
-onto_lines (some l) (some ls) = some (l ∷ ls)
+onto_lines None ls = None
+onto_lines (Some l) None = None
+onto_lines (Some l) (Some ls) = Some (l ∷ ls)
 
 unfoldable pub lines_read : List (List ℕ) → Option (List Line)
-lines_read [] = some []
+lines_read [] = Some []
 lines_read (t ∷ ts) = onto_lines (line_read (fields_of t)) (lines_read ts)
 
 abbrev pub of_lines : Option (List (List ℕ)) → Option (List Line)
-of_lines none = none
-of_lines (some ls) = lines_read ls
+of_lines None = None
+of_lines (Some ls) = lines_read ls
 
 unfoldable pub file_lines : List ℕ → Option (List Line)
 file_lines file = of_lines (lines_of file)
@@ -125,15 +124,15 @@ unfoldable pub lines_refusal : List Line → ℕ
 lines_refusal ls = first_of (unless (once_each book_entries 0 ls) 5 ∷ unless (in_order 0 ls) 30 ∷ codes_refusal (book_of ls) ∷ [])
 
 abbrev pub refusal_read : Option (List Line) → ℕ
-refusal_read none = 5
-refusal_read (some ls) = lines_refusal ls
+refusal_read None = 5
+refusal_read (Some ls) = lines_refusal ls
 
 unfoldable pub file_refusal : List ℕ → ℕ
 file_refusal file = refusal_read (file_lines file)
 
 abbrev pub book_read : Option (List Line) → List ℕ
-book_read none = []
-book_read (some ls) = book_of ls
+book_read None = []
+book_read (Some ls) = book_of ls
 
 -- the book that an accepted file holds
 unfoldable pub file_book : List ℕ → List ℕ

@@ -1,38 +1,27 @@
 -- Forms of the definitions of BookFile that reading line after line follows (document 01, "The book", refusals 5, 6, 7; document 02, §2, refusal 30).
-use Rattle.std.specs.Prelude.{ℕ, suc, ◌*◌, ◌/◌, ◌%◌, min, ◌≡◌, Bool, true, ◌&&◌, List, [], ◌∷◌, eqb, length, get_or, set}
-use Rattle.std.proofs.Math.Option.{Option, none, some}
+use Rattle.std.specs.Prelude.{ℕ, suc, ◌*◌, ◌/◌, ◌%◌, min, ◌≡◌, Bool, true, ◌&&◌, List, [], ◌∷◌, eqb, length, get_or, set, Option, None, Some}
 use Rattle.bits.specs.Basics.{pick, every, or_else, unless}
 use Rattle.text.specs.WritingForms.{put_text}
 use Rattle.book.specs.Book.{book_entries, book_bytes}
 use Rattle.book_file.specs.BookFile.{Line, line_number, line_at, entry_field, file_refusal, file_book}
-use Rattle.book_file.specs.declared.EntryRead.{EntryRead}
-use Rattle.book_file.specs.declared.EntryRead.TheVariants.{At, NoEntry}
-use Rattle.book_file.specs.declared.LineRead.{LineRead}
-use Rattle.book_file.specs.declared.LineRead.TheVariants.{Entry, Malformed}
-use Rattle.book_file.specs.declared.LinesRead.{LinesRead}
-use Rattle.book_file.specs.declared.LinesRead.TheVariants.{Whole, Refused}
+use Rattle.book_file.specs.declared.FileEntry.{FileEntry}
 
 -- ---- one line
--- what the answer of looking a table's position up says
-abbrev pub entry_told : EntryRead → Option ℕ
-entry_told (At e) = some e
-entry_told NoEntry = none
-
 -- what the answer of reading a line says
-abbrev pub line_told : LineRead → Option Line
-line_told (Entry e n v) = some (record { entry = e; long = n; value = v })
-line_told Malformed = none
+abbrev pub line_told : Option FileEntry → Option Line
+line_told (Some f) = Some (record { entry = f.entry; long = f.long; value = f.value })
+line_told None = None
 
 -- an entry and the fields behind it: a length and a code, and no more
 unfoldable pub file_code_at : Option ℕ → List (List ℕ) → Option Line
-file_code_at e [] = none
-file_code_at e (n ∷ []) = none
+file_code_at e [] = None
+file_code_at e (n ∷ []) = None
 file_code_at e (n ∷ (v ∷ [])) = line_at e (line_number n) (line_number v)
-file_code_at e (n ∷ (v ∷ (x ∷ xs))) = none
+file_code_at e (n ∷ (v ∷ (x ∷ xs))) = None
 
 -- a table's name and the fields behind it
 unfoldable pub place_at : List ℕ → List (List ℕ) → Option Line
-place_at t [] = none
+place_at t [] = None
 place_at t (p ∷ fs) = file_code_at (entry_field t (line_number p)) fs
 
 -- ---- the lines one after the other
@@ -65,17 +54,17 @@ kept k l s =
 
 -- what is left by lines that have k others before them; none at the first that speaks of an entry a second time
 unfoldable pub scan_lines : ℕ → List Line → BookHeld → Option BookHeld
-scan_lines k [] s = some s
-scan_lines k (l ∷ ls) s = pick (eqb (get_or s.met l.entry 0) 0) (scan_lines (suc k) ls (kept k l s)) none
+scan_lines k [] s = Some s
+scan_lines k (l ∷ ls) s = pick (eqb (get_or s.met l.entry 0) 0) (scan_lines (suc k) ls (kept k l s)) None
 
 abbrev pub scanned : ℕ → Option (List Line) → BookHeld → Option BookHeld
-scanned k none s = none
-scanned k (some ls) s = scan_lines k ls s
+scanned k None s = None
+scanned k (Some ls) s = scan_lines k ls s
 
 -- what the answer of reading all lines says, with the bytes and marks at exit
-abbrev pub held_told : LinesRead → List ℕ → List ℕ → Option BookHeld
-held_told (Whole ordered) book met = some (record { book = book; met = met; ordered = ordered })
-held_told Refused book met = none
+abbrev pub held_told : Option Bool → List ℕ → List ℕ → Option BookHeld
+held_told (Some ordered) book met = Some (record { book = book; met = met; ordered = ordered })
+held_told None book met = None
 
 -- a mark for each entry, none of them set
 pub record Unmet (met : List ℕ) : Type 0 where

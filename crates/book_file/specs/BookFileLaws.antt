@@ -1,14 +1,14 @@
 -- Laws of book files: a book has one file, it is read as that book and refused as it is, and nothing else is accepted. Assumes nothing.
 use Prim.Native.Nat.{ℕ, zero, suc, ◌+◌, ◌*◌, ◌/◌, ◌%◌, ◌^◌, ◌≤◌}
-use Rattle.std.specs.Prelude.{◌≡◌, refl, true, false, ◌&&◌, List, [], ◌∷◌, leb, ltb, length, take}
+use Rattle.std.specs.Prelude.{◌≡◌, refl, true, false, ◌&&◌, List, [], ◌∷◌, leb, ltb, length, take, Option, None, Some, Result}
 use Rattle.std.proofs.Math.Path.{sym, ap}
 use Rattle.std.proofs.Common.{◌∙◌, arith, take_at, leb-true}
-use Rattle.std.proofs.Math.Option.{Option, none, some}
 use Rattle.bits.specs.Basics.{All, Bytes, unless, values_from}
 use Rattle.bits.specs.BasicsLaws.{first-none, unless-none, both_true, length_values}
 use Rattle.code_tables.specs.Codes.{good_entry, good_table}
-use Rattle.text.specs.WritingForms.{put_text, TextWritten}
-use Rattle.text.specs.declared.Written.{Written}
+use Rattle.text.specs.WritingForms.{put_text, bytes_written, TextWritten}
+use Rattle.bits.specs.declared.refusal.Refusal.{Refusal}
+use Rattle.text.specs.PutLaws.{written_told}
 use Rattle.book.specs.Book.{book_entries, book_bytes, codes_refusal, book_refusal}
 use Rattle.book.specs.BookLaws.{good_book}
 use Rattle.book_file.specs.BookFile.{Line, book_file, write_file_refusal, file_lines, once_each, in_order, book_of, lines_refusal, refusal_read, file_refusal, file_book}
@@ -35,7 +35,7 @@ module _ (book : List ℕ) (bytes : Bytes book) where
     values_fit n (suc e) (omega arith),
   )
 
-  filed_lines : file_lines (book_file book) ≡ some (book_lines book)
+  filed_lines : file_lines (book_file book) ≡ Some (book_lines book)
   filed_lines = ap file_lines (file_lines_lem book) ∙ file_back (book_lines book) (values_fit book_entries 0 (omega arith))
 
   module _ (size : length book ≡ book_bytes) where
@@ -65,14 +65,14 @@ pub filed : (book : List ℕ) → Bytes book → length book ≡ book_bytes → 
 filed book bytes size = record { refused = filed_refused book bytes size; holds = filed_read book bytes size; long = file_length_lem book; most = file_most book bytes }
 
 -- what a call has written is read as the book
-pub written_read : (book out : List ℕ) (r : Written) (left : List ℕ) → Bytes book → write_file_refusal book (length out) ≡ 0
-    → TextWritten (write_file_refusal book (length out)) (book_file book) out r left → (file_refusal (take r.bytes left) ≡ 0) × (file_book (take r.bytes left) ≡ book)
+pub written_read : (book out : List ℕ) (r : Result ℕ Refusal) (left : List ℕ) → Bytes book → write_file_refusal book (length out) ≡ 0
+    → TextWritten (write_file_refusal book (length out)) (book_file book) out r left → (file_refusal (take (bytes_written r) left) ≡ 0) × (file_book (take (bytes_written r) left) ≡ book)
 unfolding write_file_refusal put_text
 written_read book out r left bytes z w =
     let passes : book_refusal book ≡ 0 = (first-none _ z).0 in
     let f = filed book bytes (good_book book passes).size in
-    let long : r.bytes ≡ length (book_file book) = ap (λ (x : Written). x.bytes) w.answer ∙ rw z in
-    let text : take r.bytes left ≡ book_file book = rw (long, w.left, z) (take_at (book_file book) _ (length (book_file book)) refl) in
+    let long : bytes_written r ≡ length (book_file book) = (written_told _ _ _ _ _ w).1 ∙ rw z in
+    let text : take (bytes_written r) left ≡ book_file book = rw (long, w.left, z) (take_at (book_file book) _ (length (book_file book)) refl) in
     rw text (f.refused ∙ passes, f.holds)
 
 -- a book's lines, each once, in another order
@@ -123,8 +123,8 @@ unfolding file_refusal file_book
 accepted file passes = go (file_lines file) refl (sym passes)
   where
     go : (o : Option (List Line)) → file_lines file ≡ o → 0 ≡ refusal_read (file_lines file) → FileAccepted file
-    go none q z = absurd (omega (arith, rw q at z))
-    go (some ls) q z =
+    go None q z = absurd (omega (arith, rw q at z))
+    go (Some ls) q z =
         let fit = file_fits file ls q in
         let fine : lines_refusal ls ≡ 0 = sym (rw q at z) in
         record {

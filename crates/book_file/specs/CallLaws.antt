@@ -1,11 +1,13 @@
 -- Laws of a whole book file: what a scan leaves decides the refusals, and holds the book. Assumes nothing.
-use Rattle.std.specs.Prelude.{ℕ, zero, suc, ◌+◌, ◌<◌, ◌≡◌, Bool, true, false, List, [], ◌∷◌, eqb, length, get_or, replicate}
+use Rattle.std.specs.Prelude.{ℕ, zero, suc, ◌+◌, ◌<◌, ◌≡◌, Bool, true, false, List, [], ◌∷◌, eqb, length, get_or, replicate, Option, None, Some}
 use Rattle.std.proofs.Math.Path.{refl, sym}
 use Rattle.std.proofs.Common.{ap, ◌∙◌, arith}
-use Rattle.std.proofs.Math.Option.{Option, none, some}
 use Rattle.std.proofs.lemmas.List.{length-replicate}
 use borrow.Author.Tests.{eq-eqb, ne_eqb}
 use Rattle.bits.specs.Basics.{All, unless}
+use Rattle.bits.specs.declared.refusal.Refusal.{Refusal}
+use Rattle.bits.specs.Refusals.{number_of}
+use Rattle.bits.specs.CallsLaws.{refusal_met}
 use Rattle.bits.specs.BasicsLaws.{or_next, first_met, first_passed, first_last}
 use Rattle.text.specs.TextLaws.{none_some}
 use Rattle.text.specs.PutLaws.{put_over}
@@ -58,7 +60,7 @@ unmet_at_first met e = record { size = rw e (length-replicate {A = ℕ} book_ent
 
 module _ (ls : List Line) (book met : List ℕ) (fresh : Unmet met) where
   -- a line doubled
-  stopped : scan_lines 0 ls (begun book met) ≡ none → lines_refusal ls ≡ 5
+  stopped : scan_lines 0 ls (begun book met) ≡ None → lines_refusal ls ≡ 5
   stopped q = go (once_each book_entries 0 ls) refl
     where
       d : Doubled met ls
@@ -68,7 +70,7 @@ module _ (ls : List Line) (book met : List ℕ) (fresh : Unmet met) where
       go true e = absurd (omega (arith, d.twice, d.below, fresh.size, fresh.zeros d.entry, one_line_lem ls e d.entry (omega (arith, d.below, fresh.size))))
       go false e = lines_missed ls e
 
-  module _ (t : BookHeld) (q : scan_lines 0 ls (begun book met) ≡ some t) where
+  module _ (t : BookHeld) (q : scan_lines 0 ls (begun book met) ≡ Some t) where
     -- each entry has one line where each is marked at the end
     scan_once : once_each book_entries 0 ls ≡ all_met t.met
     scan_once =
@@ -106,41 +108,41 @@ module _ (ls : List Line) (book met : List ℕ) (fresh : Unmet met) where
 -- ---- of a file
 module _ (file book met : List ℕ) (fresh : Unmet met) where
   -- a line malformed or doubled
-  pub file_stopped : scanned 0 (file_lines file) (begun book met) ≡ none → file_refusal file ≡ 5
+  pub file_stopped : scanned 0 (file_lines file) (begun book met) ≡ None → file_refusal file ≡ 5
   unfolding file_refusal
   file_stopped = go (file_lines file)
     where
-      go : (o : Option (List Line)) → scanned 0 o (begun book met) ≡ none → refusal_read o ≡ 5
-      go none q = refl
-      go (some ls) q = stopped ls book met fresh q
+      go : (o : Option (List Line)) → scanned 0 o (begun book met) ≡ None → refusal_read o ≡ 5
+      go None q = refl
+      go (Some ls) q = stopped ls book met fresh q
 
-  module _ (t : BookHeld) (q : scanned 0 (file_lines file) (begun book met) ≡ some t) where
+  module _ (t : BookHeld) (q : scanned 0 (file_lines file) (begun book met) ≡ Some t) where
     -- a line missing
     pub file_missing : all_met t.met ≡ false → file_refusal file ≡ 5
     unfolding file_refusal
     file_missing m = go (file_lines file) q
       where
-        go : (o : Option (List Line)) → scanned 0 o (begun book met) ≡ some t → refusal_read o ≡ 5
-        go none p = refl
-        go (some ls) p = lines_missed ls (scan_once ls book met fresh t p ∙ m)
+        go : (o : Option (List Line)) → scanned 0 o (begun book met) ≡ Some t → refusal_read o ≡ 5
+        go None p = refl
+        go (Some ls) p = lines_missed ls (scan_once ls book met fresh t p ∙ m)
 
     -- another order
     pub file_moved : all_met t.met ≡ true → t.ordered ≡ false → file_refusal file ≡ 30
     unfolding file_refusal
     file_moved m o = go (file_lines file) q
       where
-        go : (p : Option (List Line)) → scanned 0 p (begun book met) ≡ some t → refusal_read p ≡ 30
-        go none p = none_some p
-        go (some ls) p = lines_moved ls (once ls book met fresh t p m) (order ls book met fresh t p m ∙ o)
+        go : (p : Option (List Line)) → scanned 0 p (begun book met) ≡ Some t → refusal_read p ≡ 30
+        go None p = none_some p
+        go (Some ls) p = lines_moved ls (once ls book met fresh t p m) (order ls book met fresh t p m ∙ o)
 
     -- the book that the lines hold, refused as a lent one is
     pub file_whole : length book ≡ book_bytes → all_met t.met ≡ true → t.ordered ≡ true → FileHeld file (book_refusal t.book) t.book
     unfolding file_refusal file_book
     file_whole h m o = go (file_lines file) refl q
       where
-        go : (p : Option (List Line)) → file_lines file ≡ p → scanned 0 p (begun book met) ≡ some t → FileHeld file (book_refusal t.book) t.book
-        go none e p = none_some p
-        go (some ls) e p =
+        go : (p : Option (List Line)) → file_lines file ≡ p → scanned 0 p (begun book met) ≡ Some t → FileHeld file (book_refusal t.book) t.book
+        go None e p = none_some p
+        go (Some ls) e p =
             let fit = file_fits file ls e in
             let is : lines_refusal ls ≡ book_refusal t.book = scan_refused ls book met fresh t p m fit h o in
             record { refusal = rw e (sym is); held = λ z. rw e (scan_book ls book met fresh t p m fit h o (is ∙ z)) }
@@ -161,6 +163,10 @@ module _ (file book : List ℕ) (size : length book ≡ book_bytes) where
   call_refused r e n =
       let same : read_file_refusal file (length book) ≡ r = called ∙ sym e in
       record { refusal = sym same; book_after = rw (same, ne_eqb r 0 n) }
+
+  -- the same, with the refusal itself
+  pub call_refused_by : (r : Refusal) → number_of r ≡ file_refusal file → BookFileRead file book (number_of r) book
+  call_refused_by r e = call_refused (number_of r) e (refusal_met r (number_of r) refl)
 
   pub call_read : (after : List ℕ) → 0 ≡ file_refusal file → after ≡ file_book file → BookFileRead file book 0 after
   unfolding read_file_book

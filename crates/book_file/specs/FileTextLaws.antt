@@ -1,10 +1,9 @@
 -- Laws of a book file as text: the lines of a file are those that it was made of, and a book's file is the text of its lines. Assumes nothing.
 use Prim.Native.Nat.{ℕ, zero, suc, ◌+◌, ◌-◌, ◌≤◌, ◌<◌}
-use Rattle.std.specs.Prelude.{◌≡◌, refl, Bool, true, false, T, leb, ltb}
+use Rattle.std.specs.Prelude.{◌≡◌, refl, Bool, true, false, T, leb, ltb, Option, None, Some}
 use Rattle.std.proofs.Math.Path.{sym, ap}
 use Rattle.std.proofs.Common.{◌∙◌, le_refl, lit≤, ltb-true, ltb-false, lt-ltb, le-ltb}
 use mathlib.Core.List.{List, [], ◌∷◌, ◌++◌, append_assoc, append-nil}
-use Rattle.std.proofs.Math.Option.{Option, none, some}
 use native.Mathlib.Omega.{arith}
 use Rattle.bits.specs.Basics.{pick, every, All, values_from}
 use Rattle.bits.specs.BasicsLaws.{values_more}
@@ -21,19 +20,19 @@ record Placed (e : ℕ) (fs : List (List ℕ)) : Type 0 where
   name : List ℕ
   position : ℕ
   are : fs ≡ name ∷ decimal position ∷ []
-  means : entry_named file_tables name position ≡ some e
+  means : entry_named file_tables name position ≡ Some e
   small : position ≤ 65535
   no_comma : without comma name ≡ true
   no_feed : without line_feed name ≡ true
 
 -- a table's name is its own, and no separator stands in it
 record Own (t : Table) : Type 0 where
-  named : (p : ℕ) → entry_named file_tables t.name p ≡ pick (ltb p t.size) (some (t.from + p)) none
+  named : (p : ℕ) → entry_named file_tables t.name p ≡ pick (ltb p t.size) (Some (t.from + p)) None
   size_small : t.size ≤ 65535
   name_comma : without comma t.name ≡ true
   name_feed : without line_feed t.name ≡ true
 
-own : {t : Table} → ((p : ℕ) → entry_named file_tables t.name p ≡ pick (ltb p t.size) (some (t.from + p)) none) → T (leb t.size 65535)
+own : {t : Table} → ((p : ℕ) → entry_named file_tables t.name p ≡ pick (ltb p t.size) (Some (t.from + p)) None) → T (leb t.size 65535)
     → without comma t.name ≡ true → without line_feed t.name ≡ true → Own t
 own n s c f = record { named = n; size_small = lit≤ s; name_comma = c; name_feed = f }
 
@@ -83,7 +82,7 @@ placed : (e : ℕ) → e < book_entries → Placed e (place_fields file_tables e
 placed e h = placed_in file_tables 0 e tables_follow tables_own (omega arith) h
 
 -- ---- a line is read back
-number_back : (n : ℕ) → n ≤ 65535 → line_number (decimal n) ≡ some n
+number_back : (n : ℕ) → n ≤ 65535 → line_number (decimal n) ≡ Some n
 number_back n h = decimal_back 65535 n (omega arith) h
 
 decimal-comma : (n : ℕ) → without comma (decimal n) ≡ true
@@ -97,7 +96,7 @@ fields_are : (l : Line) (p : Placed l.entry (place_fields file_tables l.entry))
 unfolding fields_for
 fields_are l p = rw p.are
 
-line_back : (l : Line) → LineFits l → line_read (fields_of (joined (fields_for l))) ≡ some l
+line_back : (l : Line) → LineFits l → line_read (fields_of (joined (fields_for l))) ≡ Some l
 unfolding line_read
 line_back l f =
     let p = placed l.entry f.entry_below in
@@ -112,13 +111,13 @@ line_feed_lem l f =
     (p.no_feed, (decimal_feed p.position, (decimal_feed l.long, (decimal_feed l.value, tt)))))
 
 -- ---- the lines of a file are those that it was made of
-file_front : (l : Line) (t : List ℕ) → LineFits l → file_lines (line_of (fields_for l) ++ t) ≡ onto_lines (some l) (file_lines t)
+file_front : (l : Line) (t : List ℕ) → LineFits l → file_lines (line_of (fields_for l) ++ t) ≡ onto_lines (Some l) (file_lines t)
 unfolding file_lines line_of
 file_front l t f =
     rw (append_assoc, lines_joined (joined (fields_for l)) t (line_feed_lem l f))
     (onto_before (joined (fields_for l)) (lines_of t) ∙ ap (λ (o : Option Line). onto_lines o (of_lines (lines_of t))) (line_back l f))
 
-pub file_back : (ls : List Line) → All LineFits ls → file_lines (file_of ls) ≡ some ls
+pub file_back : (ls : List Line) → All LineFits ls → file_lines (file_of ls) ≡ Some ls
 unfolding file_of
 file_back [] f = file_end [] 0 (omega arith)
 file_back (l ∷ ls) f = file_front l (file_of ls) f.0 ∙ rw (file_back ls f.1)

@@ -1,8 +1,7 @@
 -- Laws of what a scan of lines leaves: the marks count the lines of each entry, a scan that stops met an entry twice, and of lines in order the book's bytes
 -- follow each other. Assumes nothing.
-use Rattle.std.specs.Prelude.{ℕ, zero, suc, ◌+◌, ◌*◌, ◌≤◌, ◌<◌, ◌≡◌, refl, Bool, true, false, ◌&&◌, List, [], ◌∷◌, ◌++◌, eqb, ltb, length, get_or, set}
+use Rattle.std.specs.Prelude.{ℕ, zero, suc, ◌+◌, ◌*◌, ◌≤◌, ◌<◌, ◌≡◌, refl, Bool, true, false, ◌&&◌, List, [], ◌∷◌, ◌++◌, eqb, ltb, length, get_or, set, None, Some}
 use Rattle.std.proofs.Common.{sym, ap, ◌∙◌, arith, length-set, get_or-set_same, get_or-set_other, eqb-true, eq-eqb, ltb-true, ltb-false}
-use Rattle.std.proofs.Math.Option.{none, some}
 use Rattle.std.proofs.Math.ListN.{get_or-eq_default}
 use Rattle.std.proofs.lemmas.Bool.{eqb-false}
 use Rattle.bits.specs.Basics.{pick, every}
@@ -14,17 +13,17 @@ use Rattle.book_file.specs.BookFile.{Line, mentions, once_each, in_order}
 use Rattle.book_file.specs.BookFileForms.{BookHeld, entry_held, kept, scan_lines, all_met}
 
 -- ---- a scan that goes through
-scan_split : (k : ℕ) (l : Line) (ls : List Line) (s t : BookHeld) → scan_lines k (l ∷ ls) s ≡ some t
-    → (get_or s.met l.entry 0 ≡ 0) × (scan_lines (suc k) ls (kept k l s) ≡ some t)
+scan_split : (k : ℕ) (l : Line) (ls : List Line) (s t : BookHeld) → scan_lines k (l ∷ ls) s ≡ Some t
+    → (get_or s.met l.entry 0 ≡ 0) × (scan_lines (suc k) ls (kept k l s) ≡ Some t)
 unfolding scan_lines
 scan_split k l ls s t q = go (eqb (get_or s.met l.entry 0) 0) refl q
   where
-    go : (b : Bool) → eqb (get_or s.met l.entry 0) 0 ≡ b → pick b (scan_lines (suc k) ls (kept k l s)) none ≡ some t
-        → (get_or s.met l.entry 0 ≡ 0) × (scan_lines (suc k) ls (kept k l s) ≡ some t)
+    go : (b : Bool) → eqb (get_or s.met l.entry 0) 0 ≡ b → pick b (scan_lines (suc k) ls (kept k l s)) None ≡ Some t
+        → (get_or s.met l.entry 0 ≡ 0) × (scan_lines (suc k) ls (kept k l s) ≡ Some t)
     go true e h = (eqb-true (get_or s.met l.entry 0) 0 e, h)
     go false e h = none_some h
 
-scan_last : (k : ℕ) (s t : BookHeld) → scan_lines k [] s ≡ some t → s ≡ t
+scan_last : (k : ℕ) (s t : BookHeld) → scan_lines k [] s ≡ Some t → s ≡ t
 unfolding scan_lines
 scan_last k s t q = cc
 
@@ -37,12 +36,12 @@ and_and true b c = refl
 and_and false b c = refl
 
 -- the lines followed a book's order
-pub scan_ordered : (k : ℕ) (ls : List Line) (s t : BookHeld) → scan_lines k ls s ≡ some t → t.ordered ≡ (s.ordered && in_order k ls)
+pub scan_ordered : (k : ℕ) (ls : List Line) (s t : BookHeld) → scan_lines k ls s ≡ Some t → t.ordered ≡ (s.ordered && in_order k ls)
 unfolding in_order kept
 scan_ordered k [] s t q = ap (λ (h : BookHeld). h.ordered) (sym (scan_last k s t q)) ∙ sym (and_true s.ordered)
 scan_ordered k (l ∷ ls) s t q = scan_ordered (suc k) ls (kept k l s) t (scan_split k l ls s t q).1 ∙ and_and s.ordered (eqb l.entry k) (in_order (suc k) ls)
 
-pub scan_length : (k : ℕ) (ls : List Line) (s t : BookHeld) → scan_lines k ls s ≡ some t → length t.met ≡ length s.met
+pub scan_length : (k : ℕ) (ls : List Line) (s t : BookHeld) → scan_lines k ls s ≡ Some t → length t.met ≡ length s.met
 unfolding kept
 scan_length k [] s t q = rw (scan_last k s t q)
 scan_length k (l ∷ ls) s t q = scan_length (suc k) ls (kept k l s) t (scan_split k l ls s t q).1 ∙ length-set s.met l.entry 1
@@ -53,7 +52,7 @@ held_of [] = []
 held_of (l ∷ ls) = entry_held l.long l.value ++ held_of ls
 
 -- lines in order leave their bytes one behind the other
-pub scan_bytes : (k : ℕ) (ls : List Line) (s t : BookHeld) → scan_lines k ls s ≡ some t → in_order k ls ≡ true → 3 * (k + length ls) ≤ length s.book
+pub scan_bytes : (k : ℕ) (ls : List Line) (s t : BookHeld) → scan_lines k ls s ≡ Some t → in_order k ls ≡ true → 3 * (k + length ls) ≤ length s.book
     → t.book ≡ put_text s.book (3 * k) (held_of ls)
 unfolding in_order kept held_of
 scan_bytes k [] s t q o h = ap (λ (x : BookHeld). x.book) (sym (scan_last k s t q)) ∙ sym (put_empty s.book (3 * k))
@@ -75,7 +74,7 @@ met_step m i e z h = go (eqb i e) refl
     go false q = get_or-set_other m i e 1 0 (λ p. eqb-false i e q (sym p)) ∙ omega arith
 
 -- the marks count the lines of each entry
-pub scan_met : (k : ℕ) (ls : List Line) (s t : BookHeld) (e : ℕ) → scan_lines k ls s ≡ some t → e < length s.met → get_or t.met e 0 ≡ get_or s.met e 0 + mentions e ls
+pub scan_met : (k : ℕ) (ls : List Line) (s t : BookHeld) (e : ℕ) → scan_lines k ls s ≡ Some t → e < length s.met → get_or t.met e 0 ≡ get_or s.met e 0 + mentions e ls
 unfolding kept mentions
 scan_met k [] s t e q h = rw (scan_last k s t q) (omega arith)
 scan_met k (l ∷ ls) s t e q h =
@@ -115,13 +114,13 @@ doubled_before k l ls s d =
     let h : d.entry < length s.met = rw (length-set s.met l.entry 1) at d.below in
     record { entry = d.entry; below = h; twice = omega (arith, d.twice, met_most s.met l.entry d.entry h) }
 
-pub scan_doubled : (k : ℕ) (ls : List Line) (s : BookHeld) → scan_lines k ls s ≡ none → Doubled s.met ls
+pub scan_doubled : (k : ℕ) (ls : List Line) (s : BookHeld) → scan_lines k ls s ≡ None → Doubled s.met ls
 unfolding scan_lines
 scan_doubled k [] s q = none_some (sym q)
 scan_doubled k (l ∷ ls) s q = go (eqb (get_or s.met l.entry 0) 0) refl q (scan_doubled (suc k) ls (kept k l s))
   where
-    go : (b : Bool) → eqb (get_or s.met l.entry 0) 0 ≡ b → pick b (scan_lines (suc k) ls (kept k l s)) none ≡ none
-        → (scan_lines (suc k) ls (kept k l s) ≡ none → Doubled (kept k l s).met ls) → Doubled s.met (l ∷ ls)
+    go : (b : Bool) → eqb (get_or s.met l.entry 0) 0 ≡ b → pick b (scan_lines (suc k) ls (kept k l s)) None ≡ None
+        → (scan_lines (suc k) ls (kept k l s) ≡ None → Doubled (kept k l s).met ls) → Doubled s.met (l ∷ ls)
     go true e h next = doubled_before k l ls s (next h)
     go false e h next = doubled_now l ls s.met (eqb-false (get_or s.met l.entry 0) 0 e)
 

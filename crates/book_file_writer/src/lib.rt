@@ -7,10 +7,11 @@ ghost use Rattle.text.specs.WritingForms.{PutInRoom, TextWritten};
 ghost use Rattle.book.specs.Book.{book_entries, book_bytes};
 ghost use Rattle.book_file.specs.BookFile.{table_lines, book_file, write_file_refusal};
 
+use bits::refusal::Refusal;
 use book::inner::BOOK_ENTRIES;
-use book_check::book_refusal;
+use book_check::check_book;
 use code_tables::inner::{entry_len, entry_val};
-use text::Written;
+use text::{digit_count, put_field, put_text};
 
 // What a file holds beside lengths and codes: names, positions, commas and line feeds, the same in every book's.
 const FRAME_BYTES: usize = 14378;
@@ -19,11 +20,11 @@ const FRAME_BYTES: usize = 14378;
 fn put_line(out: &mut [u8], at: usize, name: &[u8], position: u64, long: u64, value: u64) -> usize
     ensures { PutInRoom out.old at (line_of (name.now ∷ decimal position ∷ decimal long ∷ decimal value ∷ [])) result out.new }
 {
-    let a = text::put_text(out, at, name);
-    let b = text::put_text(out, a, b",");
-    let c = text::put_field(out, b, position, b',');
-    let d = text::put_field(out, c, long, b',');
-    text::put_field(out, d, value, b'\n')
+    let a = put_text(out, at, name);
+    let b = put_text(out, a, b",");
+    let c = put_field(out, b, position, b',');
+    let d = put_field(out, c, long, b',');
+    put_field(out, d, value, b'\n')
 }
 
 // The lines of the table that begins at entry `from` and has `size` entries.
@@ -32,13 +33,10 @@ fn put_table(out: &mut [u8], at: usize, book: &[u8], name: &[u8], from: usize, s
     ensures { PutInRoom out.old at (table_lines book.now (record { name = name.now; from = from; size = size }) size) result out.new }
 {
     let mut next = at;
-    let mut p = 0;
-    while p < size {
-        let e = from + p;
-        let long = entry_len(book, e) as u64;
-        let value = entry_val(book, e);
+    for p in 0..size {
+        let long = entry_len(book, from + p) as u64;
+        let value = entry_val(book, from + p);
         next = put_line(out, next, name, p as u64, long, value);
-        p += 1;
     }
     next
 }
@@ -62,29 +60,20 @@ fn file_length(book: &[u8]) -> usize
     ensures { result ≡ length (book_file book.now) }
 {
     let mut n = FRAME_BYTES;
-    let mut e = 0;
-    while e < BOOK_ENTRIES {
-        n += text::digit_count(entry_len(book, e) as u64);
-        n += text::digit_count(entry_val(book, e));
-        e += 1;
+    for e in 0..BOOK_ENTRIES {
+        n += digit_count(entry_len(book, e) as u64);
+        n += digit_count(entry_val(book, e));
     }
     n
 }
 
 // A book's file written to the front of a lent slice. The answer is how far; what lies behind it stays. A refused call writes nothing.
-pub fn write_book_file(book: &[u8], out: &mut [u8]) -> Written
+pub fn write_book_file(book: &[u8], out: &mut [u8]) -> Result<usize, Refusal>
     ensures { TextWritten (write_file_refusal book.now (length out.old)) (book_file book.now) out.old result out.new }
 {
-    let refused = book_refusal(book);
-    if refused != 0 {
-        return Written { refused, bytes: 0 };
-    }
+    check_book(book)?;
     if out.len() < file_length(book) {
-        return Written {
-            refused: 20,
-            bytes: 0,
-        };
+        return Err(Refusal::ResultLength);
     }
-    let bytes = put_tables(out, book);
-    Written { refused: 0, bytes }
+    Ok(put_tables(out, book))
 }

@@ -1,7 +1,8 @@
 -- What the C host's calls answer, and every byte that they leave (document 01, "Refused for the state met": a C program calls the writer and reader with numbers and byte slices; document 02, §1, §2, §4, §5).
 use Rattle.std.specs.Prelude.{ℕ, not, List, [], ◌∷◌, map, ◌≡◌, eqb}
 use Rattle.bits.specs.Basics.{pick}
-use Rattle.text.specs.declared.Written.{Written}
+use Rattle.bits.specs.Refusals.{Answer, done, refused}
+use Rattle.text.specs.WritingForms.{put_text, text_answer}
 use Rattle.macroblock.specs.Macroblock.{Given}
 use Rattle.macroblock.specs.Choice.{Task}
 use Rattle.macroblock.specs.declared.svq1_enc_inter.Settings.{Settings}
@@ -11,13 +12,11 @@ use Rattle.plane.specs.Calls.{PlaneAnswer, write_answer, PlaneWritten, read_plan
 use Rattle.plane_enc.specs.Stated.{PlaneStated}
 use Rattle.picture.specs.Picture.{Shared, Results, PlaneIn}
 use Rattle.picture.specs.Calls.{PictureAnswer, picture_answer, PictureWritten}
-use Rattle.plane_room.specs.declared.Room.{Room}
-use Rattle.visible_error.specs.declared.VisibleError.{VisibleError}
-use Rattle.cabunlis.specs.declared.books.HostFile.{HostFile}
+use Rattle.plane_room.specs.Room.{Suffices}
+use Rattle.cabunlis.specs.declared.answers.HostBytes.{HostBytes}
 use Rattle.cabunlis.specs.declared.errors.HostVisible.{HostVisible}
 use Rattle.cabunlis.specs.declared.pictures.HostPicture.{HostPicture}
 use Rattle.cabunlis.specs.declared.planes.HostAnswer.{HostAnswer}
-use Rattle.cabunlis.specs.declared.rooms.HostRoom.{HostRoom}
 
 -- the settings by a C host's numbers: four vectors are tried unless `four` is 0
 abbrev pub settings_of : ℕ → ℕ → ℕ → ℕ → Settings
@@ -55,14 +54,22 @@ pub record HostPictureWritten (s : Shared) (ps : List PlaneIn) (allowance : ℕ)
   pub answer : PictureTold (picture_answer s ps allowance out start) r
   pub left : PictureWritten s ps allowance out start (picture_answer s ps allowance out start) out' results'
 
--- a room as a C struct stands for it
-abbrev pub room_of : HostRoom → Room
-room_of r = record { refused = r.refusal; bytes = r.bytes }
+-- an answer in bytes, as a C struct
+abbrev pub host_bytes : Answer ℕ → HostBytes
+host_bytes (done n) = record { refusal = 0; bytes = n }
+host_bytes (refused n) = record { refusal = n; bytes = 0 }
+
+-- a room: r is the answer, and where it is no refusal its bytes suffice for every plane of the kind
+pub record HostRoomTold (Kind : Given → Type 0) (answer : Answer ℕ) (r : HostBytes) : Type 0 where
+  pub is : r ≡ host_bytes answer
+  pub suffices : r.refusal ≡ 0 → Suffices Kind r.bytes
+
+-- a text written: r is the answer, and every byte of the slice: the text and behind it what was there, or where the call is refused all as it was
+pub record HostTextWritten (refusal : ℕ) (t out : List ℕ) (r : HostBytes) (after : List ℕ) : Type 0 where
+  pub answer : r ≡ host_bytes (text_answer refusal t)
+  pub left : after ≡ pick (eqb refusal 0) (put_text out 0 t) out
 
 -- an error over what the panel shows, as a C struct
-abbrev pub host_visible : VisibleError → HostVisible
-host_visible v = record { refusal = v.refused; error = v.error }
-
--- a file written, as a C struct stands for it
-abbrev pub file_written : HostFile → Written
-file_written r = record { refused = r.refusal; bytes = r.bytes }
+abbrev pub host_visible : Answer ℕ → HostVisible
+host_visible (done e) = record { refusal = 0; error = e }
+host_visible (refused n) = record { refusal = n; error = 0 }

@@ -33,9 +33,11 @@ pub extern "C" fn cabunlis2_visible_error(
         stride,
         rows,
     };
-    let e = visible_error(canvas, source, recon);
-    HostVisible {
-        refusal: e.refused as u32,
-        error: e.error,
+    match visible_error(canvas, source, recon) {
+        Ok(error) => HostVisible { refusal: 0, error },
+        Err(refusal) => HostVisible {
+            refusal: refusal.number() as u32,
+            error: 0,
+        },
     }
 }

@@ -5,6 +5,7 @@ ghost use Rattle.picture.specs.PictureNeeds.{picture_end_of};
 ghost use Rattle.cabunlis.specs.Host.{settings_of, PictureTold, HostPictureWritten};
 
 use super::planes::{HostAnswer, index_of, plane_answer, settings_of};
+use bits::refusal::number_told;
 use canvas::svq1_plane::Svq1PlaneCanvas;
 use picture::PictureEnd;
 use picture_enc::encode_picture;
@@ -30,7 +31,7 @@ fn picture_answer(e: PictureEnd) -> HostPicture
     let second = e.second;
     let third = e.third;
     HostPicture {
-        refusal: e.refused as u32,
+        refusal: number_told(e.refused) as u32,
         macroblock: index_of(e.refused, e.done),
         done: e.done,
         first: plane_answer(first),

@@ -1,6 +1,7 @@
 // The plane writer and the plane reader.
 ghost use Rattle.std.specs.Prelude.{not, ◌≡◌, eqb};
 ghost use Rattle.bits.specs.Basics.{pick};
+ghost use Rattle.bits.specs.Refusals.{number_of, number_told};
 ghost use Rattle.macroblock.specs.MacroblockNeeds.{given_by};
 ghost use Rattle.macroblock_choice.specs.ChosenNeeds.{task_by};
 ghost use Rattle.plane.specs.Refusals.{mid_plane};
@@ -8,6 +9,7 @@ ghost use Rattle.plane_enc.specs.WriterNeeds.{write_end_of};
 ghost use Rattle.cabunlis.specs.Host.{settings_of, host_answer, HostWritten, HostStated, HostRead};
 ghost use Rattle.macroblock.specs.Slices.{slices_by, lent_by};
 
+use bits::refusal::{Refusal, number_told};
 use canvas::svq1_plane::Svq1PlaneCanvas;
 use macroblock::svq1_enc_inter::Settings;
 use plane_dec::svq1_plane::decode_inter_plane;
@@ -25,38 +27,38 @@ pub struct HostAnswer {
     pub error: u64,
 }
 
-// Whether a refusal came in the middle of a plane, at a macroblock.
-fn mid_plane(refused: u8) -> bool
-    ensures { result ≡ mid_plane refused }
+// Whether a refusal comes in the middle of a plane, at a macroblock.
+#[tactic(auto, unfolding(plane::specs::Refusals::mid_plane))]
+fn mid_plane(refusal: Refusal) -> bool
+    ensures { result ≡ mid_plane (number_of refusal) }
 {
-    if refused == 10 {
-        return true;
+    match refusal {
+        Refusal::NoCode | Refusal::LeafClosed | Refusal::NoRoom | Refusal::BitsEnd => true,
+        Refusal::PlaneSize | Refusal::SourceLength | Refusal::CanvasSize => false,
+        Refusal::ReferenceLength | Refusal::TableLength | Refusal::CodeWidth => false,
+        Refusal::NotPrefixFree | Refusal::Block | Refusal::SearchBlock => false,
+        Refusal::ResultLength | Refusal::StartBit | Refusal::NoVector => false,
+        Refusal::FileOrder | Refusal::Allowance => false,
     }
-    if refused == 11 {
-        return true;
-    }
-    if refused == 22 {
-        return true;
-    }
-    refused == 24
 }
 
 // The index of the macroblock at which a refusal came, or 0.
-pub fn index_of(refused: u8, done: usize) -> usize
-    ensures { result ≡ pick (mid_plane refused) done 0 }
+#[tactic(auto, unfolding(plane::specs::Refusals::mid_plane))]
+pub fn index_of(refused: Option<Refusal>, done: usize) -> usize
+    ensures { result ≡ pick (mid_plane (number_told refused)) done 0 }
 {
-    if mid_plane(refused) {
-        return done;
+    match refused {
+        Some(refusal) => { if mid_plane(refusal) { done } else { 0 } }
+        None => 0,
     }
-    0
 }
 
 // The answer with the macroblock's index where it has one.
-fn answer(refused: u8, done: usize, next: usize, bits: u64, error: u64) -> HostAnswer
-    ensures { result ≡ host_answer (record { refusal = refused; done = done; next = next; bits = bits; error = error }) }
+fn answer(refused: Option<Refusal>, done: usize, next: usize, bits: u64, error: u64) -> HostAnswer
+    ensures { result ≡ host_answer (record { refusal = number_told refused; done = done; next = next; bits = bits; error = error }) }
 {
     HostAnswer {
-        refusal: refused as u32,
+        refusal: number_told(refused) as u32,
         macroblock: index_of(refused, done),
         done,
         next,

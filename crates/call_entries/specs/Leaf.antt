@@ -1,6 +1,6 @@
 -- What the leaf search answers, field by field (document 01, `svq1_enc_leaf.rs`, refusals 5 to 8).
 use Rattle.std.specs.Prelude.{ℕ, ◌-◌, List, ◌++◌, pos, length, replicate}
-use Rattle.bits.specs.Calls.{Answer, done, refused}
+use Rattle.bits.specs.Refusals.{Answer, done, refused}
 use Rattle.leaf.specs.Leaf.{Leaf}
 use Rattle.leaf.specs.LeafCall.{LeafChosen}
 use Rattle.leaf.specs.LentNeeds.{six_of}

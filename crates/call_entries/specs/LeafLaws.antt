@@ -1,7 +1,9 @@
 -- Laws of the leaf search's answer.
 -- Assumes nothing.
-use Rattle.std.specs.Prelude.{ℕ, ◌-◌, ◌≡◌, List, length, take, drop, replicate}
-use Rattle.std.proofs.Common.{arith, length-take, take-append-drop, eq-eqb, ne_eqb}
+use Rattle.std.specs.Prelude.{ℕ, ◌-◌, ◌≡◌, List, length, take, drop, replicate, Ok, Err}
+use Rattle.std.proofs.Common.{arith, length-take, take-append-drop}
+use Rattle.bits.specs.Refusals.{number_of}
+use Rattle.bits.specs.declared.refusal.Refusal.{Refusal}
 use Rattle.leaf.specs.LeafCall.{BlockIn, leaf_answer}
 use Rattle.leaf_call.specs.LeafAnswer.{LeafAnswered}
 use Rattle.leaf.specs.LeafForms.{leaf_of}
@@ -16,9 +18,9 @@ filled_back n s size zeros =
     rw (k, ← zeros) (take-append-drop n s)
 
 -- ---- the answers
-module _ (b : BlockIn) (r : LeafAnswer) (a : LeafAnswered b r) where
-  pub part_refused : (r.refused ≡ 0 → ⊥) → nothing r.refused ≡ leaf_part (leaf_answer b)
-  part_refused h = rw (← a.answer, ne_eqb r.refused 0 h)
+pub part_refused : (b : BlockIn) (r : Refusal) → LeafAnswered b (Err r) → nothing (number_of r) ≡ leaf_part (leaf_answer b)
+part_refused b r a = rw (← a.answer)
 
-  pub part_found : r.refused ≡ 0 → length r.samples ≡ 256 → leaf_part_of (leaf_of r.code r.stages) r.bits r.error r.samples ≡ leaf_part (leaf_answer b)
-  part_found z size = rw (← a.answer, eq-eqb r.refused 0 z, filled_back (length b.target) r.samples size a.behind)
+pub part_found : (b : BlockIn) (f : LeafAnswer) → LeafAnswered b (Ok f) → length f.samples ≡ 256
+    → leaf_part_of (leaf_of f.code f.stages) f.bits f.error f.samples ≡ leaf_part (leaf_answer b)
+part_found b f a size = rw (← a.answer, filled_back (length b.target) f.samples size a.behind)

@@ -1,6 +1,6 @@
 -- What a plan answers, field by field (document 01, `svq1_enc_tree.rs`, refusals 5 to 8).
 use Rattle.std.specs.Prelude.{ℕ, List, map, replicate}
-use Rattle.bits.specs.Calls.{Answer, done, refused}
+use Rattle.bits.specs.Refusals.{Answer, done, refused}
 use Rattle.tree.specs.Blocks.{block_count}
 use Rattle.tree.specs.TreeBits.{Node}
 use Rattle.plan.specs.PlanAnswer.{PlanMade}

@@ -1,8 +1,10 @@
 -- Laws of a plan's answer.
 -- Assumes nothing.
-use Rattle.std.specs.Prelude.{ℕ, ◌+◌, ◌≤◌, ◌<◌, ◌≡◌, List, length, take, set, get_or}
-use Rattle.std.proofs.Common.{sym, ◌∙◌, add-one, arith, length-set, take_all, take-suc, take-suc-set, eq-eqb, ne_eqb}
+use Rattle.std.specs.Prelude.{ℕ, ◌+◌, ◌≤◌, ◌<◌, ◌≡◌, List, length, take, set, get_or, Ok, Err}
+use Rattle.std.proofs.Common.{sym, ◌∙◌, add-one, arith, length-set, take_all, take-suc, take-suc-set}
 use Rattle.std.proofs.Math.ListN.{length-map, get_or-map}
+use Rattle.bits.specs.Refusals.{number_of}
+use Rattle.bits.specs.declared.refusal.Refusal.{Refusal}
 use Rattle.leaf.specs.LeafCall.{BlockIn}
 use Rattle.tree.specs.Blocks.{block_count}
 use Rattle.tree.specs.NodeForms.{tree_of}
@@ -46,9 +48,9 @@ module _ (t : List Node) (whole : length t ≡ block_count) (nodes : List NodePa
       sym (take_all i nodes (omega (arith, g.long))) ∙ g.front ∙ take_all i (node_parts t) (omega (arith, length_parts))
 
 -- ---- the answers
-module _ (b : BlockIn) (lambda : ℕ) (r : PlanAnswer) (a : PlanAnswered b lambda r) where
-  pub plan_refused : (r.refused ≡ 0 → ⊥) → no_plan r.refused ≡ plan_part (plan_answer b lambda)
-  plan_refused h = rw (← a.answer, ne_eqb r.refused 0 h)
+pub plan_refused : (b : BlockIn) (lambda : ℕ) (r : Refusal) → PlanAnswered b lambda (Err r) → no_plan (number_of r) ≡ plan_part (plan_answer b lambda)
+plan_refused b lambda r a = rw (← a.answer)
 
-  pub plan_made_lem : r.refused ≡ 0 → length r.samples ≡ 256 → made_part (tree_of r.blocks) r.bits r.error r.samples ≡ plan_part (plan_answer b lambda)
-  plan_made_lem z size = rw (← a.answer, eq-eqb r.refused 0 z, filled_back (length b.target) r.samples size a.behind)
+pub plan_made_lem : (b : BlockIn) (lambda : ℕ) (p : PlanAnswer) → PlanAnswered b lambda (Ok p) → length p.samples ≡ 256
+    → made_part (tree_of p.blocks) p.bits p.error p.samples ≡ plan_part (plan_answer b lambda)
+plan_made_lem b lambda p a size = rw (← a.answer, filled_back (length b.target) p.samples size a.behind)

@@ -1,5 +1,5 @@
 -- What summing one vector answers, field by field (document 02, §6, refusals 1, 3, 4, 9 and 23).
-use Rattle.bits.specs.Calls.{Answer, done, refused}
+use Rattle.bits.specs.Refusals.{Answer, done, refused}
 use Rattle.compensation.specs.declared.svq1_enc_inter.inner.VectorSum.{VectorSum}
 use Rattle.call_entries.specs.declared.sum_part.SumPart.{SumPart}
 

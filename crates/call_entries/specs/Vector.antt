@@ -1,6 +1,6 @@
 -- What the motion search answers, field by field (document 01, `svq1_enc_inter.rs`, refusals 1, 3, 4, 9 and 23).
 use Rattle.std.specs.Prelude.{pos}
-use Rattle.bits.specs.Calls.{Answer, done, refused}
+use Rattle.bits.specs.Refusals.{Answer, done, refused}
 use Rattle.vectors.specs.declared.svq1_motion_predictor.Svq1Mv.{Svq1Mv}
 use Rattle.call_entries.specs.declared.vector_part.VectorPart.{VectorPart}
 

@@ -21,7 +21,7 @@ pub struct NodePart {
 fn most_six(count: u8) -> u8
     ensures { (result ≡ min 6 count) × (result ≤ 6) }
 {
-    if count < 6 { count } else { 6 }
+    count.min(6)
 }
 
 // The first `count` stage indices, and zeros behind them.
@@ -30,10 +30,8 @@ fn front_of(stages: [u8; 6], count: usize) -> [u8; 6]
     ensures { (result ≡ padded (take count stages)) × (length stages ≡ 6) }
 {
     let mut front = [0u8; 6];
-    let mut i = 0;
-    while i < count {
+    for i in 0..count {
         front[i] = stages[i];
-        i += 1;
     }
     front
 }

@@ -88,12 +88,8 @@ pub extern "C" fn parts_search_leaf(
         skip != 0,
         margin,
     );
-    let refused = found.refused;
-    if refused != 0 {
-        return refused_part(refused);
+    match found {
+        Ok(f) => found_part(f.code, f.stages, f.bits, f.error, f.samples),
+        Err(refusal) => refused_part(refusal.number()),
     }
-    let code = found.code;
-    let stages = found.stages;
-    let samples = found.samples;
-    found_part(code, stages, found.bits, found.error, samples)
 }

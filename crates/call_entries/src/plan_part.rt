@@ -73,11 +73,8 @@ fn node_parts(blocks: [Block; 63]) -> [NodePart; 63]
         count: 0,
         stages: [0u8; 6],
     }; 63];
-    let mut i = 0;
-    while i < 63 {
-        let b = blocks[i];
-        nodes[i] = node_part(b);
-        i += 1;
+    for i in 0..63 {
+        nodes[i] = node_part(blocks[i]);
     }
     nodes
 }
@@ -124,11 +121,8 @@ pub extern "C" fn parts_plan_macroblock(
         lambda,
         margin,
     );
-    let refused = made.refused;
-    if refused != 0 {
-        return refused_part(refused);
+    match made {
+        Ok(p) => made_part(p.blocks, p.bits, p.error, p.samples),
+        Err(refusal) => refused_part(refusal.number()),
     }
-    let blocks = made.blocks;
-    let samples = made.samples;
-    made_part(blocks, made.bits, made.error, samples)
 }

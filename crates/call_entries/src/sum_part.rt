@@ -2,10 +2,12 @@
 ghost use Rattle.std.specs.Prelude.{◌≡◌};
 ghost use Rattle.compensation.specs.RowForms.{best_or_none};
 ghost use Rattle.motion.specs.Sum.{sum_answer};
-ghost use Rattle.motion.specs.SearchCall.{summed_answer};
+ghost use Rattle.bits.specs.Refusals.{answer_of};
 ghost use Rattle.call_entries.specs.Sum.{sum_part};
 
-use motion::svq1_enc_inter::{SummedVector, sum_motion_vector};
+use bits::refusal::Refusal;
+use compensation::svq1_enc_inter::inner::VectorSum;
+use motion::svq1_enc_inter::sum_motion_vector;
 use vectors::svq1_motion_predictor::Svq1Mv;
 
 // What summing one vector answers: a refusal's number with zeros, or 0, the sum and the rows taken.
@@ -17,19 +19,19 @@ pub struct SumPart {
     pub refused: u8,
 }
 
-fn part_of_sum(summed: SummedVector) -> SumPart
-    ensures { result ≡ sum_part (summed_answer summed) }
+fn part_of_sum(summed: Result<VectorSum, Refusal>) -> SumPart
+    ensures { result ≡ sum_part (answer_of summed) }
 {
     match summed {
-        SummedVector::Sum(s) => SumPart {
+        Ok(s) => SumPart {
             sum: s.sum,
             rows: s.rows,
             refused: 0,
         },
-        SummedVector::Refused(n) => SumPart {
+        Err(refusal) => SumPart {
             sum: 0,
             rows: 0,
-            refused: n,
+            refused: refusal.number(),
         },
     }
 }

@@ -1,10 +1,11 @@
 // The motion search as an exported function.
 ghost use Rattle.std.specs.Prelude.{◌≡◌};
 ghost use Rattle.motion.specs.Search.{search_answer};
-ghost use Rattle.motion.specs.SearchCall.{searched_answer};
+ghost use Rattle.bits.specs.Refusals.{answer_of};
 ghost use Rattle.call_entries.specs.Vector.{vector_part};
 
-use motion::svq1_enc_inter::{Searched, search_motion_vector};
+use bits::refusal::Refusal;
+use motion::svq1_enc_inter::search_motion_vector;
 use vectors::svq1_motion_predictor::Svq1Mv;
 
 // What the motion search answers: a refusal's number with zeros, or 0 and the vector.
@@ -16,17 +17,17 @@ pub struct VectorPart {
     pub y: i32,
 }
 
-fn part_of(found: Searched) -> VectorPart
-    ensures { result ≡ vector_part (searched_answer found) }
+fn part_of(found: Result<Svq1Mv, Refusal>) -> VectorPart
+    ensures { result ≡ vector_part (answer_of found) }
 {
     match found {
-        Searched::Vector(v) => VectorPart {
+        Ok(v) => VectorPart {
             refused: 0,
             x: v.x,
             y: v.y,
         },
-        Searched::Refused(n) => VectorPart {
-            refused: n,
+        Err(refusal) => VectorPart {
+            refused: refusal.number(),
             x: 0,
             y: 0,
         },

@@ -3,7 +3,10 @@ pub mod inner;
 
 ghost use Rattle.std.specs.Prelude.{◌≡◌, ◌≤◌};
 ghost use Rattle.bits.specs.Basics.{or_else, first_of};
+ghost use Rattle.bits.specs.Refusals.{refused_by};
 ghost use Rattle.canvas.specs.Canvas.{largest_side, padded16, side_ok, size_refusal, canvas_refusal, source_links};
+
+use bits::refusal::Refusal;
 
 // The side of a macroblock in samples.
 pub const MB_DIM: usize = 16;
@@ -23,23 +26,17 @@ pub struct Svq1PlaneCanvas {
 fn side_ok(n: usize) -> bool
     ensures { result ≡ side_ok n }
 {
-    if n < 1 {
-        return false;
-    }
-    n <= LARGEST_SIDE
+    1 <= n && n <= LARGEST_SIDE
 }
 
-// Refusal 1: a width or height of 0 or above the largest; 0 for none.
-pub fn size_refusal(width: usize, height: usize) -> u8
-    ensures { result ≡ size_refusal width height }
+// Refuses a width or height of 0 or above the largest.
+pub fn check_size(width: usize, height: usize) -> Result<(), Refusal>
+    ensures { refused_by result ≡ size_refusal width height }
 {
-    if !side_ok(width) {
-        return 1;
+    if !side_ok(width) || !side_ok(height) {
+        return Err(Refusal::PlaneSize);
     }
-    if !side_ok(height) {
-        return 1;
-    }
-    0
+    Ok(())
 }
 
 fn rounded_up(n: usize) -> usize
@@ -50,51 +47,49 @@ fn rounded_up(n: usize) -> usize
 }
 
 // Of a canvas for a size that passes.
-fn canvas_refusal(reference: &[u8], width: usize, height: usize, stride: usize, rows: usize) -> u8
-    requires { (width ≤ largest_side) × (height ≤ largest_side) }
-    ensures { result ≡ canvas_refusal width height (record { samples = reference.now; stride = stride; rows = rows }) }
-{
-    if stride != rounded_up(width) {
-        return 3;
-    }
-    if rows != rounded_up(height) {
-        return 3;
-    }
-    if reference.len() != stride * rows {
-        return 4;
-    }
-    0
-}
-
-// The refusals 1, 3 and 4 of a plane and its canvas; 0 for none.
-pub fn plane_refusal(
+fn check_canvas(
     reference: &[u8],
     width: usize,
     height: usize,
     stride: usize,
     rows: usize,
-) -> u8
-    ensures { result ≡ or_else (size_refusal width height) (canvas_refusal width height (record { samples = reference.now; stride = stride; rows = rows })) }
+) -> Result<(), Refusal>
+    requires { (width ≤ largest_side) × (height ≤ largest_side) }
+    ensures { refused_by result ≡ canvas_refusal width height (record { samples = reference.now; stride = stride; rows = rows }) }
 {
-    let n = size_refusal(width, height);
-    if n != 0 {
-        return n;
+    if stride != rounded_up(width) || rows != rounded_up(height) {
+        return Err(Refusal::CanvasSize);
     }
-    canvas_refusal(reference, width, height, stride, rows)
+    if reference.len() != stride * rows {
+        return Err(Refusal::ReferenceLength);
+    }
+    Ok(())
 }
 
-// The refusals 1 to 4 of a plane, its source, of which the length is given, and its reference's canvas; 0 for none.
-pub fn source_refusal(canvas: Svq1PlaneCanvas, source: usize, reference: &[u8]) -> u8
-    ensures { result ≡ first_of (source_links canvas.width canvas.height source (record { samples = reference.now; stride = canvas.stride; rows = canvas.rows })) }
+// Refuses a plane and its canvas.
+pub fn check_plane(
+    reference: &[u8],
+    width: usize,
+    height: usize,
+    stride: usize,
+    rows: usize,
+) -> Result<(), Refusal>
+    ensures { refused_by result ≡ or_else (size_refusal width height) (canvas_refusal width height (record { samples = reference.now; stride = stride; rows = rows })) }
+{
+    check_size(width, height)?;
+    check_canvas(reference, width, height, stride, rows)
+}
+
+// Refuses a plane, its source, of which the length is given, and its reference's canvas.
+#[tactic(auto, unfolding(bits::specs::Basics::first_of))]
+pub fn check_source(canvas: Svq1PlaneCanvas, source: usize, reference: &[u8]) -> Result<(), Refusal>
+    ensures { refused_by result ≡ first_of (source_links canvas.width canvas.height source (record { samples = reference.now; stride = canvas.stride; rows = canvas.rows })) }
 {
     let width = canvas.width;
     let height = canvas.height;
-    let n = size_refusal(width, height);
-    if n != 0 {
-        return n;
-    }
+    check_size(width, height)?;
     if source != width * height {
-        return 2;
+        return Err(Refusal::SourceLength);
     }
-    canvas_refusal(reference, width, height, canvas.stride, canvas.rows)
+    check_canvas(reference, width, height, canvas.stride, canvas.rows)
 }

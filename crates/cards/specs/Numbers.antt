@@ -1,8 +1,9 @@
 -- What the lines of the cards show: digits, counts, the mode that bits begin with (document 01, "Bench cards").
 use Rattle.std.specs.Prelude.{ℕ, ◌+◌, ◌/◌, ◌%◌, List, [], ◌∷◌, eqb, ltb, length, get_or, take}
 use Rattle.bits.specs.Basics.{pick, sum}
-use Rattle.bits.specs.Calls.{Answer, done, refused, Read}
+use Rattle.bits.specs.Refusals.{Answer, done, refused}
 use Rattle.code_tables.specs.Calls.{code_at}
+use Rattle.code_tables.specs.declared.svq1_vlc.CodeFound.{CodeFound}
 
 -- the byte of a hexadecimal digit: `0` to `9`, then `a` to `f`
 abbrev pub hex_digit : ℕ → ℕ
@@ -24,8 +25,8 @@ abbrev pub count_in : ℕ → List ℕ → ℕ
 count_in v s = count_to v s (length s)
 
 -- the position of a code that was read; 4, which is no mode's, where there is none
-abbrev pub position_of : Answer Read → ℕ
-position_of (done r) = r.value
+abbrev pub position_of : Answer CodeFound → ℕ
+position_of (done r) = r.position
 position_of (refused n) = 4
 
 -- the position of the mode whose code stands at a bit: a book's first four entries are the modes'

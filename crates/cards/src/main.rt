@@ -41,9 +41,9 @@ fn print_cards(rt: &impl Print, line: &mut [u8], book: &[u8], codebook: &[u8]) -
 
 fn main(rt: HostRuntime) -> io::Result<()> {
     let mut book = [0u8; BOOK_BYTES];
-    fill_house_book(&mut book);
+    let _ = fill_house_book(&mut book);
     let mut codebook = [0u8; CODEBOOK_BYTES];
-    fill_house_codebook(&mut codebook);
+    let _ = fill_house_codebook(&mut codebook);
     let mut line = [0u8; 256];
     print_cards(&rt, &mut line, &book, &codebook)
 }

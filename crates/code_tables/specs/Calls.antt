@@ -2,21 +2,14 @@
 use Rattle.std.specs.Prelude.{ℕ, ◌/◌, Bool, false, ◌||◌, List, [], ◌∷◌, eqb, ltb, length}
 use Rattle.bits.specs.Basics.{or_else, unless}
 use Rattle.bits.specs.Bits.{bits_of}
-use Rattle.bits.specs.Calls.{Answer, done, refused, unless_refused, Read, start_refusal, room_refusal}
-use Rattle.code_tables.specs.Codes.{code_len, codes_of, good_table, prefix_free, read_code}
-use Rattle.code_tables.specs.declared.svq1_vlc.CodeRead.{CodeRead}
-use Rattle.code_tables.specs.declared.svq1_vlc.CodeRead.TheVariants.{Code, NoCode, Ends}
-use Rattle.code_tables.specs.declared.svq1_vlc.CodeAnswer.{CodeAnswer}
-use Rattle.code_tables.specs.declared.svq1_vlc.CodeAnswer.TheVariants as code_answer_lem
+use Rattle.bits.specs.Refusals.{Answer, done, refused}
+use Rattle.bits.specs.Calls.{unless_refused, start_refusal, room_refusal}
+use Rattle.code_tables.specs.Codes.{code_len, codes_of, good_table, prefix_free, CodeRead, Code, NoCode, Ends, read_code}
+use Rattle.code_tables.specs.declared.svq1_vlc.CodeFound.{CodeFound}
 
--- the number and the values of each case of the answer's enum
-abbrev pub code_answer : CodeAnswer → Answer Read
-code_answer (code_answer_lem.Code k next) = done (record { value = k; next = next })
-code_answer (code_answer_lem.Refused n) = refused n
-
--- 10 where there is no code, 24 where the bits end inside one
-abbrev pub read_answer : CodeRead → Answer Read
-read_answer (Code k next) = done (record { value = k; next = next })
+-- what is answered: 10 where there is no code, 24 where the bits end inside one
+abbrev pub read_answer : CodeRead → Answer CodeFound
+read_answer (Code k next) = done (record { position = k; next = next })
 read_answer NoCode = refused 10
 read_answer Ends = refused 24
 
@@ -38,5 +31,5 @@ unfoldable pub code_refusal : ℕ → ℕ → List ℕ → ℕ → ℕ
 code_refusal bytes at t k = or_else (unless (ltb k (length t / 3)) 5) (or_else (table_refusal t) (room_refusal bytes at (code_len t k) 22))
 
 -- the code that stands at bit `at`
-unfoldable pub code_at : List ℕ → ℕ → List ℕ → Answer Read
+unfoldable pub code_at : List ℕ → ℕ → List ℕ → Answer CodeFound
 code_at s at t = unless_refused (or_else (table_refusal t) (start_refusal (length s) at)) (read_answer (read_code (codes_of t) (bits_of s) at))

@@ -1,6 +1,6 @@
 -- Laws of the refusals of codes: what holds where none is met, and that what was written is read back.
 -- Assumes nothing.
-use Rattle.std.specs.Prelude.{ℕ, ◌+◌, ◌/◌, ◌≡◌, refl, Bool, true, false, List, [], ◌∷◌, ◌++◌, eqb, ltb, length, drop}
+use Rattle.std.specs.Prelude.{ℕ, Result, ◌+◌, ◌/◌, ◌≡◌, refl, Bool, true, false, List, [], ◌∷◌, ◌++◌, eqb, ltb, length, drop}
 use Rattle.std.proofs.Common.{sym, ap, ◌∙◌, true≢false, arith, eqb-true, eq-eqb, ltb-true}
 use Rattle.bits.specs.Basics.{All, or_else, unless}
 use Rattle.bits.specs.BasicsLaws.{or_none, or_next, unless-none}
@@ -8,10 +8,12 @@ use Rattle.bits.specs.Bits.{bits_of, put_bits}
 use Rattle.bits.specs.BitsLaws.{length_bits_of, drop_put}
 use Rattle.bits.specs.BitNeeds.{Fits}
 use Rattle.bits.specs.BitNeedsLaws.{wrote_size}
-use Rattle.bits.specs.Calls.{done, start_refusal, room_refusal, Put}
+use Rattle.bits.specs.Refusals.{done, refused}
+use Rattle.bits.specs.Calls.{start_refusal, room_refusal, Put}
 use Rattle.bits.specs.CallsLaws.{room_passes, start_is, answer_given}
-use Rattle.bits.specs.declared.svq1_enc.Pushed.{Pushed}
-use Rattle.code_tables.specs.Codes.{code, code_len, codes_of, good_table, prefix_free}
+use Rattle.bits.specs.declared.refusal.Refusal.{Refusal}
+use Rattle.code_tables.specs.Codes.{code, code_len, codes_of, good_table, prefix_free, CodeRead, Code, NoCode, Ends, bad, code_got}
+use Rattle.code_tables.specs.declared.svq1_vlc.CodeFound.{CodeFound}
 use Rattle.code_tables.specs.CodesLaws.{code-length, length_codes_of, good_is}
 use Rattle.code_tables.specs.CodeReadLaws.{read_at}
 use Rattle.code_tables.specs.CodeNeeds.{GoodEntry}
@@ -56,9 +58,9 @@ code_passes bytes at t k e =
     }
 
 -- ---- what `push_code` writes, `read_code` answers: the code's position and the bit behind it
-pub pushed_read : (s : List ℕ) (at : ℕ) (t : List ℕ) (k : ℕ) (r : Pushed) (left : List ℕ)
+pub pushed_read : (s : List ℕ) (at : ℕ) (t : List ℕ) (k : ℕ) (r : Result ℕ Refusal) (left : List ℕ)
     → Put (code_refusal (length s) at t k) s at (code (codes_of t) k) r left → code_refusal (length s) at t k ≡ 0
-    → code_at left at t ≡ done (record { value = k; next = at + length (code (codes_of t) k) })
+    → code_at left at t ≡ done (record { position = k; next = at + length (code (codes_of t) k) })
 unfolding code_at
 pushed_read s at t k r left put e =
     let p = code_passes (length s) at t k e in
@@ -69,3 +71,16 @@ pushed_read s at t k r left put e =
     let read = read_at (codes_of t) k (bits_of left) _ at (table_passes t p.table).1 (rw length_codes_of p.entry.there) here in
     let none : or_else (table_refusal t) (start_refusal (length left) at) ≡ 0 = or_next _ _ p.table ∙ start_is (length left) at (omega arith) (omega arith) in
     answer_given _ _ none ∙ ap read_answer read
+
+-- ---- what an answer tells of the code that was read
+pub answer_found : (c : CodeRead) (x : CodeFound) → done x ≡ read_answer c → c ≡ Code x.position x.next
+answer_found (Code k next) x e =
+    let same : x ≡ record { position = k; next = next } = cc in
+    rw same
+answer_found NoCode x e = cc
+answer_found Ends x e = cc
+
+pub answer_bad : (c : CodeRead) (bits : List ℕ) (n : ℕ) → refused n ≡ read_answer c → code_got bits c ≡ bad n
+answer_bad (Code k next) bits n e = cc
+answer_bad NoCode bits n e = let same : n ≡ 10 = cc in rw same
+answer_bad Ends bits n e = let same : n ≡ 24 = cc in rw same

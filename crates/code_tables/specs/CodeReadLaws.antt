@@ -6,10 +6,8 @@ use Rattle.bits.specs.BasicsLaws.{both_true, either_right, is_false}
 use Rattle.bits.specs.Bits.{msb, val_of, put_bits}
 use Rattle.bits.specs.BitsLaws.{drop_put, drop_after, length_msb}
 use Rattle.bits.specs.ReadLaws.{val_of-msb}
-use Rattle.code_tables.specs.Codes.{begins, clash, apart, prefix_free, code, first_code, any_start, read_code, got, bad, code_got, take_code, take_bits}
+use Rattle.code_tables.specs.Codes.{begins, clash, apart, prefix_free, code, CodeRead, Code, NoCode, Ends, first_code, any_start, read_code, got, bad, code_got, take_code, take_bits}
 use Rattle.code_tables.specs.CodesLaws.{begins-append, begins_window, starts_window, eqb_swap, apart_at}
-use Rattle.code_tables.specs.declared.svq1_vlc.CodeRead.{CodeRead}
-use Rattle.code_tables.specs.declared.svq1_vlc.CodeRead.TheVariants.{Code, NoCode, Ends}
 
 -- a code that begins d and more clashes with d
 begins-clash : (c d r : List ℕ) → begins c (d ++ r) ≡ true → clash c d ≡ true

@@ -2,8 +2,6 @@
 use Rattle.std.specs.Prelude.{ℕ, suc, ◌+◌, ◌*◌, ◌^◌, Bool, true, false, not, ◌&&◌, ◌||◌, List, [], ◌∷◌, eqb, leb, ltb, length, take, drop, get_or}
 use Rattle.bits.specs.Basics.{pick}
 use Rattle.bits.specs.Bits.{msb, val_of}
-use Rattle.code_tables.specs.declared.svq1_vlc.CodeRead.{CodeRead}
-use Rattle.code_tables.specs.declared.svq1_vlc.CodeRead.TheVariants.{Code, NoCode, Ends}
 
 -- ---- a table's entries: three bytes each, the code's high byte, its low byte, its length
 abbrev pub code_val : List ℕ → ℕ → ℕ
@@ -55,6 +53,12 @@ prefix_free [] = true
 prefix_free (c ∷ cs) = apart c cs && prefix_free cs
 
 -- ---- reading a code
+-- what reading a code finds at a bit: the position of its entry and the bit behind it; no code; or the start of one, cut off by the end
+pub data CodeRead : Type 0 where
+  Code : ℕ → ℕ → CodeRead
+  NoCode : CodeRead
+  Ends : CodeRead
+
 -- the first of the codes, counted from k, that begins bs, with the bit behind it, where bs stands at bit `at`; else `other`
 unfoldable pub first_code : List (List ℕ) → ℕ → List ℕ → ℕ → CodeRead → CodeRead
 first_code [] k bs at other = other

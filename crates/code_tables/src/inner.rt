@@ -4,12 +4,15 @@ ghost use Rattle.std.specs.Prelude.{◌≡◌, true, ◌+◌, ◌*◌, ◌/◌, 
 ghost use Rattle.bits.specs.Basics.{pick};
 ghost use Rattle.bits.specs.Bits.{msb, bits_of};
 ghost use Rattle.bits.specs.BitNeeds.{Fits, Wrote};
+ghost use Rattle.bits.specs.Refusals.{answer_of};
+ghost use Rattle.code_tables.specs.Calls.{read_answer};
 ghost use Rattle.code_tables.specs.CodeNeeds.{GoodEntry, FirstThatBegins};
 ghost use Rattle.code_tables.specs.RangeForms.{range_end, range_ends, meet, meetings, ranges_apart};
 ghost use Rattle.code_tables.specs.Codes.{begins, code, codes_of, code_len, code_val, any_start, read_code, prefix_free, good_entry, good_table};
 
-use super::svq1_vlc::CodeRead;
+use super::svq1_vlc::CodeFound;
 use bits::inner::{get_bits, put_bits};
+use bits::refusal::Refusal;
 
 // Whether the a bits of x are the first of the b bits of y.
 fn begins_bits(x: u64, a: u32, y: u64, b: u32) -> bool
@@ -35,20 +38,17 @@ pub fn entry_val(t: &[u8], i: usize) -> u64
     t[3 * i] as u64 * 256 + t[3 * i + 1] as u64
 }
 
-// The first entry whose code begins the m bits of w, or the number of entries.
-fn find_code(table: &[u8], w: u64, m: u32) -> usize
+// The first entry whose code begins the m bits of w.
+fn find_code(table: &[u8], w: u64, m: u32) -> Option<usize>
     requires { (m ≤ 32) × (w < 2 ^ m) × (good_table table.now ≡ true) }
     ensures { FirstThatBegins (codes_of table.now) (msb m w) result }
 {
-    let n = table.len() / 3;
-    let mut i = 0;
-    while i < n {
+    for i in 0..table.len() / 3 {
         if begins_bits(entry_val(table, i), entry_len(table, i), w, m) {
-            return i;
+            return Some(i);
         }
-        i += 1;
     }
-    i
+    None
 }
 
 // Whether the m bits of w are the start of some code.
@@ -56,15 +56,7 @@ fn any_start(table: &[u8], w: u64, m: u32) -> bool
     requires { (m ≤ 32) × (w < 2 ^ m) × (good_table table.now ≡ true) }
     ensures { result ≡ any_start (codes_of table.now) (msb m w) }
 {
-    let n = table.len() / 3;
-    let mut i = 0;
-    while i < n {
-        if begins_bits(w, m, entry_val(table, i), entry_len(table, i)) {
-            return true;
-        }
-        i += 1;
-    }
-    false
+    (0..table.len() / 3).any(|i| begins_bits(w, m, entry_val(table, i), entry_len(table, i)))
 }
 
 // How many bits there are from bit `at` on, at most 32.
@@ -72,25 +64,26 @@ fn window(s: &[u8], at: usize) -> u32
     requires { Fits (length s.now) at 0 }
     ensures { result ≡ min 32 (8 * length s.now - at) }
 {
-    let left = 8 * s.len() - at;
-    if left < 32 { left as u32 } else { 32 }
+    (8 * s.len() - at).min(32) as u32
 }
 
 // The first code of the table that stands at bit `at`.
-pub fn read_code(s: &[u8], at: usize, table: &[u8]) -> CodeRead
+pub fn read_code(s: &[u8], at: usize, table: &[u8]) -> Result<CodeFound, Refusal>
     requires { Fits (length s.now) at 0 × (good_table table.now ≡ true) }
-    ensures { result ≡ read_code (codes_of table.now) (bits_of s.now) at }
+    ensures { answer_of result ≡ read_answer (read_code (codes_of table.now) (bits_of s.now) at) }
 {
     let m = window(s, at);
     let w = get_bits(s, at, m) as u64;
-    let i = find_code(table, w, m);
-    if i < table.len() / 3 {
-        return CodeRead::Code(i, at + entry_len(table, i) as usize);
+    if let Some(position) = find_code(table, w, m) {
+        return Ok(CodeFound {
+            position,
+            next: at + entry_len(table, position) as usize,
+        });
     }
     if any_start(table, w, m) {
-        return CodeRead::Ends;
+        return Err(Refusal::BitsEnd);
     }
-    CodeRead::NoCode
+    Err(Refusal::NoCode)
 }
 
 // The code of entry k, from bit `at` on.
@@ -124,11 +117,8 @@ fn range_ends(table: &[u8], e: u64, out: &mut [u32])
     requires { (e ≤ 1) × (good_table table.now ≡ true) × (length out.old ≡ length table.now / 3) }
     ensures { out.new ≡ range_ends e table.now }
 {
-    let n = out.len();
-    let mut i = 0;
-    while i < n {
+    for i in 0..out.len() {
         out[i] = range_end(e, entry_val(table, i), entry_len(table, i));
-        i += 1;
     }
 }
 
@@ -136,13 +126,7 @@ fn range_ends(table: &[u8], e: u64, out: &mut [u32])
 fn meets(low: u32, high: u32, other_low: u32, other_high: u32) -> u32
     ensures { (result ≡ pick (meet low high other_low other_high) 1 0) × (result ≤ 1) }
 {
-    if low <= other_high {
-        if other_low <= high {
-            return 1;
-        }
-        return 0;
-    }
-    0
+    (low <= other_high && other_low <= high) as u32
 }
 
 // How many ranges meet the one from `low` to `high`. No early end, so that several are compared at once.
@@ -150,12 +134,9 @@ fn count_meetings(low: u32, high: u32, lows: &[u32], highs: &[u32]) -> u32
     requires { (length lows.now ≡ length highs.now) × (length lows.now ≤ 65536) }
     ensures { result ≡ meetings low high lows.now highs.now }
 {
-    let n = lows.len();
-    let mut k = 0;
     let mut met = 0;
-    while k < n {
+    for k in 0..lows.len() {
         met += meets(low, high, lows[k], highs[k]);
-        k += 1;
     }
     met
 }
@@ -165,13 +146,9 @@ fn ranges_apart(lows: &[u32], highs: &[u32]) -> bool
     requires { (length lows.now ≡ length highs.now) × (length lows.now ≤ 65536) }
     ensures { result ≡ ranges_apart lows.now highs.now }
 {
-    let n = lows.len();
-    let mut i = 0;
-    while i < n {
+    for i in 0..lows.len() {
         let behind = i + 1;
-        if count_meetings(lows[i], highs[i], &lows[behind..], &highs[behind..]) == 0 {
-            i += 1;
-        } else {
+        if count_meetings(lows[i], highs[i], &lows[behind..], &highs[behind..]) != 0 {
             return false;
         }
     }
@@ -193,13 +170,7 @@ pub fn prefix_free(table: &[u8], lows: &mut [u32], highs: &mut [u32]) -> bool
 pub fn good_entry(v: u64, n: u32) -> bool
     ensures { result ≡ good_entry v n }
 {
-    if n < 1 {
-        return false;
-    }
-    if 32 < n {
-        return false;
-    }
-    v < 1u64 << n
+    1 <= n && n <= 32 && v < 1u64 << n
 }
 
 // Whether every entry's length is 1 to 32 and its value below 2 to the length.
@@ -207,14 +178,5 @@ pub fn good_table(table: &[u8]) -> bool
     requires { length table.now % 3 ≡ 0 }
     ensures { result ≡ good_table table.now }
 {
-    let n = table.len() / 3;
-    let mut i = 0;
-    while i < n {
-        if good_entry(entry_val(table, i), entry_len(table, i)) {
-            i += 1;
-        } else {
-            return false;
-        }
-    }
-    true
+    (0..table.len() / 3).all(|i| good_entry(entry_val(table, i), entry_len(table, i)))
 }

@@ -1,18 +1,17 @@
 // Refusals 5, 6 and 7 of a table that is lent alone.
 ghost use Rattle.std.specs.Prelude.{◌≡◌, true, ◌/◌, ◌≤◌, length};
+ghost use Rattle.bits.specs.Refusals.{refused_by};
 ghost use Rattle.code_tables.specs.Codes.{codes_of, good_table, prefix_free};
 ghost use Rattle.code_tables.specs.Calls.{one_of, table_bytes, table_refusal};
 
 use super::inner;
+use bits::refusal::Refusal;
 
 // Whether some kind of code table has so many bytes.
 fn table_size(bytes: usize) -> bool
     ensures { result ≡ one_of table_bytes bytes }
 {
-    match bytes {
-        12 | 24 | 192 | 768 | 1536 => true,
-        _ => false,
-    }
+    matches!(bytes, 12 | 24 | 192 | 768 | 1536)
 }
 
 // Whether a table of at most 512 entries is prefix-free, with room for the ranges of its codes.
@@ -35,17 +34,17 @@ fn prefix_free(table: &[u8]) -> bool
 }
 
 // Refusals 5, 6 and 7 of a table.
-pub fn table_refusal(table: &[u8]) -> u8
-    ensures { result ≡ table_refusal table.now }
+pub fn check_table(table: &[u8]) -> Result<(), Refusal>
+    ensures { refused_by result ≡ table_refusal table.now }
 {
-    if table_size(table.len()) {
-        if inner::good_table(table) {
-            if prefix_free(table) {
-                return 0;
-            }
-            return 7;
-        }
-        return 6;
+    if !table_size(table.len()) {
+        return Err(Refusal::TableLength);
     }
-    5
+    if !inner::good_table(table) {
+        return Err(Refusal::CodeWidth);
+    }
+    if !prefix_free(table) {
+        return Err(Refusal::NotPrefixFree);
+    }
+    Ok(())
 }

@@ -1,48 +1,25 @@
 // Codes read from a lent slice.
 ghost use Rattle.std.specs.Prelude.{◌≡◌};
-ghost use Rattle.code_tables.specs.Calls.{code_answer, code_at, read_answer};
+ghost use Rattle.bits.specs.Refusals.{answer_of};
+ghost use Rattle.code_tables.specs.Calls.{code_at};
 
 use super::inner;
-use super::refusal::table_refusal;
-use bits::inner::start_refusal;
+use super::refusal::check_table;
+use bits::inner::check_start;
+use bits::refusal::Refusal;
 
-// What reading a code finds at a bit: the position of its entry and the bit behind it; no code; or the start of one, cut off by the end.
-#[derive(Drop)]
-pub enum CodeRead {
-    Code(usize, usize),
-    NoCode,
-    Ends,
-}
-
-// The position of the code that was read and the bit behind it, or the number of a refusal.
-#[derive(Drop)]
-pub enum CodeAnswer {
-    Code(usize, usize),
-    Refused(u8),
-}
-
-// What was found, with the numbers of refusals.
-fn answered(read: CodeRead) -> CodeAnswer
-    ensures { code_answer result ≡ read_answer read }
-{
-    match read {
-        CodeRead::Code(position, next) => CodeAnswer::Code(position, next),
-        CodeRead::NoCode => CodeAnswer::Refused(10),
-        CodeRead::Ends => CodeAnswer::Refused(24),
-    }
+// The position of the entry whose code was read, and the bit behind the code.
+#[derive(Clone, Copy)]
+pub struct CodeFound {
+    pub position: usize,
+    pub next: usize,
 }
 
 // The first code of the table that stands at bit `at`.
-pub fn read_code(s: &[u8], at: usize, table: &[u8]) -> CodeAnswer
-    ensures { code_answer result ≡ code_at s.now at table.now }
+pub fn read_code(s: &[u8], at: usize, table: &[u8]) -> Result<CodeFound, Refusal>
+    ensures { answer_of result ≡ code_at s.now at table.now }
 {
-    let bad = table_refusal(table);
-    if bad != 0 {
-        return CodeAnswer::Refused(bad);
-    }
-    let beyond = start_refusal(s.len(), at);
-    if beyond != 0 {
-        return CodeAnswer::Refused(beyond);
-    }
-    answered(inner::read_code(s, at, table))
+    check_table(table)?;
+    check_start(s.len(), at)?;
+    inner::read_code(s, at, table)
 }

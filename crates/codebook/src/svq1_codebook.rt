@@ -3,7 +3,7 @@ pub mod inner;
 
 ghost use Rattle.std.specs.Prelude.{◌≡◌, ◌<◌};
 ghost use Rattle.book.specs.Level.{level_number};
-ghost use Rattle.codebook.specs.CodebookCalls.{place_number, page_place, raster_place};
+ghost use Rattle.codebook.specs.CodebookCalls.{page_place, raster_place};
 ghost use Rattle.codebook.specs.Raster.{RasterOrder, raster_start};
 
 use super::svq1_codebook::inner::page_start;
@@ -13,23 +13,16 @@ use book::svq1_vlc::Svq1Half;
 // Numbers of the raster order: a vector's bytes at L0, L1, L2 and L3.
 pub const RASTER_NUMBERS: usize = 120;
 
-// A place in the payload or in a block; or none.
-#[derive(Clone, Copy)]
-pub enum Place {
-    At(usize),
-    Nowhere,
-}
-
-// Where the half's page of the level begins in the payload.
+// Where the half's page of the level begins in the payload; L4 and L5 have none.
 #[tactic(auto, using(crate::specs::CodebookCallsLaws::page_at))]
-pub fn half_byte_offset_in_payload(level: Svq1Level, half: Svq1Half) -> Place
-    ensures { place_number result ≡ page_place (level_number level) half }
+pub fn half_byte_offset_in_payload(level: Svq1Level, half: Svq1Half) -> Option<usize>
+    ensures { result ≡ page_place (level_number level) half }
 {
     let d = level.number();
     if d < 4 {
-        return Place::At(page_start(half, d));
+        return Some(page_start(half, level));
     }
-    Place::Nowhere
+    None
 }
 
 // Where each byte of a vector goes in its block, in raster order: L0, L1, L2, L3.
@@ -68,17 +61,17 @@ fn raster_start(d: usize) -> usize
 }
 
 // Where a byte of one of the level's vectors goes in the block, in raster order.
-pub fn vector_byte_to_raster(level: Svq1Level, byte: usize) -> Place
-    ensures { place_number result ≡ raster_place (level_number level) byte }
+pub fn vector_byte_to_raster(level: Svq1Level, byte: usize) -> Option<usize>
+    ensures { result ≡ raster_place (level_number level) byte }
 {
     let d = level.number();
     if 3 < d {
-        return Place::Nowhere;
+        return None;
     }
     if level.vector_length() <= byte {
-        return Place::Nowhere;
+        return None;
     }
     let order = raster_order();
     let i = raster_start(d) + byte;
-    Place::At(order[i] as usize)
+    Some(order[i] as usize)
 }

@@ -7,23 +7,14 @@ ghost use Rattle.costs.specs.Cost.{cost_of};
 pub fn saturating_add(a: u64, b: u64) -> u64
     ensures { result ≡ saturated (a + b) }
 {
-    if 0xffff_ffff_ffff_ffff - a < b {
-        return 0xffff_ffff_ffff_ffff;
-    }
-    a + b
+    a.saturating_add(b)
 }
 
 // The product of a cost and a count, likewise.
 pub fn saturating_mul(a: u64, b: u64) -> u64
     ensures { result ≡ saturated (a * b) }
 {
-    if b == 0 {
-        return 0;
-    }
-    if 0xffff_ffff_ffff_ffff / b < a {
-        return 0xffff_ffff_ffff_ffff;
-    }
-    a * b
+    a.saturating_mul(b)
 }
 
 // The cost of `bits` bits and an error.

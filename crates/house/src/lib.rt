@@ -2,12 +2,13 @@
 #![tactic(auto)]
 
 ghost use Rattle.std.specs.Prelude.{◌≡◌, ◌<◌};
+ghost use Rattle.bits.specs.Basics.{signed_byte};
+ghost use Rattle.bits.specs.Refusals.{refused_by};
 ghost use Rattle.book.specs.Book.{codebook_bytes};
 ghost use Rattle.house.specs.Fill.{BookFilled, CodebookFilled};
 ghost use Rattle.house.specs.House.{HouseBook, house_sample};
-ghost use Rattle.bits.specs.Basics.{signed_byte};
 
-use bits::inner::put_row;
+use bits::refusal::Refusal;
 use book::inner::{BOOK_BYTES, CODEBOOK_BYTES};
 
 // Mode, vector, intramean, intermean, intrastage, interstage: 932 entries, each the code's high byte, its low byte, its length.
@@ -141,17 +142,17 @@ pub fn house_book() -> [u8; BOOK_BYTES]
     HOUSE_BOOK
 }
 
-// The house book put into a slice of 2,796 bytes; 5 for a slice of another length.
+// The house book put into a slice of 2,796 bytes; one of another length is refused.
 #[tactic(auto, using(crate::specs::FillLaws::fill_refused))]
-pub fn fill_house_book(out: &mut [u8]) -> u8
-    ensures { BookFilled out.old result out.new }
+pub fn fill_house_book(out: &mut [u8]) -> Result<(), Refusal>
+    ensures { BookFilled out.old (refused_by result) out.new }
 {
     if out.len() != BOOK_BYTES {
-        return 5;
+        return Err(Refusal::TableLength);
     }
     let book = house_book();
-    put_row(out, 0, &book);
-    0
+    out.copy_from_slice(&book);
+    Ok(())
 }
 
 // Byte i of the house codebook.
@@ -166,17 +167,15 @@ fn house_byte(i: usize) -> u8
     (raised - 30) as u8
 }
 
-// The house codebook put into a slice of 23,040 bytes; 5 for a slice of another length.
-pub fn fill_house_codebook(out: &mut [u8]) -> u8
-    ensures { CodebookFilled out.old result out.new }
+// The house codebook put into a slice of 23,040 bytes; one of another length is refused.
+pub fn fill_house_codebook(out: &mut [u8]) -> Result<(), Refusal>
+    ensures { CodebookFilled out.old (refused_by result) out.new }
 {
     if out.len() != CODEBOOK_BYTES {
-        return 5;
+        return Err(Refusal::TableLength);
     }
-    let mut i = 0;
-    while i < CODEBOOK_BYTES {
+    for i in 0..CODEBOOK_BYTES {
         out[i] = house_byte(i);
-        i += 1;
     }
-    0
+    Ok(())
 }

@@ -3,6 +3,7 @@ use Rattle.std.specs.Prelude.{ℕ, zero, suc, ◌+◌, ◌-◌, ◌*◌, ◌/◌
 use Rattle.std.proofs.Common.{sym, ap, ◌∙◌, add-one, arith, lt-ltb, le-ltb}
 use Rattle.std.proofs.Math.Nat.{pow-succ'}
 use Rattle.std.proofs.Math.IntN.{sub_ℕ}
+use lib.Pow.{pow_pos}
 use Rattle.std.proofs.lemmas.List.Edits.{sets}
 use Rattle.bits.specs.FillLaws.{sets_append}
 use Rattle.house.specs.House.{log_under, signed_rank, house_entry, house_from}
@@ -25,6 +26,17 @@ pub log_last : (f m : ℕ) → m ≤ 1 → log_under f m ≡ 0
 unfolding log_under
 log_last zero m h = refl
 log_last (suc f) m h = rw (lt-ltb m 2 (omega arith))
+
+-- the number that std's `ilog2` answers
+pub log_is : (f n r : ℕ) → n < 2 ^ f → 2 ^ r ≤ n → n < 2 * 2 ^ r → r ≡ log_under f n
+unfolding log_under
+log_is zero n r h a b = absurd (omega (arith, pow_pos r))
+log_is (suc f) n zero h a b = rw (lt-ltb n 2 (omega arith))
+log_is (suc f) n (suc r) h a b =
+    let e : 2 ^ suc f ≡ 2 * 2 ^ f = pow-succ' 2 f in
+    let d : 2 ^ suc r ≡ 2 * 2 ^ r = pow-succ' 2 r in
+    let one : 1 ≤ 2 ^ r = pow_pos r in
+    ap suc (log_is f (n / 2) r (omega arith) (omega arith) (omega arith)) ∙ sym (log_half f n (omega arith))
 
 -- ---- the rank of a signed number, by its position and that of 0
 pub rank_above : (p z : ℕ) → z < p → 2 * (p - z) - 1 ≡ signed_rank (sub_ℕ p z)

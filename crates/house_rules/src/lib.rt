@@ -4,26 +4,14 @@
 
 ghost use Rattle.std.specs.Prelude.{◌≡◌, ◌≤◌, ◌<◌};
 ghost use Rattle.std.proofs.Math.IntN.{sub_ℕ};
+ghost use Rattle.bits.specs.Refusals.{refused_by};
 ghost use Rattle.book.specs.Book.{book_entries};
 ghost use Rattle.house.specs.Fill.{BookFilled};
-ghost use Rattle.house.specs.House.{log_under, signed_rank, rank, house_entry};
+ghost use Rattle.house.specs.House.{signed_rank, rank, house_entry};
 
 use bits::inner::put_row;
+use bits::refusal::Refusal;
 use book::inner::{BOOK_BYTES, BOOK_ENTRIES};
-
-// Floor of the logarithm to base 2: how often a number can be halved until 1 is left.
-fn floor_log2(n: usize) -> usize
-    requires { n < 65536 }
-    ensures { (result ≡ log_under 16 n) × (result ≤ 16) }
-{
-    let mut k = 0;
-    let mut m = n;
-    while 1 < m {
-        m /= 2;
-        k += 1;
-    }
-    k
-}
 
 // k of the signed number d at a position of its table, where 0 stands at position `zero`: 2d - 1 if d is above 0, else -2d.
 fn signed_rank(position: usize, zero: usize) -> usize
@@ -63,24 +51,21 @@ fn house_entry(entry: usize) -> [u8; 3]
 {
     let rank = house_rank(entry);
     let value = rank + 1;
-    let long = 2 * floor_log2(value) + 1;
+    let long = 2 * value.ilog2() + 1;
     let high = (value / 256) as u8;
     let low = (value % 256) as u8;
     [high, low, long as u8]
 }
 
-// The house book worked out into a slice of 2,796 bytes; 5 for a slice of another length. What it leaves is what `fill_house_book` leaves.
-pub fn work_out_house_book(out: &mut [u8]) -> u8
-    ensures { BookFilled out.old result out.new }
+// The house book worked out into a slice of 2,796 bytes; one of another length is refused. What it leaves is what `fill_house_book` leaves.
+pub fn work_out_house_book(out: &mut [u8]) -> Result<(), Refusal>
+    ensures { BookFilled out.old (refused_by result) out.new }
 {
     if out.len() != BOOK_BYTES {
-        return 5;
+        return Err(Refusal::TableLength);
     }
-    let mut e = 0;
-    while e < BOOK_ENTRIES {
-        let bytes = house_entry(e);
-        put_row(out, 3 * e, &bytes);
-        e += 1;
+    for e in 0..BOOK_ENTRIES {
+        put_row(out, 3 * e, &house_entry(e));
     }
-    0
+    Ok(())
 }

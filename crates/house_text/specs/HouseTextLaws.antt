@@ -1,16 +1,18 @@
 -- Laws of tables as text. Assumes nothing.
-use Rattle.std.specs.Prelude.{ℕ, ◌+◌, ◌≤◌, ◌<◌, ◌≡◌, refl, Bool, true, false, List, [], ◌∷◌, ◌++◌, leb, take, get_or}
+use Rattle.std.specs.Prelude.{ℕ, ◌+◌, ◌≤◌, ◌<◌, ◌≡◌, refl, Bool, true, false, List, [], ◌∷◌, ◌++◌, eqb, leb, take, get_or, Result, Ok, Err}
 use Rattle.std.proofs.Math.Path.{sym, ap}
 use Rattle.std.proofs.Common.{◌∙◌, append_assoc, append-nil, add-one, arith, take-append-drop, take-suc}
 use Rattle.std.proofs.Math.ListN.{length, drop, length-append}
 use Rattle.std.proofs.Math.Seq.{length-take-le}
 use borrow.Author.Tests.{eq-eqb, le-leb, lt-leb, leb-true, leb-false}
-use Rattle.bits.specs.Basics.{signed_of}
-use Rattle.bits.specs.BasicsLaws.{first_met, first_passed, first_last, unless-none}
+use Rattle.bits.specs.Basics.{pick, signed_of}
+use Rattle.bits.specs.BasicsLaws.{first_passed, first_last, unless-none}
+use Rattle.bits.specs.declared.refusal.Refusal.{Refusal}
+use Rattle.bits.specs.Refusals.{number_of, refused_by}
+use Rattle.bits.specs.CallsLaws.{refusal_met, link_met}
 use Rattle.text.specs.Text.{line_feed, signed_decimal}
-use Rattle.text.specs.WritingForms.{put_text, PutInRoom, text_refusal, TextWritten}
-use Rattle.text.specs.PutLaws.{part_put, put_behind, text_refused, text_written}
-use Rattle.text.specs.declared.Written.{Written}
+use Rattle.text.specs.WritingForms.{put_text, PutInRoom, text_refusal, bytes_written, TextWritten}
+use Rattle.text.specs.PutLaws.{part_put, put_behind, text_refused, text_written, written_told}
 use Rattle.book.specs.Book.{codebook_bytes, data_refusal}
 use Rattle.book.specs.BookLaws.{data_passes}
 use Rattle.house.specs.House.{house_book, house_codebook}
@@ -43,22 +45,22 @@ length_more codebook i n h e =
 
 -- ---- the call
 -- what refuses the tables
-pub print_refused : (book codebook out : List ℕ) (n : ℕ) → n ≡ data_refusal book codebook → (n ≡ 0 → ⊥)
-    → TextWritten (print_refusal book codebook (length out)) (tables_printed book codebook) out (record { refused = n; bytes = 0 }) out
+pub print_refused : (book codebook out : List ℕ) (e : Refusal) → number_of e ≡ data_refusal book codebook
+    → TextWritten (print_refusal book codebook (length out)) (tables_printed book codebook) out (Err e) out
 unfolding print_refusal
-print_refused book codebook out n e h = text_refused _ n _ out (first_met n _ _ e h) h
+print_refused book codebook out e h = text_refused _ e _ out (link_met e _ _ h)
 
 module _ (book codebook out : List ℕ) (passes : data_refusal book codebook ≡ 0) where
   -- a slice that is too short
-  pub print_short : length out < length (book_file book) + length (number_lines codebook)
-      → TextWritten (print_refusal book codebook (length out)) (tables_printed book codebook) out (record { refused = 20; bytes = 0 }) out
+  pub print_short : (e : Refusal) → number_of e ≡ 20 → length out < length (book_file book) + length (number_lines codebook)
+      → TextWritten (print_refusal book codebook (length out)) (tables_printed book codebook) out (Err e) out
   unfolding print_refusal tables_printed
-  print_short h =
+  print_short e n h =
       let t = book_file book ++ number_lines codebook in
-      let room : 20 ≡ text_refusal t (length out) = rw (lt-leb (length t) (length out) (omega (arith, length-append (book_file book) (number_lines codebook)))) in
-      text_refused _ 20 t out (first_passed 20 _ _ passes (first_last 20 _ room)) (λ z. omega arith)
+      let room : number_of e ≡ text_refusal t (length out) = n ∙ sym (rw (lt-leb (length t) (length out) (omega (arith, length-append (book_file book) (number_lines codebook))))) in
+      text_refused _ e t out (first_passed (number_of e) _ _ passes (first_last (number_of e) _ room))
 
-  module _ (room : ℕ) (is : room + length (number_lines codebook) ≡ length out) (r : Written) (left : List ℕ)
+  module _ (room : ℕ) (is : room + length (number_lines codebook) ≡ length out) (r : Result ℕ Refusal) (left : List ℕ)
       (file : TextWritten (write_file_refusal book (length (take room out))) (book_file book) (take room out) r left) where
     -- the file's writer refuses nothing but the room
     file_refusal_lem : write_file_refusal book (length (take room out)) ≡ text_refusal (book_file book) room
@@ -67,34 +69,41 @@ module _ (book codebook out : List ℕ) (passes : data_refusal book codebook ≡
         let long : length (take room out) ≡ room = length-take-le room out (omega arith) in
         rw long (sym (first_passed _ _ _ (data_passes book codebook passes).1 (first_last _ _ refl)))
 
-    refused_is : r.refused ≡ text_refusal (book_file book) room
-    refused_is = ap (λ (w : Written). w.refused) file.answer ∙ file_refusal_lem
+    told : (refused_by r ≡ write_file_refusal book (length (take room out))) × (bytes_written r ≡ pick (eqb (write_file_refusal book (length (take room out))) 0) (length (book_file book)) 0)
+    told = written_told _ (book_file book) (take room out) r left file
+
+    refused_is : refused_by r ≡ text_refusal (book_file book) room
+    refused_is = told.0 ∙ file_refusal_lem
 
     -- where it does, the text has no room, and the slice is as it was
-    pub file_short : (r.refused ≡ 0 → ⊥)
-        → TextWritten (print_refusal book codebook (length out)) (tables_printed book codebook) out (record { refused = 20; bytes = 0 }) (left ++ drop room out)
-    file_short h = go (leb (length (book_file book)) room) refl
+    pub file_short : (e : Refusal) → r ≡ Err e
+        → TextWritten (print_refusal book codebook (length out)) (tables_printed book codebook) out (Err e) (left ++ drop room out)
+    file_short e is-err = go (leb (length (book_file book)) room) refl
       where
+        met : number_of e ≡ text_refusal (book_file book) room
+        met = ap refused_by (sym is-err) ∙ refused_is
+
         go : (b : Bool) → leb (length (book_file book)) room ≡ b
-            → TextWritten (print_refusal book codebook (length out)) (tables_printed book codebook) out (record { refused = 20; bytes = 0 }) (left ++ drop room out)
-        go true q = absurd (h (refused_is ∙ rw q))
+            → TextWritten (print_refusal book codebook (length out)) (tables_printed book codebook) out (Err e) (left ++ drop room out)
+        go true q = absurd (refusal_met e _ met (rw q))
         go false q =
             let same : left ≡ take room out = rw (file_refusal_lem, q) at file.left in
-            rw (same, take-append-drop room out) (print_short (omega (arith, leb-false (length (book_file book)) room q)))
+            rw (same, take-append-drop room out) (print_short e (met ∙ rw q) (omega (arith, leb-false (length (book_file book)) room q)))
 
     -- else the file stands in the whole slice, and the numbers are put behind it
-    pub file_then_numbers : r.refused ≡ 0 → (x : ℕ) (after : List ℕ) → PutInRoom (left ++ drop room out) r.bytes (number_lines codebook) x after
-        → TextWritten (print_refusal book codebook (length out)) (tables_printed book codebook) out (record { refused = 0; bytes = x }) after
+    pub file_then_numbers : (n : ℕ) → r ≡ Ok n → (x : ℕ) (after : List ℕ) → PutInRoom (left ++ drop room out) n (number_lines codebook) x after
+        → TextWritten (print_refusal book codebook (length out)) (tables_printed book codebook) out (Ok x) after
     unfolding print_refusal tables_printed
-    file_then_numbers h x after p =
-        let fits : length (book_file book) ≤ room = leb-true (length (book_file book)) room (unless-none (leb (length (book_file book)) room) 20 (omega arith) (sym refused_is ∙ h)) in
-        let none : write_file_refusal book (length (take room out)) ≡ 0 = file_refusal_lem ∙ sym refused_is ∙ h in
-        let size : r.bytes ≡ 0 + length (book_file book) = ap (λ (w : Written). w.bytes) file.answer ∙ rw none (omega arith) in
+    file_then_numbers n is-ok x after p =
+        let h : 0 ≡ text_refusal (book_file book) room = ap refused_by (sym is-ok) ∙ refused_is in
+        let fits : length (book_file book) ≤ room = leb-true (length (book_file book)) room (unless-none (leb (length (book_file book)) room) 20 (omega arith) (sym h)) in
+        let none : write_file_refusal book (length (take room out)) ≡ 0 = file_refusal_lem ∙ sym h in
+        let size : n ≡ 0 + length (book_file book) = ap bytes_written (sym is-ok) ∙ told.1 ∙ rw none (omega arith) in
         let put : left ≡ put_text (take room out) 0 (book_file book) = rw none at file.left in
         let mid : left ++ drop room out ≡ put_text out 0 (book_file book) = rw put (part_put out (book_file book) room fits (omega arith)) in
         let t = book_file book ++ number_lines codebook in
         let long : length t ≤ length out = omega (arith, length-append (book_file book) (number_lines codebook)) in
-        let first : PutInRoom out 0 (book_file book) r.bytes (left ++ drop room out) = record { next = λ _. size; bytes_after = λ _. mid } in
+        let first : PutInRoom out 0 (book_file book) n (left ++ drop room out) = record { next = λ _. size; bytes_after = λ _. mid } in
         text_written _ (sym (first_passed 0 _ _ passes (first_last 0 _ (rw (le-leb (length t) (length out) long))))) long (put_behind first p)
 
 -- ---- the house's text
@@ -105,7 +114,7 @@ house_refusal room =
     let whole : data_refusal house_book house_codebook ≡ 0 = rw (eq-eqb (length house_codebook) codebook_bytes length_house_codebook) house_book_lem.passes in
     sym (first_passed _ _ _ whole (first_last _ _ refl))
 
-pub house_written : (book codebook out : List ℕ) (r : Written) (left : List ℕ) → book ≡ house_book → codebook ≡ house_codebook
+pub house_written : (book codebook out : List ℕ) (r : Result ℕ Refusal) (left : List ℕ) → book ≡ house_book → codebook ≡ house_codebook
     → TextWritten (print_refusal book codebook (length out)) (tables_printed book codebook) out r left → TextWritten (text_refusal house_printed (length out)) house_printed out r left
 unfolding house_printed
 house_written book codebook out r left b c w = rw (← house_refusal (length out), ← b, ← c) w

@@ -1,7 +1,8 @@
 -- The leaf search as a call: its refusals and its answer (document 01, `svq1_enc_leaf.rs`, refusals 5 to 8; document 02, §4).
 use Rattle.std.specs.Prelude.{ℕ, zero, suc, Bool, not, ◌&&◌, List, eqb, leb, ltb, length}
 use Rattle.bits.specs.Basics.{or_else, unless}
-use Rattle.bits.specs.Calls.{Answer, done, unless_refused}
+use Rattle.bits.specs.Refusals.{Answer, done}
+use Rattle.bits.specs.Calls.{unless_refused}
 use Rattle.book.specs.Book.{tables_of, data_refusal}
 use Rattle.book.specs.Level.{area}
 use Rattle.book.specs.declared.svq1_vlc.Svq1Half.{Svq1Half}

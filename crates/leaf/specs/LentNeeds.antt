@@ -1,9 +1,10 @@
 -- What writing and reading a leaf by two lent tables asks, and what it leaves: the stage table of the leaf's level and the mean table of its half (document 01, "Reading", refusals 10, 11, 24).
-use Rattle.std.specs.Prelude.{ℕ, zero, suc, ◌+◌, ◌-◌, ◌*◌, ◌≤◌, ◌<◌, ◌≡◌, true, List, [], ◌∷◌, ◌++◌, eqb, length, take, drop, replicate, ℤ}
-use Rattle.bits.specs.Basics.{pick}
+use Rattle.std.specs.Prelude.{ℕ, zero, suc, ◌+◌, ◌-◌, ◌*◌, ◌≤◌, ◌<◌, ◌≡◌, true, List, [], ◌∷◌, ◌++◌, length, take, drop, replicate, ℤ, Result, Ok, Err, IfOk}
 use Rattle.bits.specs.Bits.{val_of}
 use Rattle.code_tables.specs.Codes.{codes_of, good_table, Got, got, bad, then, take_code}
 use Rattle.bits.specs.BitNeeds.{Fits}
+use Rattle.bits.specs.Refusals.{number_of}
+use Rattle.bits.specs.declared.refusal.Refusal.{Refusal}
 use Rattle.book.specs.Book.{Tables, tables_of}
 use Rattle.book.specs.BookLaws.{means}
 use Rattle.book.specs.declared.svq1_vlc.Svq1Half.{Svq1Half}
@@ -49,9 +50,10 @@ abbrev pub LeafSize : Svq1Half → List ℕ → List ℕ → LeafCode → ℕ �
 LeafSize h stage mean c r = (js : List ℕ) → length js ≡ 6 → r ≡ length (lent_bits h stage mean (leaf_of c js))
 
 -- ---- reading
--- what the struct says of the bits that were read: the leaf and the bits left, or the refusal
-abbrev pub leaf_got : List ℕ → ReadLeaf → Got Leaf
-leaf_got bits r = pick (eqb r.refused 0) (got (leaf_of r.code r.stages) (drop r.next bits)) (bad r.refused)
+-- what the answer says of the bits that were read: the leaf and the bits left, or the refusal
+abbrev pub leaf_got : List ℕ → Result ReadLeaf Refusal → Got Leaf
+leaf_got bits (Ok r) = got (leaf_of r.code r.stages) (drop r.next bits)
+leaf_got bits (Err e) = bad (number_of e)
 
 -- a leaf's one form in memory: its code counts its stages, and the indices behind them are 0
 abbrev pub padded : List ℕ → List ℕ
@@ -69,16 +71,11 @@ pub record Clean (c : LeafCode) (js : List ℕ) : Type 0 where
   pub code : c ≡ code_of (leaf_of c js)
   pub stages : js ≡ six_of (leaf_of c js)
 
--- what a refused reading answers
-abbrev pub refused_leaf : ℕ → ReadLeaf
-refused_leaf n = record { refused = n; next = 0; code = Skip; stages = replicate 6 0 }
-
--- the answer r is what reading gives; its next bit lies in the string, its leaf has the one form, and a refused one is `refused_leaf`
-pub record LeafRead (bits : List ℕ) (g : Got Leaf) (r : ReadLeaf) : Type 0 where
+-- the answer r is what reading gives; the next bit of a leaf lies in the string, and the leaf has the one form
+pub record LeafRead (bits : List ℕ) (g : Got Leaf) (r : Result ReadLeaf Refusal) : Type 0 where
   pub leaf : leaf_got bits r ≡ g
-  pub within : r.next ≤ length bits
-  pub clean : Clean r.code r.stages
-  pub bare : (r.refused ≡ 0 → ⊥) → r ≡ refused_leaf r.refused
+  pub within : IfOk r (λ x. x.next ≤ length bits)
+  pub clean : IfOk r (λ x. Clean x.code x.stages)
 
 -- the indices of n stages from bit `at` on
 unfoldable pub nibbles : List ℕ → ℕ → ℕ → List ℕ

@@ -1,27 +1,29 @@
 -- Laws of reading a leaf by lent tables.
 -- Assumes nothing.
-use Rattle.std.specs.Prelude.{ℕ, zero, suc, ◌+◌, ◌-◌, ◌*◌, ◌/◌, ◌≤◌, ◌<◌, ◌≡◌, refl, Bool, true, false, ◌&&◌, List, [], ◌∷◌, ◌++◌, ltb, ℤ, length, take, drop, set, replicate}
-use Rattle.std.proofs.Common.{sym, ap, ◌∙◌, arith, length-append, length-drop, take_at, ne_eqb, SFits}
+use Rattle.std.specs.Prelude.{ℕ, zero, suc, ◌+◌, ◌-◌, ◌*◌, ◌/◌, ◌≤◌, ◌<◌, ◌≡◌, refl, Bool, true, false, ◌&&◌, List, [], ◌∷◌, ◌++◌, ltb, ℤ, length, take, drop, set, replicate, Result, Ok, Err}
+use Rattle.std.proofs.Common.{sym, ap, ◌∙◌, arith, length-append, length-drop, take_at, SFits}
 use Rattle.std.proofs.Math.Decide.{dec_le}
 use Rattle.bits.specs.Basics.{pick}
 use Rattle.std.specs.Int.{w16}
 use Rattle.bits.specs.Bits.{val_of, bits_of}
 use Rattle.bits.specs.BitsLaws.{length_bits_of}
 use Rattle.bits.specs.BitNeeds.{Fits}
-use Rattle.code_tables.specs.Codes.{begins, first_code, any_start, read_code, Got, got, bad, then, take_code, take_bits, codes_of}
+use Rattle.code_tables.specs.Codes.{CodeRead, Code, NoCode, Ends, begins, first_code, any_start, read_code, Got, got, bad, then, take_code, take_bits, codes_of}
 use Rattle.code_tables.specs.CodesLaws.{begins_true, length_codes_of}
 use Rattle.code_tables.specs.CodeReadLaws.{code_at_bit, bits_at_bit, bits_short}
-use Rattle.code_tables.specs.declared.svq1_vlc.CodeRead.{CodeRead}
-use Rattle.code_tables.specs.declared.svq1_vlc.CodeRead.TheVariants.{Code, NoCode, Ends}
+use Rattle.bits.specs.Refusals.{refused, number_of}
+use Rattle.bits.specs.declared.refusal.Refusal.{Refusal}
+use Rattle.code_tables.specs.Calls.{read_answer}
+use Rattle.code_tables.specs.CallsLaws.{answer_bad}
 use Rattle.book.specs.Book.{Tables, tables_of, stage_table, stage_family, mean_table}
 use Rattle.book.specs.declared.svq1_vlc.Svq1Half.{Svq1Half}
 use Rattle.book.specs.declared.svq1_vlc.Svq1Half.TheVariants.{Intra, Inter}
 use Rattle.book.specs.BookLaws.{means}
 use Rattle.leaf.specs.SignedLaws.{sub_sfits}
 use Rattle.codebook.specs.Mean.{mean_at}
-use Rattle.leaf.specs.Leaf.{skip}
+use Rattle.leaf.specs.Leaf.{Leaf, skip}
 use Rattle.leaf.specs.LeafBits.{read_stages, read_skip, read_rest, read_leaf}
-use Rattle.leaf.specs.LentNeeds.{lent_tables, padded, refused_leaf, LeafRead, nibbles, read_indices, read_mean, lent_rest}
+use Rattle.leaf.specs.LentNeeds.{lent_tables, padded, LeafRead, nibbles, read_indices, read_mean, lent_rest}
 use Rattle.leaf.specs.declared.svq1_plane.inner.ReadLeaf.{ReadLeaf}
 use Rattle.leaf.specs.declared.svq1_enc_leaf.LeafCode.TheVariants.{Skip, Coded}
 
@@ -152,23 +154,17 @@ nibble_put bits stages at i v h e f =
     rw (e, a, put, b, nibbles_more bits at i, ← f) (sym (append_more xs (replicate (5 - i) 0) v))
 
 -- ---- the answers
-pub refused_read : (n : ℕ) (bits : List ℕ) → 0 < n → LeafRead bits (bad n) (refused_leaf n)
-refused_read n bits h =
-    record {
-      leaf = rw (ne_eqb n 0 (λ e. omega arith));
-      within = omega arith;
-      clean = record { code = refl; stages = refl };
-      bare = λ _. refl;
-    }
+pub refused_read : (r : Refusal) (bits : List ℕ) (g : Got Leaf) → bad (number_of r) ≡ g → LeafRead bits g (Err r)
+refused_read r bits g e = record { leaf = e; within = tt; clean = tt }
 
-pub skip_read : (bits : List ℕ) (at : ℕ) (r : ReadLeaf) → at ≤ length bits → r ≡ record { refused = 0; next = at; code = Skip; stages = replicate 6 0 }
-    → LeafRead bits (got skip (drop at bits)) r
+pub skip_read : (bits : List ℕ) (at : ℕ) (r : ReadLeaf) → at ≤ length bits → r ≡ record { next = at; code = Skip; stages = replicate 6 0 }
+    → LeafRead bits (got skip (drop at bits)) (Ok r)
 skip_read bits at r h e =
-    rw e (record { leaf = refl; within = h; clean = record { code = refl; stages = refl }; bare = λ f. absurd (f refl) })
+    rw e (record { leaf = refl; within = h; clean = record { code = refl; stages = refl } })
 
 pub coded_read : (bits : List ℕ) (at n : ℕ) (m : ℤ) (r : ReadLeaf) → n ≤ 6 → at + 4 * n ≤ length bits
-    → r ≡ record { refused = 0; next = at + 4 * n; code = Coded m n; stages = padded (nibbles bits at n) }
-    → LeafRead bits (read_indices m n (drop at bits)) r
+    → r ≡ record { next = at + 4 * n; code = Coded m n; stages = padded (nibbles bits at n) }
+    → LeafRead bits (read_indices m n (drop at bits)) (Ok r)
 coded_read bits at n m r h l e =
     let js = nibbles bits at n in
     let size = length_nibbles bits at n in
@@ -178,7 +174,6 @@ coded_read bits at n m r h l e =
       leaf = rw front;
       within = l;
       clean = record { code = rw (front, size); stages = rw front };
-      bare = λ f. absurd (f refl);
     })
 
 -- behind the stage code
@@ -208,6 +203,11 @@ pub take_ends : {A : Type 0} (t bits : List ℕ) (at : ℕ) (f : ℕ → List �
     → then (take_code (codes_of t) (drop at bits)) f ≡ bad 24
 take_ends t bits at f e = rw (← code_at_bit (codes_of t) bits at, e)
 
+-- and where it is refused, by the number of the refusal
+pub take_refused : {A : Type 0} (t bits : List ℕ) (at n : ℕ) (f : ℕ → List ℕ → Got A) → refused n ≡ read_answer (read_code (codes_of t) bits at)
+    → then (take_code (codes_of t) (drop at bits)) f ≡ bad n
+take_refused t bits at n f e = rw (← code_at_bit (codes_of t) bits at, answer_bad (read_code (codes_of t) bits at) bits n e)
+
 -- a code that was read: its position, and that the string goes on behind it
 pub read_on : (s t : List ℕ) (at k next : ℕ) → Fits (length s) at 0 → read_code (codes_of t) (bits_of s) at ≡ Code k next
     → (k < length t / 3) × Fits (length s) next 0
@@ -229,7 +229,7 @@ mean_fits Intra k l = record { sfits = omega arith }
 mean_fits Inter k l = sub_sfits k 256 (omega arith) (omega arith)
 
 -- a mean was read, and then its stages
-pub mean_found : (h : Svq1Half) (t bits : List ℕ) (at k next n : ℕ) (m : ℤ) (r : ReadLeaf) → read_code (codes_of t) bits at ≡ Code k next → m ≡ mean_at h k
+pub mean_found : (h : Svq1Half) (t bits : List ℕ) (at k next n : ℕ) (m : ℤ) (r : Result ReadLeaf Refusal) → read_code (codes_of t) bits at ≡ Code k next → m ≡ mean_at h k
     → LeafRead bits (read_indices m n (drop next bits)) r → LeafRead bits (read_mean h t n (drop at bits)) r
 mean_found h t bits at k next n m r e q l =
     rw (take_found t bits at k next (λ i b. read_indices (mean_at h i) n b) e, ← q) l

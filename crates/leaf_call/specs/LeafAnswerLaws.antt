@@ -1,11 +1,14 @@
 -- Laws of the leaf search as a call.
 -- Assumes nothing.
-use Rattle.std.specs.Prelude.{ℕ, zero, suc, ◌-◌, ◌≤◌, ◌<◌, ◌≡◌, refl, Bool, true, false, not, ◌&&◌, List, eqb, leb, ltb, length, take, drop, replicate}
+use Rattle.std.specs.Prelude.{ℕ, zero, suc, ◌-◌, ◌≤◌, ◌<◌, ◌≡◌, refl, Bool, true, false, not, ◌&&◌, List, eqb, leb, ltb, length, take, drop, replicate, Ok, Err}
 use Rattle.std.proofs.Math.Path.{sym, ap}
 use Rattle.std.proofs.Common.{◌∙◌, arith}
 use borrow.Author.Tests.{lt-ltb, le-ltb, eq-eqb, ne_eqb, le-leb, lt-leb, ltb-true, leb-true, eqb-true}
 use Rattle.bits.specs.Basics.{unless, Bytes}
-use Rattle.bits.specs.BasicsLaws.{both_true, or_none, or_first, or_next, unless-none}
+use Rattle.bits.specs.BasicsLaws.{both_true, or_none, unless-none}
+use Rattle.bits.specs.Refusals.{number_of, done}
+use Rattle.bits.specs.CallsLaws.{met_first, met_behind, answer_met}
+use Rattle.bits.specs.declared.refusal.Refusal.{Refusal}
 use Rattle.book.specs.Book.{data_refusal, book_refusal, codebook_bytes, tables_of}
 use Rattle.book.specs.BookLaws.{data_passes}
 use Rattle.book.specs.Level.{area}
@@ -14,13 +17,12 @@ use Rattle.leaf.specs.LeafBits.{leaf_bits}
 use Rattle.leaf.specs.LeafForms.{leaf_of}
 use Rattle.codebook.specs.CodebookForms.{raised_codebook}
 use Rattle.leaf.specs.LeafNeeds.{LeafFound}
-use Rattle.leaf.specs.LentNeedsLaws.{skip_clean}
 use Rattle.leaf.specs.AgreeLaws.{leaf_found}
 use Rattle.leaf_call.specs.declared.svq1_enc_leaf.LeafAnswer.{LeafAnswer}
 use Rattle.leaf.specs.declared.svq1_enc_leaf.LeafTerms.{LeafTerms}
 use Rattle.leaf_search.specs.declared.svq1_enc_leaf.LeafChoice.{LeafChoice}
 use Rattle.leaf.specs.LeafCall.{BlockIn, half_at, terms_of, block_ok, block_refusal, leaf_chosen, leaf_answer}
-use Rattle.leaf_call.specs.LeafAnswer.{block_fits, refused_leaf_answer, LeafAnswered}
+use Rattle.leaf_call.specs.LeafAnswer.{block_fits, LeafAnswered}
 use Rattle.leaf_search.specs.LevelLeafNeeds.{LevelChosen}
 
 -- ---- 8, test by test
@@ -104,16 +106,14 @@ block_passes b e =
     }
 
 -- the refusals, lowest first
-module _ (b : BlockIn) (x : ℕ) (e : x ≡ data_refusal b.book b.codebook) where
-  pub data_first : (x ≡ 0 → ⊥) → x ≡ block_refusal b
-  unfolding block_refusal
-  data_first h = e ∙ sym (or_first (data_refusal b.book b.codebook) (unless (block_ok b) 8) (λ z. h (e ∙ z)))
+pub data_first : (b : BlockIn) (r : Refusal) → number_of r ≡ data_refusal b.book b.codebook → number_of r ≡ block_refusal b
+unfolding block_refusal
+data_first b r e = met_first r (data_refusal b.book b.codebook) (unless (block_ok b) 8) e
 
-  pub block_next : (f : Bool) (r : ℕ) → x ≡ 0 → f ≡ block_fits b.level b.half (length b.target) (length b.predictor) b.cap b.allow_skip
-      → r ≡ unless f 8 → r ≡ block_refusal b
-  unfolding block_refusal
-  block_next f r z q p =
-      p ∙ ap (λ (t : Bool). unless t 8) (q ∙ sym (fits_is b)) ∙ sym (or_next (data_refusal b.book b.codebook) (unless (block_ok b) 8) (sym e ∙ z))
+pub block_next : (b : BlockIn) → 0 ≡ data_refusal b.book b.codebook → (f : Bool) (r : ℕ)
+    → f ≡ block_fits b.level b.half (length b.target) (length b.predictor) b.cap b.allow_skip → r ≡ unless f 8 → r ≡ block_refusal b
+unfolding block_refusal
+block_next b z f r q p = met_behind (data_refusal b.book b.codebook) (unless (block_ok b) 8) r z (p ∙ ap (λ (t : Bool). unless t 8) (q ∙ sym (fits_is b)))
 
 -- ---- the answers
 pub drop_replicate : (k n : ℕ) → drop {A = ℕ} k (replicate n 0) ≡ replicate (n - k) 0
@@ -127,28 +127,21 @@ drop_replicate (suc k) (suc n) =
     let z : suc n - suc k ≡ n - k = omega arith in
     rw z (drop_replicate k n)
 
-pub answer_refused : (b : BlockIn) (n : ℕ) → n ≡ block_refusal b → (n ≡ 0 → ⊥) → LeafAnswered b (refused_leaf_answer n)
+pub answer_refused : (b : BlockIn) (r : Refusal) → number_of r ≡ block_refusal b → LeafAnswered b (Err r)
 unfolding leaf_answer
-answer_refused b n e h =
-    record {
-      answer = rw (← e, ne_eqb n 0 h);
-      behind = drop_replicate (length b.target) 256;
-      bare = λ z. refl;
-      clean = skip_clean _ refl;
-    }
+answer_refused b r e = record { answer = answer_met r (block_refusal b) (done (leaf_chosen b)) e; behind = tt; clean = tt }
 
 -- what was found, counted, and put at the front of 256 zeros
-pub answer_found : (b : BlockIn) (r : LeafAnswer) → block_refusal b ≡ 0 → r.refused ≡ 0
-    → LeafFound b.codebook (terms_of b) b.level b.target b.predictor r.code r.stages r.error (take (length b.target) r.samples)
-    → r.bits ≡ length (leaf_bits (tables_of b.book (terms_of b).half) b.level (leaf_of r.code r.stages))
-    → drop (length b.target) r.samples ≡ drop {A = ℕ} (length b.target) (replicate 256 0)
-    → LeafAnswered b r
+pub answer_found : (b : BlockIn) (a : LeafAnswer) → block_refusal b ≡ 0
+    → LeafFound b.codebook (terms_of b) b.level b.target b.predictor a.code a.stages a.error (take (length b.target) a.samples)
+    → a.bits ≡ length (leaf_bits (tables_of b.book (terms_of b).half) b.level (leaf_of a.code a.stages))
+    → drop (length b.target) a.samples ≡ drop {A = ℕ} (length b.target) (replicate 256 0)
+    → LeafAnswered b (Ok a)
 unfolding leaf_answer leaf_chosen
-answer_found b r e z f c d =
+answer_found b a e f c d =
     record {
-      answer = rw (z, eq-eqb (block_refusal b) 0 e, c, f.erring, f.shown, f.leaf);
+      answer = rw (eq-eqb (block_refusal b) 0 e, c, f.erring, f.shown, f.leaf);
       behind = d ∙ drop_replicate (length b.target) 256;
-      bare = λ n. absurd (n z);
       clean = f.clean;
     }
 

@@ -2,22 +2,24 @@
 pub mod inner;
 
 ghost use Rattle.std.specs.Prelude.{◌≡◌, ℕ, length};
+ghost use Rattle.bits.specs.Refusals.{refused_by};
 ghost use Rattle.book.specs.Level.{level_number};
 ghost use Rattle.leaf.specs.LeafCall.{block_by, block_refusal};
-ghost use Rattle.leaf_call.specs.LeafAnswer.{block_fits, refused_leaf_answer, found_answer, LeafAnswered, Searchable, SearchFound};
+ghost use Rattle.leaf_call.specs.LeafAnswer.{block_fits, found_answer, LeafAnswered, Searchable, SearchFound};
 
 use super::svq1_enc_leaf::inner::terms_of;
+use bits::refusal::Refusal;
 use book::inner::{CODEBOOK_BYTES, level_at};
 use book::svq1_blocktree::Svq1Level;
+use book_check::check_data;
 use codebook::svq1_codebook::inner::raise_codebook;
 use leaf::svq1_enc_leaf::inner::book_leaf_bits;
 use leaf::svq1_enc_leaf::{LeafCode, LeafTerms};
 use leaf_search::svq1_enc_leaf::inner::level_leaf;
 
-// What the search answers: 0 and the leaf, its bits, its error and the samples that it shows; or a refusal's number and nothing else.
+// What the search finds: the leaf, its bits, its error and the samples that it shows.
 #[derive(Clone, Copy)]
 pub struct LeafAnswer {
-    pub refused: u8,
     pub code: LeafCode,
     pub stages: [u8; 6],
     pub bits: u32,
@@ -52,8 +54,8 @@ fn block_fits(level: u8, half: u8, target: usize, predictor: usize, cap: u8, ski
     true
 }
 
-// 5, 6, 7 or 8 of a leaf or a plan, or 0, whatever its margin is.
-pub fn block_refusal(
+// Refusals 5, 6, 7 and 8 of a leaf or a plan, whatever its margin is.
+pub fn check_block(
     book: &[u8],
     codebook: &[u8],
     level: u8,
@@ -62,30 +64,14 @@ pub fn block_refusal(
     predictor: &[u8],
     cap: u8,
     skip: bool,
-) -> u8
-    ensures { (margin : ℕ) → result ≡ block_refusal (block_by book.now codebook.now level half target.now predictor.now cap skip margin) }
+) -> Result<(), Refusal>
+    ensures { (margin : ℕ) → refused_by result ≡ block_refusal (block_by book.now codebook.now level half target.now predictor.now cap skip margin) }
 {
-    let refusal = book_check::data_refusal(book, codebook);
-    if refusal != 0 {
-        return refusal;
-    }
+    check_data(book, codebook)?;
     if block_fits(level, half, target.len(), predictor.len(), cap, skip) {
-        return 0;
+        return Ok(());
     }
-    8
-}
-
-fn refused_answer(refused: u8) -> LeafAnswer
-    ensures { result ≡ refused_leaf_answer refused }
-{
-    LeafAnswer {
-        refused,
-        code: LeafCode::Skip,
-        stages: [0u8; 6],
-        bits: 0,
-        error: 0,
-        samples: [0u8; 256],
-    }
+    Err(Refusal::Block)
 }
 
 // The answer of an accepted call. That there are six stage indices is known here, where they come as an array.
@@ -99,7 +85,6 @@ fn found_answer(
     ensures { (result ≡ found_answer code stages bits error samples) × (length stages ≡ 6) }
 {
     LeafAnswer {
-        refused: 0,
         code,
         stages,
         bits,
@@ -151,15 +136,12 @@ pub fn search_leaf(
     cap: u8,
     skip: bool,
     margin: u32,
-) -> LeafAnswer
+) -> Result<LeafAnswer, Refusal>
     ensures { LeafAnswered (block_by book.now codebook.now level half target.now predictor.now cap skip margin) result }
 {
-    let refusal = block_refusal(book, codebook, level, half, target, predictor, cap, skip);
-    if refusal != 0 {
-        return refused_answer(refusal);
-    }
+    check_block(book, codebook, level, half, target, predictor, cap, skip)?;
     let mut raised = [0u8; CODEBOOK_BYTES];
-    searched(
+    Ok(searched(
         book,
         codebook,
         &mut raised,
@@ -167,5 +149,5 @@ pub fn search_leaf(
         terms_of(half, cap, skip, margin),
         target,
         predictor,
-    )
+    ))
 }

@@ -1,11 +1,10 @@
 -- Laws of the errors over what the panel shows beside those that the writer states (document 02, §1): never above them, and of a plane of whole macroblocks the same, so that such a plane is listed by the stated errors.
 -- Assumes nothing.
 use Prim.Native.Nat.{ℕ, zero, suc, ◌%◌, ◌≤◌, ◌<◌}
-use Rattle.std.specs.Prelude.{◌≡◌, Bool, List, ◌++◌, length, replicate}
+use Rattle.std.specs.Prelude.{◌≡◌, Bool, List, ◌++◌, length, replicate, Option, Some, None}
 use Rattle.std.proofs.Math.Path.{refl, sym}
 use Rattle.std.proofs.Common.{ap, ◌∙◌, arith, eqb-true}
 use Rattle.std.proofs.Math.Bool.{true, false}
-use Rattle.std.proofs.Math.Option.{Option, none, some}
 use Rattle.std.proofs.Math.Dec.{eqb}
 use Rattle.bits.specs.Basics.{Bytes, pick, sum}
 use Rattle.bits.specs.BasicsLaws.{or_next}
@@ -120,8 +119,8 @@ abbrev pub stated_text : Given → Task → List ℕ
 stated_text g t = text_with g t (bits_of zeros) (stated_error g t zeros 0 (no_slices g)) (stated_total g t zeros 0 (no_slices g))
 
 abbrev pub stated_job : Files → Option Job → List ℕ
-stated_job f none = refused_text 1
-stated_job f (some j) = pick (eqb (files_refusal f j) 0) (stated_text (given_of f j) (task_of f j)) (refused_text (files_refusal f j))
+stated_job f None = refused_text 1
+stated_job f (Some j) = pick (eqb (files_refusal f j) 0) (stated_text (given_of f j) (task_of f j)) (refused_text (files_refusal f j))
 
 abbrev pub stated_listing : Files → List ℕ
 stated_listing f = stated_job f (job_in f.job)
@@ -133,11 +132,11 @@ plane_as_before g t fine mem w v =
     text_same g t (bits_of zeros) _ _ _ _ (λ all. (visible_is_stated g t zeros 0 (no_slices g) mem fine.passes all w v, total_is_stated g t zeros 0 (no_slices g) mem fine.passes all w v))
 
 -- whatever the files are, a job of whole macroblocks prints what it printed
-pub listing_as_before : (f : Files) → Bytes f.source → Bytes f.reference → ((j : Job) → job_in f.job ≡ some j → (j.width % 16 ≡ 0) × (j.height % 16 ≡ 0)) → listing f ≡ stated_listing f
+pub listing_as_before : (f : Files) → Bytes f.source → Bytes f.reference → ((j : Job) → job_in f.job ≡ Some j → (j.width % 16 ≡ 0) × (j.height % 16 ≡ 0)) → listing f ≡ stated_listing f
 unfolding listing job_text
 listing_as_before f source reference sides = go (job_in f.job) refl
   where
-    two : (j : Job) → job_in f.job ≡ some j → (b : Bool) → eqb (files_refusal f j) 0 ≡ b
+    two : (j : Job) → job_in f.job ≡ Some j → (b : Bool) → eqb (files_refusal f j) 0 ≡ b
         → pick b (plane_text (given_of f j) (task_of f j)) (refused_text (files_refusal f j)) ≡ pick b (stated_text (given_of f j) (task_of f j)) (refused_text (files_refusal f j))
     two j e true q =
         let small = job_small f.job j e in
@@ -146,5 +145,5 @@ listing_as_before f source reference sides = go (job_in f.job) refl
     two j e false q = refl
 
     go : (m : Option Job) → job_in f.job ≡ m → job_text f m ≡ stated_job f m
-    go none e = refl
-    go (some j) e = two j e (eqb (files_refusal f j) 0) refl
+    go None e = refl
+    go (Some j) e = two j e (eqb (files_refusal f j) 0) refl

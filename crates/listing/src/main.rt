@@ -11,7 +11,7 @@ use std::io::Read;
 use std::rt::Files;
 use std::{fs, io};
 
-// Reads until there is no more room, the file ends or a read fails; the answer is how many bytes were read.
+// Reads until there is no more room, the file ends or a read fails; the answer is how many bytes were read. Reads differ in length, so that a `for` is no plainer.
 fn read_full(file: &mut impl Read, bytes: &mut [u8]) -> usize
     ensures bound { result ≤ length bytes.new }
     ensures front { result ≡ length (take result bytes.new) }

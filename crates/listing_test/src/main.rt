@@ -2,120 +2,72 @@
 // the first bench card.
 #![tactic(auto)]
 
-ghost use Rattle.std.specs.Prelude.{◌≤◌, length};
+ghost use Rattle.std.specs.Prelude.{◌≤◌, ◌<◌, length, IfSome};
 
 use listing_text::listing::listing;
 use std::io;
 
-// The bytes of s from a to e; none where there are not so many.
-fn part(s: &[u8], a: usize, e: usize) -> &[u8] {
-    if e < a {
-        return &s[..0];
-    }
-    if s.len() < e {
-        return &s[..0];
-    }
-    &s[a..e]
+// The files of a case but for its job.
+#[derive(Clone, Copy)]
+struct Files<'a> {
+    book: &'a [u8],
+    codebook: &'a [u8],
+    source: &'a [u8],
+    reference: &'a [u8],
 }
 
 // ---- cases
-fn show(
-    rt: &impl Print,
-    name: &[u8],
-    book: &[u8],
-    codebook: &[u8],
-    source: &[u8],
-    reference: &[u8],
-    job: &[u8],
-) -> io::Result<()> {
+fn show(rt: &impl Print, name: &[u8], files: Files<'_>, job: &[u8]) -> io::Result<()> {
     let mut text = [0u8; 16384];
-    let n = listing(book, codebook, source, reference, job, &mut text);
+    let n = listing(
+        files.book,
+        files.codebook,
+        files.source,
+        files.reference,
+        job,
+        &mut text,
+    );
     rt.write_all(name)?;
     rt.write_all(b": ")?;
     rt.write_all(&text[..n])
 }
 
 // The job of the first card.
-fn card(
-    rt: &impl Print,
-    name: &[u8],
-    book: &[u8],
-    codebook: &[u8],
-    source: &[u8],
-    reference: &[u8],
-) -> io::Result<()> {
-    show(
-        rt,
-        name,
-        book,
-        codebook,
-        source,
-        reference,
-        b"16,16,32,8,1,0\n",
-    )
+fn card(rt: &impl Print, name: &[u8], files: Files<'_>) -> io::Result<()> {
+    show(rt, name, files, b"16,16,32,8,1,0\n")
 }
 
-// The place of the next b from `at` on, or the end.
-fn next(s: &[u8], at: usize, b: u8) -> usize
-    requires { at ≤ length s.now }
-    ensures { (at ≤ result) × (result ≤ length s.now) }
+// The bytes before the first bar, and those behind it; none where there is no bar.
+fn field(s: &[u8]) -> Option<(&[u8], &[u8])>
+    ensures { IfSome result (λ parts. length parts.1.now < length s.now) }
 {
-    at + text::find(&s[at..], b)
+    let bar = text::find(s, b'|')?;
+    Some((&s[..bar], &s[bar + 1..]))
 }
 
-// The place of the next bar from `at` on, or the end.
-fn bar(s: &[u8], at: usize) -> usize
-    requires { at ≤ length s.now }
-    ensures { (at ≤ result) × (result ≤ length s.now) }
-{
-    next(s, at, b'|')
-}
-
-// Job files: each case is a name and the bytes, with a bar behind each.
-fn jobs(
-    rt: &impl Print,
-    cases: &[u8],
-    book: &[u8],
-    codebook: &[u8],
-    source: &[u8],
-    reference: &[u8],
-) -> io::Result<()> {
-    let mut at = 0;
-    while at < cases.len() {
-        let named = bar(cases, at);
-        if named == cases.len() {
+// Job files: each case is a name and the bytes, with a bar behind each. Cases differ in length, so that a `for` is no plainer.
+fn jobs(rt: &impl Print, cases: &[u8], files: Files<'_>) -> io::Result<()> {
+    let mut rest = cases;
+    while let Some((name, behind)) = field(rest) {
+        let Some((job, next)) = field(behind) else {
             return Ok(());
-        }
-        let from = named + 1;
-        let to = bar(cases, from);
-        if to == cases.len() {
-            return Ok(());
-        }
-        show(
-            rt,
-            part(cases, at, named),
-            book,
-            codebook,
-            source,
-            reference,
-            part(cases, from, to),
-        )?;
-        at = to + 1;
+        };
+        show(rt, name, files, job)?;
+        rest = next;
     }
     Ok(())
 }
 
 // Where line k of a file begins; the end where there is none.
-fn line(file: &[u8], k: usize) -> usize {
+fn line(file: &[u8], k: usize) -> usize
+    ensures { result ≤ length file.now }
+{
     let mut at = 0;
-    let mut i = 0;
-    while i < k {
-        let end = next(file, at, b'\n');
-        if end == file.len() {
-            return end;
-        }
-        at = end + 1;
-        i += 1;
+    for _ in 0..k {
+        let Some(feed) = text::find(&file[at..], b'\n') else {
+            return file.len();
+        };
+        at += feed + 1;
     }
     at
 }
@@ -131,70 +83,43 @@ struct Gaps {
 
 // The house book's file with x in the first gap and y in the second.
 fn fill(made: &mut [u8], house: &[u8], gaps: Gaps, x: &[u8], y: &[u8]) -> usize {
-    let before = text::put_text(made, 0, part(house, 0, line(house, gaps.a)));
+    let before = text::put_text(made, 0, &house[..line(house, gaps.a)]);
     let first = text::put_text(made, before, x);
-    let between = part(house, line(house, gaps.b), line(house, gaps.c));
+    let between = house
+        .get(line(house, gaps.b)..line(house, gaps.c))
+        .unwrap_or(&[]);
     let second = text::put_text(made, first, between);
     let behind = text::put_text(made, second, y);
-    let rest = part(house, line(house, gaps.d), house.len());
-    text::put_text(made, behind, rest)
+    text::put_text(made, behind, &house[line(house, gaps.d)..])
 }
 
 // The first card under that file.
 fn filled(
     rt: &impl Print,
     name: &[u8],
-    house: &[u8],
+    files: Files<'_>,
     gaps: Gaps,
     x: &[u8],
     y: &[u8],
-    codebook: &[u8],
-    source: &[u8],
-    reference: &[u8],
 ) -> io::Result<()> {
     let mut made = [0u8; 24576];
-    let n = fill(&mut made, house, gaps, x, y);
-    card(rt, name, part(&made, 0, n), codebook, source, reference)
+    let n = fill(&mut made, files.book, gaps, x, y);
+    let book = made.get(..n).unwrap_or(&[]);
+    card(rt, name, Files { book, ..files })
 }
 
-// Book files: each case is a name and the bytes that stand in the two gaps, with a bar behind each.
-fn books(
-    rt: &impl Print,
-    cases: &[u8],
-    house: &[u8],
-    gaps: Gaps,
-    codebook: &[u8],
-    source: &[u8],
-    reference: &[u8],
-) -> io::Result<()> {
-    let mut at = 0;
-    while at < cases.len() {
-        let named = bar(cases, at);
-        if named == cases.len() {
+// Book files: each case is a name and the bytes that stand in the two gaps of the house book's file, with a bar behind each. Cases differ in length here too.
+fn books(rt: &impl Print, cases: &[u8], files: Files<'_>, gaps: Gaps) -> io::Result<()> {
+    let mut rest = cases;
+    while let Some((name, behind)) = field(rest) {
+        let Some((x, second)) = field(behind) else {
             return Ok(());
-        }
-        let x = named + 1;
-        let x_end = bar(cases, x);
-        if x_end == cases.len() {
+        };
+        let Some((y, next)) = field(second) else {
             return Ok(());
-        }
-        let y = x_end + 1;
-        let y_end = bar(cases, y);
-        if y_end == cases.len() {
-            return Ok(());
-        }
-        filled(
-            rt,
-            part(cases, at, named),
-            house,
-            gaps,
-            part(cases, x, x_end),
-            part(cases, y, y_end),
-            codebook,
-            source,
-            reference,
-        )?;
-        at = y_end + 1;
+        };
+        filled(rt, name, files, gaps, x, y)?;
+        rest = next;
     }
     Ok(())
 }
@@ -203,32 +128,62 @@ fn books(
 fn lengths(
     rt: &impl Print,
     book: &[u8],
-    codebook: &[u8],
-    source: &[u8],
-    reference: &[u8],
+    codebook: &[u8; 23041],
+    source: &[u8; 257],
+    reference: &[u8; 257],
 ) -> io::Result<()> {
-    let c = part(codebook, 0, 23040);
-    let s = part(source, 0, 256);
-    let r = part(reference, 0, 256);
-    card(rt, b"source too short", book, c, part(s, 0, 255), r)?;
-    card(rt, b"source too long", book, c, source, r)?;
-    card(rt, b"reference too short", book, c, s, part(r, 0, 255))?;
-    card(rt, b"reference too long", book, c, s, reference)?;
-    card(rt, b"codebook too short", book, part(c, 0, 23039), s, r)?;
-    card(rt, b"codebook too long", book, codebook, s, r)?;
-    show(rt, b"1 and 2", book, c, b"", r, b"16,16,32,8,2,0\n")?;
-    card(rt, b"2 and 4", book, c, b"", b"")?;
-    card(rt, b"4 and 5", book, b"", s, b"")?;
-    card(rt, b"no file but the job", b"", b"", b"", b"")
+    let right = Files {
+        book,
+        codebook: &codebook[..23040],
+        source: &source[..256],
+        reference: &reference[..256],
+    };
+    let short = Files {
+        source: &source[..255],
+        ..right
+    };
+    card(rt, b"source too short", short)?;
+    card(rt, b"source too long", Files { source, ..right })?;
+    let short = Files {
+        reference: &reference[..255],
+        ..right
+    };
+    card(rt, b"reference too short", short)?;
+    card(rt, b"reference too long", Files { reference, ..right })?;
+    let short = Files {
+        codebook: &codebook[..23039],
+        ..right
+    };
+    card(rt, b"codebook too short", short)?;
+    card(rt, b"codebook too long", Files { codebook, ..right })?;
+    let no_source = Files {
+        source: b"",
+        ..right
+    };
+    show(rt, b"1 and 2", no_source, b"16,16,32,8,2,0\n")?;
+    card(
+        rt,
+        b"2 and 4",
+        Files {
+            reference: b"",
+            ..no_source
+        },
+    )?;
+    let no_codebook = Files {
+        codebook: b"",
+        reference: b"",
+        ..right
+    };
+    card(rt, b"4 and 5", no_codebook)?;
+    let none = Files {
+        book: b"",
+        source: b"",
+        ..no_codebook
+    };
+    card(rt, b"no file but the job", none)
 }
 
-fn job_cases(
-    rt: &impl Print,
-    book: &[u8],
-    codebook: &[u8],
-    source: &[u8],
-    reference: &[u8],
-) -> io::Result<()> {
+fn job_cases(rt: &impl Print, files: Files<'_>) -> io::Result<()> {
     jobs(
         rt,
         b"first card|16,16,32,8,1,0\n|\
@@ -269,21 +224,12 @@ fn job_cases(
         margin with a leading zero|16,16,32,8,1,01\n|\
         margin a blank|16,16,32,8,1, \n|\
         the longest line, source too short|176,144,18446744073709551615,255,1,4294967295\n|",
-        book,
-        codebook,
-        source,
-        reference,
+        files,
     )
 }
 
 // The first line, `mode,0,3,2`, in its place or behind the last one.
-fn first_line(
-    rt: &impl Print,
-    house: &[u8],
-    codebook: &[u8],
-    source: &[u8],
-    reference: &[u8],
-) -> io::Result<()> {
+fn first_line(rt: &impl Print, files: Files<'_>) -> io::Result<()> {
     let gaps = Gaps {
         a: 0,
         b: 1,
@@ -326,41 +272,32 @@ fn first_line(
         moved and value 2^length||mode,0,1,2\n|\
         moved and equal codes||mode,0,3,3\n|\
         moved and code that begins another||mode,0,2,1\n|",
-        house,
+        files,
         gaps,
-        codebook,
-        source,
-        reference,
     )?;
     books(
         rt,
         b"5 of the codebook and 6|mode,0,33,2\n||\
         5 of the codebook and 30||mode,0,3,2\n|",
-        house,
+        Files {
+            codebook: b"",
+            ..files
+        },
         gaps,
-        b"",
-        source,
-        reference,
     )?;
     books(
         rt,
         b"4 and 30||mode,0,3,2\n|",
-        house,
+        Files {
+            reference: b"",
+            ..files
+        },
         gaps,
-        codebook,
-        source,
-        b"",
     )
 }
 
 // The first two lines.
-fn first_lines(
-    rt: &impl Print,
-    house: &[u8],
-    codebook: &[u8],
-    source: &[u8],
-    reference: &[u8],
-) -> io::Result<()> {
+fn first_lines(rt: &impl Print, files: Files<'_>) -> io::Result<()> {
     let gaps = Gaps {
         a: 0,
         b: 2,
@@ -374,22 +311,13 @@ fn first_lines(
         one line doubled, one missing|mode,1,3,3\nmode,1,3,3\n||\
         malformed before the line moved|mode,0,3\n|mode,1,3,3\n|\
         length 33 before the line moved|mode,0,33,2\n|mode,1,3,3\n|",
-        house,
+        files,
         gaps,
-        codebook,
-        source,
-        reference,
     )
 }
 
 // Two lines of the middle, `intermean,176,15,161` and `intermean,177,15,159`.
-fn middle_lines(
-    rt: &impl Print,
-    house: &[u8],
-    codebook: &[u8],
-    source: &[u8],
-    reference: &[u8],
-) -> io::Result<()> {
+fn middle_lines(rt: &impl Print, files: Files<'_>) -> io::Result<()> {
     let gaps = Gaps {
         a: 500,
         b: 502,
@@ -403,11 +331,8 @@ fn middle_lines(
         middle line missing, another moved||intermean,176,15,161\n|\
         middle line of length 33|intermean,176,33,161\nintermean,177,15,159\n||\
         middle codes equal|intermean,176,15,159\nintermean,177,15,159\n||",
-        house,
+        files,
         gaps,
-        codebook,
-        source,
-        reference,
     )?;
     let ahead = Gaps {
         a: 0,
@@ -418,22 +343,13 @@ fn middle_lines(
     books(
         rt,
         b"middle line moved to the front|intermean,176,15,161\n||",
-        house,
+        files,
         ahead,
-        codebook,
-        source,
-        reference,
     )
 }
 
 // The last line, `interstage,47,7,8`, in its place or before the first one; the last two.
-fn last_lines(
-    rt: &impl Print,
-    house: &[u8],
-    codebook: &[u8],
-    source: &[u8],
-    reference: &[u8],
-) -> io::Result<()> {
+fn last_lines(rt: &impl Print, files: Files<'_>) -> io::Result<()> {
     let gaps = Gaps {
         a: 0,
         b: 0,
@@ -450,11 +366,8 @@ fn last_lines(
         last line at the front, malformed|interstage,48,7,8\n||\
         last line at the front, of length 33|interstage,47,33,8\n||\
         last line at the front, its code equal|interstage,47,5,7\n||",
-        house,
+        files,
         gaps,
-        codebook,
-        source,
-        reference,
     )?;
     let both = Gaps {
         a: 0,
@@ -465,75 +378,75 @@ fn last_lines(
     books(
         rt,
         b"last two lines change places||interstage,47,7,8\ninterstage,46,5,7\n|",
-        house,
+        files,
         both,
-        codebook,
-        source,
-        reference,
     )
 }
 
 // Planes of which a part of the last macroblocks lies beyond the picture, all samples 100 over a reference of 0. At the largest lambda every macroblock is skipped,
 // so its error is 10,000 for each sample that it shows.
-fn cut_planes(
-    rt: &impl Print,
-    book: &[u8],
-    codebook: &[u8],
-    source: &[u8],
-    reference: &[u8],
-) -> io::Result<()> {
+fn cut_planes(rt: &impl Print, book: &[u8], codebook: &[u8; 23041]) -> io::Result<()> {
+    let source = [100u8; 25200];
+    let reference = [0u8; 25344];
+    let files = Files {
+        book,
+        codebook: &codebook[..23040],
+        source: &source,
+        reference: &reference,
+    };
     show(
         rt,
         b"1 by 1",
-        book,
-        codebook,
-        part(source, 0, 1),
-        part(reference, 0, 256),
+        Files {
+            source: &source[..1],
+            reference: &reference[..256],
+            ..files
+        },
         b"1,1,18446744073709551615,8,1,0\n",
     )?;
     show(
         rt,
         b"17 by 16",
-        book,
-        codebook,
-        part(source, 0, 272),
-        part(reference, 0, 512),
+        Files {
+            source: &source[..272],
+            reference: &reference[..512],
+            ..files
+        },
         b"17,16,18446744073709551615,8,1,0\n",
     )?;
     show(
         rt,
         b"16 by 17",
-        book,
-        codebook,
-        part(source, 0, 272),
-        part(reference, 0, 512),
+        Files {
+            source: &source[..272],
+            reference: &reference[..512],
+            ..files
+        },
         b"16,17,18446744073709551615,8,1,0\n",
     )?;
     show(
         rt,
         b"15 by 1",
-        book,
-        codebook,
-        part(source, 0, 15),
-        part(reference, 0, 256),
+        Files {
+            source: &source[..15],
+            reference: &reference[..256],
+            ..files
+        },
         b"15,1,18446744073709551615,8,1,0\n",
     )?;
     show(
         rt,
         b"176 by 143",
-        book,
-        codebook,
-        part(source, 0, 25168),
-        reference,
+        Files {
+            source: &source[..25168],
+            ..files
+        },
         b"176,143,18446744073709551615,8,1,0\n",
     )?;
     show(
         rt,
         b"175 by 144",
-        book,
-        codebook,
-        part(source, 0, 25200),
-        reference,
+        files,
         b"175,144,18446744073709551615,8,1,0\n",
     )
 }
@@ -550,8 +463,7 @@ fn cut_planes(
 fn stripes(
     rt: &impl Print,
     cases: &[u8],
-    book: &[u8],
-    reference: &[u8],
+    files: Files<'_>,
     ones_at: usize,
     twos_at: usize,
 ) -> io::Result<()> {
@@ -570,11 +482,19 @@ fn stripes(
     let mut codebook = [0u8; 23040];
     text::put_text(&mut codebook, ones_at, ones);
     text::put_text(&mut codebook, twos_at, twos);
-    jobs(rt, cases, book, &codebook, source, reference)
+    jobs(
+        rt,
+        cases,
+        Files {
+            codebook: &codebook,
+            source,
+            ..files
+        },
+    )
 }
 
 // The vectors in the intra page, and in the inter page behind it.
-fn margins(rt: &impl Print, book: &[u8], reference: &[u8]) -> io::Result<()> {
+fn margins(rt: &impl Print, files: Files<'_>) -> io::Result<()> {
     stripes(
         rt,
         b"intra stripes, margin 0|16,16,0,8,1,0\n|\
@@ -583,8 +503,7 @@ fn margins(rt: &impl Print, book: &[u8], reference: &[u8]) -> io::Result<()> {
         intra stripes, margin 319|16,16,0,8,1,319\n|\
         intra stripes, margin 320|16,16,0,8,1,320\n|\
         intra stripes, margin 2^32-1|16,16,0,8,1,4294967295\n|",
-        book,
-        reference,
+        files,
         0,
         1024,
     )?;
@@ -596,8 +515,7 @@ fn margins(rt: &impl Print, book: &[u8], reference: &[u8]) -> io::Result<()> {
         inter stripes, margin 319|16,16,0,8,1,319\n|\
         inter stripes, margin 320|16,16,0,8,1,320\n|\
         inter stripes, margin 2^32-1|16,16,0,8,1,4294967295\n|",
-        book,
-        reference,
+        files,
         6144,
         7168,
     )
@@ -605,34 +523,31 @@ fn margins(rt: &impl Print, book: &[u8], reference: &[u8]) -> io::Result<()> {
 
 fn put_codebook(codebook: &mut [u8]) {
     let mut house = [0u8; 23040];
-    house::fill_house_codebook(&mut house);
-    text::put_text(codebook, 0, &house);
+    if house::fill_house_codebook(&mut house).is_ok() {
+        text::put_text(codebook, 0, &house);
+    }
 }
 
 fn run(
     rt: &impl Print,
     house: &[u8],
-    codebook: &[u8],
-    source: &[u8],
-    reference: &[u8],
+    codebook: &[u8; 23041],
+    source: &[u8; 257],
+    reference: &[u8; 257],
 ) -> io::Result<()> {
-    let c = part(codebook, 0, 23040);
-    let s = part(source, 0, 256);
-    let r = part(reference, 0, 256);
-    job_cases(rt, house, c, s, r)?;
+    let files = Files {
+        book: house,
+        codebook: &codebook[..23040],
+        source: &source[..256],
+        reference: &reference[..256],
+    };
+    job_cases(rt, files)?;
     lengths(rt, house, codebook, source, reference)?;
-    first_line(rt, house, c, s, r)?;
-    first_lines(rt, house, c, s, r)?;
-    middle_lines(rt, house, c, s, r)?;
-    last_lines(rt, house, c, s, r)?;
-    margins(rt, house, r)
-}
-
-// The planes that are cut, under the house book.
-fn run_cut(rt: &impl Print, house: &[u8], codebook: &[u8]) -> io::Result<()> {
-    let source = [100u8; 25200];
-    let reference = [0u8; 25344];
-    cut_planes(rt, house, part(codebook, 0, 23040), &source, &reference)
+    first_line(rt, files)?;
+    first_lines(rt, files)?;
+    middle_lines(rt, files)?;
+    last_lines(rt, files)?;
+    margins(rt, files)
 }
 
 fn main(rt: HostRuntime) -> io::Result<()> {
@@ -641,9 +556,9 @@ fn main(rt: HostRuntime) -> io::Result<()> {
     let source = [100u8; 257];
     let reference = [0u8; 257];
     let book = house::house_book();
-    let written = book_file_writer::write_book_file(&book, &mut file);
-    let house = part(&file, 0, written.bytes);
+    let written = book_file_writer::write_book_file(&book, &mut file).unwrap_or(0);
+    let house = file.get(..written).unwrap_or(&[]);
     put_codebook(&mut codebook);
     run(&rt, house, &codebook, &source, &reference)?;
-    run_cut(&rt, house, &codebook)
+    cut_planes(&rt, house, &codebook)
 }

@@ -1,10 +1,9 @@
 -- What is printed does not depend on the bytes that the program leaves unread. Assumes nothing.
 use Prim.Native.Nat.{ℕ, ◌+◌, ◌*◌, ◌≤◌, ◌<◌}
-use Rattle.std.specs.Prelude.{◌≡◌, refl, true, false, ◌&&◌, leb, take}
+use Rattle.std.specs.Prelude.{◌≡◌, refl, true, false, ◌&&◌, leb, take, Option, None, Some}
 use Rattle.std.proofs.Common.{◌∙◌, arith, take_all, length-take-le, ne_eqb, leb-true, leb-false}
 use Rattle.std.proofs.Math.Bool.{Bool}
 use mathlib.Core.List.{List}
-use Rattle.std.proofs.Math.Option.{Option, none, some}
 use Rattle.std.proofs.Math.Nat.{mul-le-mul}
 use Rattle.std.proofs.Math.Decide.{ℕ_discrete}
 use Rattle.std.proofs.Math.Dec.{eqb}
@@ -35,12 +34,12 @@ read m l = go (leb (length l) m) refl
     go false q = let h = leb-false (length l) m q in part h (length-take-le m l (omega (arith, h)))
 
 -- ---- the job line
-no_job : (t : List ℕ) → longest_job < length t → job_in t ≡ none
+no_job : (t : List ℕ) → longest_job < length t → job_in t ≡ None
 no_job t h = go (job_in t) (job_short t)
   where
-    go : (o : Option Job) → ((j : Job) → o ≡ some j → length t ≤ longest_job) → o ≡ none
-    go none f = refl
-    go (some j) f = absurd (omega (arith, f j refl))
+    go : (o : Option Job) → ((j : Job) → o ≡ Some j → length t ≤ longest_job) → o ≡ None
+    go None f = refl
+    go (Some j) f = absurd (omega (arith, f j refl))
 
 job-cut : (t : List ℕ) → job_in (take (longest_job + 1) t) ≡ job_in t
 job-cut t = go (read (longest_job + 1) t)
@@ -50,7 +49,7 @@ job-cut t = go (read (longest_job + 1) t)
     go (part h e) = rw (no_job t (omega arith), no_job (take (longest_job + 1) t) (omega (arith, e)))
 
 -- ---- the other files
-same_refused : (f h : Files) (j : Job) (n : ℕ) → files_refusal f j ≡ n → files_refusal h j ≡ n → (n ≡ 0 → ⊥) → job_text f (some j) ≡ job_text h (some j)
+same_refused : (f h : Files) (j : Job) (n : ℕ) → files_refusal f j ≡ n → files_refusal h j ≡ n → (n ≡ 0 → ⊥) → job_text f (Some j) ≡ job_text h (Some j)
 unfolding job_text
 same_refused f h j n p q z = rw (p, q, ne_eqb n 0 z)
 
@@ -64,7 +63,7 @@ long_book file h = go (ℕ_discrete (file_refusal file) 5)
 module _ (j : Job) (wide : j.width ≤ most_width) (high : j.height ≤ most_height) (book codebook source reference job : List ℕ) where
   -- what is printed for these files but one
   abbrev prints : List ℕ → List ℕ → List ℕ → List ℕ → List ℕ
-  prints b c s r = job_text (files_by b c s r job) (some j)
+  prints b c s r = job_text (files_by b c s r job) (Some j)
 
   abbrev size : ℕ
   size = size_refusal j.width j.height
@@ -157,9 +156,9 @@ pub cut-same : (f : Files) → listing (cut f) ≡ listing f
 unfolding listing job_text
 cut-same f = rw (job-cut f.job) (go (job_in f.job) (job_small f.job))
   where
-    go : (o : Option Job) → ((j : Job) → o ≡ some j → (j.width ≤ most_width) × (j.height ≤ most_height)) → job_text (cut f) o ≡ job_text f o
-    go none small = refl
-    go (some j) small =
+    go : (o : Option Job) → ((j : Job) → o ≡ Some j → (j.width ≤ most_width) × (j.height ≤ most_height)) → job_text (cut f) o ≡ job_text f o
+    go None small = refl
+    go (Some j) small =
         let s = small j refl in
         text_by (cut f).book (cut f).codebook (cut f).source (cut f).reference (cut f).job f.job j
         ∙ book_cut j s.0 s.1 f.book f.codebook f.source f.reference f.job (cut f).codebook (cut f).source (cut f).reference

@@ -1,12 +1,14 @@
 -- Laws of the program's files: their refusals in order, and what they are where nothing refuses them. Assumes nothing.
-use Rattle.std.specs.Prelude.{ℕ, ◌+◌, ◌*◌, ◌/◌, ◌^◌, ◌≤◌, ◌≡◌, refl, List, [], ◌∷◌, ◌++◌, eqb, replicate}
+use Rattle.std.specs.Prelude.{ℕ, ◌+◌, ◌*◌, ◌/◌, ◌^◌, ◌≤◌, ◌≡◌, refl, List, [], ◌∷◌, ◌++◌, eqb, replicate, Some}
 use Rattle.std.proofs.Common.{sym, ◌∙◌, le_refl, mul-le-mul, arith, lit≤}
-use Rattle.std.proofs.Math.Option.{some}
 use Rattle.std.proofs.Math.ListN.{length, length-replicate}
 use borrow.Author.Tests.{eq-eqb, ne_eqb, le-leb}
 use Rattle.bits.specs.Basics.{first_of, unless}
 use Rattle.bits.specs.BasicsLaws.{or_next, first_met, first_passed, first_last, chain_met, chain_passed, first-none}
+use Rattle.bits.specs.declared.refusal.Refusal.{Refusal}
+use Rattle.bits.specs.Refusals.{number_of}
 use Rattle.bits.specs.Calls.{start_refusal}
+use Rattle.bits.specs.CallsLaws.{refusal_met}
 use Rattle.book.specs.Book.{book_bytes, codebook_bytes, book_refusal, data_refusal}
 use Rattle.book_file.specs.BookFile.{file_refusal, file_book}
 use Rattle.book_file.specs.BookFileLaws.{accepted}
@@ -36,6 +38,10 @@ module _ (w h : ℕ) (c : Canvas) (source codebook : ℕ) (file : List ℕ) wher
   pub files_plane : (n : ℕ) (book : List ℕ) → n ≡ first_of plane → (n ≡ 0 → ⊥) → FilesChecked refusal file n book
   unfolding files_refusal_by
   files_plane n book e k = refusing refusal file n book (chain_met n plane _ e k) k
+
+  -- the same, with the refusal itself
+  pub files_plane_by : (r : Refusal) (book : List ℕ) → number_of r ≡ first_of plane → FilesChecked refusal file (number_of r) book
+  files_plane_by r book e = files_plane (number_of r) book e (refusal_met r (number_of r) refl)
 
   module _ (z : first_of plane ≡ 0) where
     pub files_codebook : (book : List ℕ) → (codebook ≡ codebook_bytes → ⊥) → FilesChecked refusal file 5 book
@@ -98,16 +104,20 @@ module _ (f : Files) (j : Job) where
   files_listable a b e = record { wide = a; high = b; passes = files_pass (replicate output_bytes 0) (lit≤ tt) e }
 
   -- what is printed
-  pub put_job_refused : (n : ℕ) → n ≡ files_refusal f j → (n ≡ 0 → ⊥) → (text : List ℕ) (r : ℕ) (after : List ℕ) → ListedPut 29 text 0 (refused_text n) r after → ListedPut listing_room text 0 (job_text f (some j)) r after
+  pub put_job_refused : (n : ℕ) → n ≡ files_refusal f j → (n ≡ 0 → ⊥) → (text : List ℕ) (r : ℕ) (after : List ℕ) → ListedPut 29 text 0 (refused_text n) r after → ListedPut listing_room text 0 (job_text f (Some j)) r after
   unfolding job_text
   put_job_refused n e h text r after p = rw (← e, ne_eqb n 0 h) (record { next = p.next; short = omega (arith, p.short); bytes_after = p.bytes_after })
 
-  pub text_plane : files_refusal f j ≡ 0 → job_text f (some j) ≡ plane_text g t
+  -- the same, with the refusal itself
+  pub put_job_refused_by : (n : Refusal) → number_of n ≡ files_refusal f j → (text : List ℕ) (r : ℕ) (after : List ℕ) → ListedPut 29 text 0 (refused_text (number_of n)) r after → ListedPut listing_room text 0 (job_text f (Some j)) r after
+  put_job_refused_by n e text r after p = put_job_refused (number_of n) e (refusal_met n (number_of n) refl) text r after p
+
+  pub text_plane : files_refusal f j ≡ 0 → job_text f (Some j) ≡ plane_text g t
   unfolding job_text
   text_plane e = rw e
 
 -- the text of a job does not depend on how its line was written
 pub text_by : (book codebook source reference line other : List ℕ) (j : Job)
-    → job_text (files_by book codebook source reference line) (some j) ≡ job_text (files_by book codebook source reference other) (some j)
+    → job_text (files_by book codebook source reference line) (Some j) ≡ job_text (files_by book codebook source reference other) (Some j)
 unfolding job_text
 text_by book codebook source reference line other j = refl

@@ -1,10 +1,9 @@
 -- Laws of how long a job line and a book file can be. Assumes nothing.
 use Prim.Native.Nat.{ℕ, zero, suc, ◌+◌, ◌*◌, ◌^◌, ◌≤◌, ◌<◌}
-use Rattle.std.specs.Prelude.{◌≡◌, Bool, ◌&&◌, List, [], ◌∷◌, ◌++◌, map, ltb, length}
+use Rattle.std.specs.Prelude.{◌≡◌, Bool, ◌&&◌, List, [], ◌∷◌, ◌++◌, map, ltb, length, Option, None, Some}
 use Rattle.std.proofs.Math.Path.{refl, ap}
 use Rattle.std.proofs.Common.{sym, zero-add, lt_of_le_of_lt, lt_of_lt_of_le, lit<, length-append}
 use Rattle.std.proofs.Math.Bool.{true, false}
-use Rattle.std.proofs.Math.Option.{Option, none, some}
 use Rattle.std.proofs.Math.Nat.{add-mul, pow-le-pow_right}
 use native.Mathlib.Omega.{arith}
 use Rattle.std.proofs.Math.Dec.{eqb}
@@ -118,8 +117,8 @@ book_short file h = go (file_lines file) refl h
         two false q = absurd (k (lines_missed ls q))
 
     go : (o : Option (List Line)) → file_lines file ≡ o → (refusal_read o ≡ 5 → ⊥) → length file ≤ longest_book
-    go none q k = absurd (k refl)
-    go (some ls) q k = rw (file_text file ls q) (lines_short ls (file_fits file ls q) (once ls k))
+    go None q k = absurd (k refl)
+    go (Some ls) q k = rw (file_text file ls q) (lines_short ls (file_fits file ls q) (once ls k))
 
 -- ---- a job line
 -- a bound is below 10^k, where k digits are written for it
@@ -131,7 +130,7 @@ all_whole [] = true
 all_whole (m ∷ ms) = whole m && all_whole ms
 
 -- a number is no longer than its bound
-field_long : (m v : ℕ) (w : List ℕ) → whole m ≡ true → number_up_to m w ≡ some v → length w ≤ length (decimal m)
+field_long : (m v : ℕ) (w : List ℕ) → whole m ≡ true → number_up_to m w ≡ Some v → length w ≤ length (decimal m)
 field_long m v w h q =
     let two = both_true (ltb 0 (length (decimal m))) (ltb m (10 ^ length (decimal m))) h in
     let below : v < 10 ^ length (decimal m) = lt_of_le_of_lt (number_le m v w q) (ltb-true m (10 ^ length (decimal m)) two.1) in
@@ -151,12 +150,12 @@ unfolding fields_size all_whole decimal digits_before
 numbers_long (number {f} {fs} e rest) = omega (arith, line_size f fs, fields_long (number e rest) refl)
 
 -- one that is longer has another form
-pub job_short : (t : List ℕ) (j : Job) → job_in t ≡ some j → length t ≤ longest_job
+pub job_short : (t : List ℕ) (j : Job) → job_in t ≡ Some j → length t ≤ longest_job
 unfolding job_in ended line_of
 job_short t j q = go (lines_of t) refl q
   where
-    go : (o : Option (List (List ℕ))) → lines_of t ≡ o → one_line o ≡ some j → length t ≤ longest_job
-    go none e k = none_some k
-    go (some []) e k = none_some k
-    go (some (l ∷ [])) e k = rw (lines_ended t (l ∷ []) e) (rw (joined_fields l) at (numbers_long (job_numbers (fields_of l) j k).1))
-    go (some (l ∷ (m ∷ ms))) e k = none_some k
+    go : (o : Option (List (List ℕ))) → lines_of t ≡ o → one_line o ≡ Some j → length t ≤ longest_job
+    go None e k = none_some k
+    go (Some []) e k = none_some k
+    go (Some (l ∷ [])) e k = rw (lines_ended t (l ∷ []) e) (rw (joined_fields l) at (numbers_long (job_numbers (fields_of l) j k).1))
+    go (Some (l ∷ (m ∷ ms))) e k = none_some k

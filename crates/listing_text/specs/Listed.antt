@@ -1,6 +1,7 @@
 -- The listing as a call: the room that it needs, its parts as they are computed, and what it leaves (document 01, "Refused for the state met", the listing program; document 02, §1).
 use Rattle.std.specs.Prelude.{ℕ, ◌*◌, ◌≤◌, ◌≡◌, List, ◌++◌, eqb, leb, length, take, drop, replicate}
 use Rattle.bits.specs.Basics.{pick}
+use Rattle.bits.specs.Refusals.{number_told}
 use Rattle.book_file.specs.BookFile.{file_book}
 use Rattle.canvas.specs.Canvas.{padded16}
 use Rattle.canvas.specs.declared.svq1_plane.Svq1PlaneCanvas.{Svq1PlaneCanvas}
@@ -74,4 +75,4 @@ pub record ListedReady (s : ShownPlane) (stated : List ℕ) (r : WriteEnd) : Typ
 -- its lines and its total, or its refusal
 unfoldable pub end_text : ShownPlane → List ℕ → WriteEnd → List ℕ
 end_text s stated r =
-    pick (eqb r.refused 0) (lines_from s stated r.done ++ total_line r.bits (visible_total s)) (refused_text r.refused)
+    pick (eqb (number_told r.refused) 0) (lines_from s stated r.done ++ total_line r.bits (visible_total s)) (refused_text (number_told r.refused))

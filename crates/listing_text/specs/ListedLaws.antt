@@ -1,6 +1,6 @@
 -- Laws of the listing of a plane: its lines are those of its macroblocks. Assumes nothing.
 use Prim.Native.Nat.{ℕ, zero, suc, ◌+◌, ◌*◌, ◌/◌, ◌≤◌, ◌<◌, min}
-use Rattle.std.specs.Prelude.{◌≡◌, Bool, take, replicate}
+use Rattle.std.specs.Prelude.{◌≡◌, Bool, take, replicate, None, Some}
 use Rattle.std.proofs.Math.Path.{refl, ap}
 use Rattle.std.proofs.Common.{◌∙◌, le_refl, length-append, get_or-append-add, eq-eqb, ne_eqb, eqb-true}
 use Rattle.std.proofs.Math.Bool.{true, false}
@@ -11,6 +11,9 @@ use Rattle.std.proofs.Math.Dec.{eqb}
 use Rattle.std.proofs.Math.ListN.{length, drop, get_or, get_or-append}
 use Rattle.std.proofs.lemmas.List.{length-replicate}
 use Rattle.bits.specs.Basics.{pick}
+use Rattle.bits.specs.declared.refusal.Refusal.{Refusal}
+use Rattle.bits.specs.Refusals.{number_of, number_told}
+use Rattle.bits.specs.CallsLaws.{refusal_met}
 use Rattle.bits.specs.BasicsLaws.{or_next}
 use Rattle.bits.specs.Bits.{bits_of}
 use Rattle.canvas.specs.Canvas.{size_refusal, canvas_refusal}
@@ -110,7 +113,7 @@ module _ (g : Given) (t : Task) (out : List ℕ) (passes : write_refusal g t out
     unfolding write_answer
     answered = p.answer ∙ rw (eq-eqb (write_refusal g t out 0 (no_slices g)) 0 passes)
 
-    ended_refused : r.refused ≡ end.refusal
+    ended_refused : number_told r.refused ≡ end.refusal
     ended_refused = ap (λ (a : PlaneAnswer). a.refusal) answered
 
     ended_done : r.done ≡ end.done
@@ -120,7 +123,7 @@ module _ (g : Given) (t : Task) (out : List ℕ) (passes : write_refusal g t out
     done_most = omega (arith, ended_done, stands.at_most)
 
     -- not refused, it is whole
-    done_all : r.refused ≡ 0 → r.done ≡ count g
+    done_all : number_told r.refused ≡ 0 → r.done ≡ count g
     done_all z = go (dec_lt end.done (0 + count g))
       where
         go : Dec (end.done < 0 + count g) → r.done ≡ count g
@@ -140,28 +143,28 @@ module _ (g : Given) (t : Task) (out : List ℕ) (passes : write_refusal g t out
     module _ (held : List ℕ) (room : 3 * count g ≤ length held) where
       pub end_text_lem : end_text shown (stated_in g t (bits_of out) 0 (no_slices g) held r.done) r ≡ text_into g t (bits_of out)
       unfolding end_text text_into text_with
-      end_text_lem = rw (← ended_refused) (go (eqb r.refused 0) refl)
+      end_text_lem = rw (← ended_refused) (go (eqb (number_told r.refused) 0) refl)
         where
-          go : (b : Bool) → eqb r.refused 0 ≡ b
-              → pick b (lines_from shown (stated_in g t (bits_of out) 0 (no_slices g) held r.done) r.done ++ total_line r.bits (visible_total shown)) (refused_text r.refused)
-              ≡ pick b (lines_to g t (bits_of out) (visible_error shown) (count g) ++ total_line end.state.bits (visible_total shown)) (refused_text r.refused)
+          go : (b : Bool) → eqb (number_told r.refused) 0 ≡ b
+              → pick b (lines_from shown (stated_in g t (bits_of out) 0 (no_slices g) held r.done) r.done ++ total_line r.bits (visible_total shown)) (refused_text (number_told r.refused))
+              ≡ pick b (lines_to g t (bits_of out) (visible_error shown) (count g) ++ total_line end.state.bits (visible_total shown)) (refused_text (number_told r.refused))
           go true q =
-              let all = done_all (eqb-true r.refused 0 q) in
+              let all = done_all (eqb-true (number_told r.refused) 0 q) in
               rw (all, stated_lines g t (bits_of out) held (count g) (count g) room (le_refl (count g)), ← ap (λ (a : PlaneAnswer). a.bits) answered)
           go false q = refl
 
 -- ---- the text put into a slice
 module _ (s : ShownPlane) (stated : List ℕ) (e : WriteEnd) (bytes : List ℕ) (room : listing_room ≤ length bytes) (r : ℕ) (after : List ℕ) where
-  pub put_refused_end : (e.refused ≡ 0 → ⊥) → ListedPut 29 bytes 0 (refused_text e.refused) r after → ListedPut listing_room bytes 0 (end_text s stated e) r after
+  pub put_refused_end : (n : Refusal) → e.refused ≡ Some n → ListedPut 29 bytes 0 (refused_text (number_of n)) r after → ListedPut listing_room bytes 0 (end_text s stated e) r after
   unfolding end_text
-  put_refused_end h p = rw (ne_eqb e.refused 0 h) (record { next = p.next; short = omega (arith, p.short); bytes_after = p.bytes_after })
+  put_refused_end n is p = rw (is, ne_eqb (number_of n) 0 (refusal_met n (number_of n) refl)) (record { next = p.next; short = omega (arith, p.short); bytes_after = p.bytes_after })
 
-  pub put_listed_end : (at : ℕ) (mid : List ℕ) → e.refused ≡ 0 → e.done ≤ most_blocks → ListedPut (94 * e.done) bytes 0 (lines_from s stated e.done) at mid
+  pub put_listed_end : (at : ℕ) (mid : List ℕ) → e.refused ≡ None → e.done ≤ most_blocks → ListedPut (94 * e.done) bytes 0 (lines_from s stated e.done) at mid
       → ListedPut 48 mid at (total_line e.bits (visible_total s)) r after → ListedPut listing_room bytes 0 (end_text s stated e) r after
   unfolding end_text
   put_listed_end at mid h few p q =
       let both = put_two (94 * e.done) bytes 0 _ at mid p (omega arith) 48 _ r after q in
-      rw (eq-eqb e.refused 0 h) (record { next = both.next; short = omega (arith, both.short); bytes_after = both.bytes_after })
+      rw h (record { next = both.next; short = omega (arith, both.short); bytes_after = both.bytes_after })
 
 -- ---- a plane of the program's sizes in its own slices
 pub record Sizes (g : Given) : Type 0 where

@@ -1,6 +1,5 @@
 -- What the listing program prints (document 01, "Refused for the state met", the listing program; "Bench cards"; document 02, §1, §2, §4).
-use Rattle.std.specs.Prelude.{ℕ, zero, suc, ◌*◌, ◌/◌, ◌%◌, List, [], ◌∷◌, ◌++◌, eqb, length, replicate}
-use Rattle.std.proofs.Math.Option.{Option, none, some}
+use Rattle.std.specs.Prelude.{ℕ, zero, suc, ◌*◌, ◌/◌, ◌%◌, List, [], ◌∷◌, ◌++◌, eqb, length, replicate, Option, None, Some}
 use Rattle.bits.specs.Basics.{pick, first_of, unless}
 use Rattle.bits.specs.Bits.{bits_of}
 use Rattle.book.specs.Book.{codebook_bytes}
@@ -121,8 +120,8 @@ unfoldable pub plane_text : Given → Task → List ℕ
 plane_text g t = text_into g t (bits_of (replicate output_bytes 0))
 
 unfoldable pub job_text : Files → Option Job → List ℕ
-job_text f none = refused_text 1
-job_text f (some j) =
+job_text f None = refused_text 1
+job_text f (Some j) =
     let n = files_refusal f j in
     pick (eqb n 0) (plane_text (given_of f j) (task_of f j)) (refused_text n)
 

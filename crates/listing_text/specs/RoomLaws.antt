@@ -1,8 +1,7 @@
 -- Laws of the room that a listing needs, and of the whole listing put into a text. Assumes nothing.
 use Prim.Native.Nat.{ℕ, zero, suc, ◌*◌, ◌≤◌, ◌<◌}
-use Rattle.std.specs.Prelude.{◌≡◌, refl, Bool, true, false, List, [], ◌∷◌, ◌++◌, eqb}
+use Rattle.std.specs.Prelude.{◌≡◌, refl, Bool, true, false, List, [], ◌∷◌, ◌++◌, eqb, Option, None, Some}
 use Rattle.std.proofs.Math.Path.{sym, ap}
-use Rattle.std.proofs.Math.Option.{Option, none, some}
 use native.Mathlib.Omega.{arith}
 use Rattle.std.proofs.Math.ListN.{length, drop, length-append}
 use Rattle.std.proofs.Common.{length-take-le}
@@ -80,9 +79,9 @@ pub listing-fits : (f : Files) → length (listing f) ≤ listing_room
 unfolding listing job_text
 listing-fits f = go (job_in f.job) (λ j q. job_small f.job j q)
   where
-    go : (o : Option Job) → ((j : Job) → o ≡ some j → (j.width ≤ most_width) × (j.height ≤ most_height)) → length (job_text f o) ≤ listing_room
-    go none small = omega (arith, refused_most 1)
-    go (some j) small = two (eqb (files_refusal f j) 0)
+    go : (o : Option Job) → ((j : Job) → o ≡ Some j → (j.width ≤ most_width) × (j.height ≤ most_height)) → length (job_text f o) ≤ listing_room
+    go None small = omega (arith, refused_most 1)
+    go (Some j) small = two (eqb (files_refusal f j) 0)
       where
         two : (b : Bool) → length (pick b (plane_text (given_of f j) (task_of f j)) (refused_text (files_refusal f j))) ≤ listing_room
         two true = let s = small j refl in plane_most (given_of f j) (task_of f j) (count_small j.width j.height s.0 s.1)
@@ -103,11 +102,11 @@ module _ (f : Files) (text : List ℕ) where
       record { answer = rw e n; text_after = rw e is; within = inside; counted = sym (length-take-le r after inside) }
 
   -- a job line of another form
-  pub listed_none : (r : ℕ) (after : List ℕ) → listing_room ≤ length text → job_in f.job ≡ none → ListedPut 29 text 0 (refused_text 1) r after → Listed f text r after
+  pub listed_none : (r : ℕ) (after : List ℕ) → listing_room ≤ length text → job_in f.job ≡ None → ListedPut 29 text 0 (refused_text 1) r after → Listed f text r after
   unfolding listing job_text
   listed_none r after h q p =
       listed_put r after h (rw q (record { next = p.next; short = omega (arith, p.short); bytes_after = p.bytes_after }))
 
-  pub listed_job : (j : Job) (r : ℕ) (after : List ℕ) → listing_room ≤ length text → job_in f.job ≡ some j → ListedPut listing_room text 0 (job_text f (some j)) r after → Listed f text r after
+  pub listed_job : (j : Job) (r : ℕ) (after : List ℕ) → listing_room ≤ length text → job_in f.job ≡ Some j → ListedPut listing_room text 0 (job_text f (Some j)) r after → Listed f text r after
   unfolding listing
   listed_job j r after h q p = listed_put r after h (rw q p)

@@ -1,6 +1,6 @@
 // The text that the listing program prints, from the bytes of its five files.
-ghost use Rattle.std.specs.Prelude.{[], ◌≡◌, ◌≤◌, length};
-ghost use Rattle.std.proofs.Math.Option.{some};
+ghost use Rattle.std.specs.Prelude.{[], Some, ◌≡◌, ◌≤◌, length};
+ghost use Rattle.bits.specs.Refusals.{refused_by};
 ghost use Rattle.book.specs.Book.{book_bytes};
 ghost use Rattle.macroblock_choice.specs.ChosenNeeds.{task_by};
 ghost use Rattle.macroblock.specs.MacroblockNeeds.{given_by};
@@ -13,9 +13,11 @@ ghost use Rattle.macroblock.specs.Slices.{slices_by, lent_by};
 ghost use Rattle.visible_error.specs.VisibleNeeds.{shown_by};
 
 use super::inner::lines::{put_lines, put_refused, put_total_line};
+use bits::refusal::Refusal;
 use book::inner::{BOOK_BYTES, CODEBOOK_BYTES};
-use canvas::svq1_plane::{Svq1PlaneCanvas, source_refusal};
-use listing_job::{JobRead, ListingJob, read_job};
+use book_file::read_book_file;
+use canvas::svq1_plane::{Svq1PlaneCanvas, check_source};
+use listing_job::{ListingJob, read_job};
 use macroblock::svq1_enc_inter::Settings;
 use plane_enc::svq1_enc_inter::{WriteEnd, encode_inter_plane_stated};
 use visible_error::inner::visible_total;
@@ -33,26 +35,23 @@ fn canvas_of(width: usize, height: usize) -> Svq1PlaneCanvas
     }
 }
 
-// The refusals of the files, lowest number first but 30 before 6; 0 for none, and then the file's book is in `book`. Source and codebook are given by their lengths.
-fn files_refusal(
+// Refuses the files, by the lowest number but 30 before 6; where nothing does, the file's book is in `book`. Source and codebook are given by their lengths.
+fn check_files(
     canvas: Svq1PlaneCanvas,
     source: usize,
     reference: &[u8],
     codebook: usize,
     file: &[u8],
     book: &mut [u8],
-) -> u8
+) -> Result<(), Refusal>
     requires { length book.old ≡ book_bytes }
-    ensures { FilesChecked (files_refusal_by canvas.width canvas.height (record { samples = reference.now; stride = canvas.stride; rows = canvas.rows }) source codebook file.now) file.now result book.new }
+    ensures { FilesChecked (files_refusal_by canvas.width canvas.height (record { samples = reference.now; stride = canvas.stride; rows = canvas.rows }) source codebook file.now) file.now (refused_by result) book.new }
 {
-    let plane = source_refusal(canvas, source, reference);
-    if plane != 0 {
-        return plane;
-    }
+    check_source(canvas, source, reference)?;
     if codebook != CODEBOOK_BYTES {
-        return 5;
+        return Err(Refusal::TableLength);
     }
-    book_file::read_book_file(file, book)
+    read_book_file(file, book)
 }
 
 // What is printed of a plane that was written: its macroblocks and the total, or where it ended early its refusal.
@@ -67,8 +66,8 @@ fn put_plane(
     requires { ListedReady (shown_by canvas source.now recon.now) stated.now end × (listing_room ≤ length text.old) }
     ensures { ListedPut listing_room text.old 0 (end_text (shown_by canvas source.now recon.now) stated.now end) result text.new }
 {
-    if end.refused != 0 {
-        return put_refused(text, end.refused);
+    if let Some(refusal) = end.refused {
+        return put_refused(text, refusal);
     }
     let at = put_lines(text, canvas, source, recon, stated, end.done);
     let error = visible_total(canvas, source, recon);
@@ -179,11 +178,11 @@ fn list_job(
     text: &mut [u8],
 ) -> usize
     requires { (job.width ≤ most_width) × (job.height ≤ most_height) × (listing_room ≤ length text.old) }
-    ensures { ListedPut listing_room text.old 0 (job_text (files_by book.now codebook.now source.now reference.now []) (some (job_by job))) result text.new }
+    ensures { ListedPut listing_room text.old 0 (job_text (files_by book.now codebook.now source.now reference.now []) (Some (job_by job))) result text.new }
 {
     let mut held = [0u8; BOOK_BYTES];
     let canvas = canvas_of(job.width, job.height);
-    let refused = files_refusal(
+    let checked = check_files(
         canvas,
         source.len(),
         reference,
@@ -191,8 +190,8 @@ fn list_job(
         book,
         &mut held,
     );
-    if refused != 0 {
-        return put_refused(text, refused);
+    if let Err(refusal) = checked {
+        return put_refused(text, refusal);
     }
     let settings = Settings {
         lambda: job.lambda,
@@ -204,7 +203,7 @@ fn list_job(
 }
 
 // The listing of a plane, from the bytes of the program's files, put into a text. The answer is its length. A text of fewer than 16,384 bytes, in which not
-// every listing would fit, is left as it is, and the answer is 0.
+// every listing would fit, is left as it is, and the answer is 0. A line that asks for no job is refused with 1, as a plane's size is.
 pub fn listing(
     book: &[u8],
     codebook: &[u8],
@@ -218,8 +217,8 @@ pub fn listing(
     if text.len() < 16384 {
         return 0;
     }
-    let JobRead::Job(j) = read_job(job) else {
-        return put_refused(text, 1);
+    let Some(j) = read_job(job) else {
+        return put_refused(text, Refusal::PlaneSize);
     };
     list_job(j, book, codebook, source, reference, text)
 }

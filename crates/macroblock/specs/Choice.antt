@@ -1,6 +1,5 @@
 -- Which modes are tried for a macroblock, which of them fit, and which is written (document 01, `svq1_enc_inter.rs`, "Behind demand 3"; document 02, §4 and §5).
-use Rattle.std.specs.Prelude.{ℕ, suc, ◌+◌, ◌-◌, ◌*◌, ◌/◌, ◌%◌, min, Bool, true, false, ◌&&◌, ◌||◌, List, [], ◌∷◌, ◌++◌, map, eqb, ltb, length, get_or}
-use Rattle.std.proofs.Math.Option.{Option, none, some}
+use Rattle.std.specs.Prelude.{Option, Some, None, ℕ, suc, ◌+◌, ◌-◌, ◌*◌, ◌/◌, ◌%◌, min, Bool, true, false, ◌&&◌, ◌||◌, List, [], ◌∷◌, ◌++◌, map, eqb, ltb, length, get_or}
 use Rattle.bits.specs.Basics.{pick, passing, values_from}
 use Rattle.canvas.specs.Canvas.{blocks_along, padded16}
 use Rattle.book.specs.Book.{tables_of}
@@ -72,8 +71,8 @@ block_search_for g t k j p = record {
 }
 
 abbrev pub if_found : Option Svq1Mv → (Svq1Mv → List Motion) → List Motion
-if_found none f = []
-if_found (some v) f = f v
+if_found None f = []
+if_found (Some v) f = f v
 
 -- one vector, where its search finds it
 unfoldable pub single_tried : Given → Task → ℕ → Near → List Motion

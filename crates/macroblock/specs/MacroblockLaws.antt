@@ -1,10 +1,9 @@
 -- Laws of one macroblock: every mode tried is read back from its bits, shows a block of bytes and saturates no cost; none is cheaper than the one chosen.
 -- Assumes nothing.
-use Rattle.std.specs.Prelude.{◌≡◌, Bool, true, false, ℕ, zero, suc, ◌*◌, ◌^◌, ◌≤◌, ◌<◌, replicate}
+use Rattle.std.specs.Prelude.{Option, Some, None, ◌≡◌, Bool, true, false, ℕ, zero, suc, ◌*◌, ◌^◌, ◌≤◌, ◌<◌, replicate}
 use Rattle.std.proofs.Math.Path.{refl}
 use Rattle.std.proofs.Common.{ap, ◌∙◌}
 use mathlib.Core.List.{List, [], ◌++◌, append_assoc}
-use Rattle.std.proofs.Math.Option.{Option, none, some}
 use native.Mathlib.Omega.{arith}
 use Rattle.std.proofs.Math.Nat.{mul-le-mul}
 use Rattle.std.proofs.Math.ListN.{length, length-append, length-replicate}
@@ -232,9 +231,9 @@ module _ (g : Given) (t : Task) (ok : Fine g t) where
       }
 
   -- ---- every motion tried is codable
-  found_all : (n : Near) (f : Option Svq1Mv) (h : Svq1Mv → List Motion) → ((v : Svq1Mv) → f ≡ some v → All (Codables n) (h v)) → All (Codables n) (if_found f h)
-  found_all n none h k = tt
-  found_all n (some v) h k = k v refl
+  found_all : (n : Near) (f : Option Svq1Mv) (h : Svq1Mv → List Motion) → ((v : Svq1Mv) → f ≡ Some v → All (Codables n) (h v)) → All (Codables n) (if_found f h)
+  found_all n None h k = tt
+  found_all n (Some v) h k = k v refl
 
   single_codable : (k : ℕ) (n : Near) → All (Codables n) (single_tried g t k n)
   unfolding single_tried

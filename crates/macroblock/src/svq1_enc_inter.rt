@@ -7,12 +7,12 @@ ghost use Rattle.macroblock.specs.Mode.{mode_position};
 use vectors::svq1_motion_predictor::Svq1Mv;
 
 // How a macroblock is coded.
-#[derive(Clone, Copy)]
+#[derive(Clone, Copy, Debug, PartialEq, Eq)]
 pub enum Svq1MbMode {
-    Inter,
-    Inter4Mv,
-    Intra,
-    Skip,
+    Inter = 0,
+    Inter4Mv = 1,
+    Intra = 2,
+    Skip = 3,
 }
 
 impl Svq1MbMode {
@@ -20,12 +20,7 @@ impl Svq1MbMode {
     pub fn position(self) -> usize
         ensures { (result ≡ mode_position self) × (result < 4) }
     {
-        match self {
-            Svq1MbMode::Inter => 0,
-            Svq1MbMode::Inter4Mv => 1,
-            Svq1MbMode::Intra => 2,
-            Svq1MbMode::Skip => 3,
-        }
+        self as usize
     }
 }
 

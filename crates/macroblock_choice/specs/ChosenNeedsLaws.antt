@@ -1,6 +1,6 @@
 -- Laws of the choice: a motion's candidate by its plan, the best of all motions, and the block of a source.
 -- Assumes nothing.
-use Rattle.std.specs.Prelude.{◌≡◌, refl, true, false, List, [], ◌∷◌, ℕ, ◌≤◌, length}
+use Rattle.std.specs.Prelude.{◌≡◌, refl, true, false, List, [], ◌∷◌, ℕ, ◌≤◌, length, Option, Some, None, IfSome}
 use Rattle.std.proofs.Common.{sym, ap, ◌∙◌, true≢false, arith}
 use Rattle.bits.specs.Basics.{pick, Bytes}
 use Rattle.book.specs.Book.{tables_of}
@@ -26,8 +26,8 @@ use Rattle.macroblock.specs.Choice.{Task, target_of, target, skips_leaves, plane
 use Rattle.macroblock.specs.MotionForms.{motion_of}
 use Rattle.macroblock.specs.MacroblockNeeds.{given_by}
 use Rattle.macroblock.specs.MacroblockNeedsLaws.{fits, book_passes}
-use Rattle.macroblock_search.specs.declared.svq1_enc_inter.inner.motions.FoundMotion.{FoundMotion}
-use Rattle.macroblock_search.specs.SearchNeeds.{Searching, motions_of, still_found, MotionsFound}
+use Rattle.macroblock_search.specs.declared.svq1_enc_inter.inner.motions.TriedMotion.{TriedMotion}
+use Rattle.macroblock_search.specs.SearchNeeds.{Searching, motions_of, still_motion, MotionsFound}
 use Rattle.macroblock_search.specs.TargetForms.{Sources}
 use Rattle.macroblock_search.specs.TargetFormsLaws.{target_long}
 use Rattle.macroblock_choice.specs.CandidateNeeds.{choice_of, Stated, CandidateOf, Tried}
@@ -118,21 +118,27 @@ pub searching : (v : Svq1PlaneCanvas) (reference book codebook raised : List ℕ
 searching v reference book codebook raised k block p =
     record { fits = fits (given_by v reference book codebook) raised p.ok; number = p.number; whole = p.whole }
 
+-- a motion that was found carries its vectors
+pub carried : {v : Svq1PlaneCanvas} {reference block : List ℕ} {radius k : ℕ} {n : Near} {ms : Given → Task → List Motion} (r : Option TriedMotion)
+    → MotionsFound v reference block radius k n ms r → IfSome r (λ m. Carries n m.motion m.vectors)
+carried (Some m) f = record { stored = f.stored; differs = f.differs }
+carried None f = tt
+
 module _ (v : Svq1PlaneCanvas) (reference book codebook block : List ℕ) (settings : Settings) (room k : ℕ) (n : Near) where
   abbrev plane : Given
   plane = given_by v reference book codebook
 
-  pub chosen_for : (s a b r : MbCandidate) (one none more : FoundMotion) → choice_of s ≡ skipped
+  pub chosen_for : (s a b r : MbCandidate) (one more : Option TriedMotion) (none : TriedMotion) → choice_of s ≡ skipped
       → MotionsFound v reference block settings.radius k n (λ g t. single_tried g t k n) one
-      → none ≡ still_found
+      → none ≡ still_motion
       → MotionsFound v reference block settings.radius k n (λ g t. pick settings.four (four_tried g t k n) []) more
-      → Tried plane block settings room k n (motions_of one) s a → Tried plane block settings room k n (motions_of none) a b → Tried plane block settings room k n (motions_of more) b r
+      → Tried plane block settings room k n (motions_of one) s a → Tried plane block settings room k n (motion_of none.motion none.vectors ∷ []) a b → Tried plane block settings room k n (motions_of more) b r
       → ChosenFor plane block settings room k n r
-  chosen_for s a b r one none more es0 f1 f2 f3 ha hb hr = record {
+  chosen_for s a b r one more none es0 f1 f2 f3 ha hb hr = record {
     stated = hr.stated;
     is = λ t eb es.
-        chosen_is plane block settings room k n t s a b r (motions_of one) (motions_of none) (motions_of more) eb es es0 ha hb hr
-        (f1.are book codebook t eb (ap (λ (x : Settings). x.radius) es)) (ap motions_of f2)
+        chosen_is plane block settings room k n t s a b r (motions_of one) (motion_of none.motion none.vectors ∷ []) (motions_of more) eb es es0 ha hb hr
+        (f1.are book codebook t eb (ap (λ (x : Settings). x.radius) es)) (ap (λ (m : TriedMotion). motion_of m.motion m.vectors ∷ []) f2)
         (rw (ap (λ (x : Settings). x.four) es) at (f3.are book codebook t eb (ap (λ (x : Settings). x.radius) es)));
   }
 

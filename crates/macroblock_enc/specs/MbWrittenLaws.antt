@@ -1,6 +1,6 @@
 -- Laws of writing a macroblock: what is chosen can be written, and what is written is what was chosen.
 -- Assumes nothing.
-use Rattle.std.specs.Prelude.{◌≡◌, false, List, ℕ, ◌-◌, ◌*◌, ◌≤◌, length}
+use Rattle.std.specs.Prelude.{◌≡◌, false, List, ℕ, ◌-◌, ◌*◌, ◌≤◌, length, Option}
 use Rattle.std.proofs.Common.{sym, ◌∙◌, arith, mul-le-mul}
 use Rattle.std.proofs.Math.Path.{ap}
 use Rattle.bits.specs.Basics.{All, Bytes}
@@ -60,7 +60,7 @@ module _ (g : Given) (raised source : List ℕ) (k bytes at : ℕ) (s : Slices) 
       let r : rows g ≤ blocks_along largest_side = omega (arith, f.height.most) in
       omega (arith, mul-le-mul r c)
 
-  pub reserving : (limit : BitLimit) (spent : ℕ) → Spends g limit k spent → Reserving g.book limit (cols g) (rows g) k spent
+  pub reserving : (limit : Option BitLimit) (spent : ℕ) → Spends g limit k spent → Reserving g.book limit (cols g) (rows g) k spent
   reserving limit spent x = record {
     passes = book_passes g raised ready.ok;
     number = ready.number;
@@ -68,7 +68,7 @@ module _ (g : Given) (raised source : List ℕ) (k bytes at : ℕ) (s : Slices) 
     stays = reserved g k spent ready.number limit few_blocks x;
   }
 
-module _ (v : Svq1PlaneCanvas) (reference book codebook raised source : List ℕ) (settings : Settings) (limit : BitLimit) (spent k at : ℕ) (out : List ℕ) (s : Slices)
+module _ (v : Svq1PlaneCanvas) (reference book codebook raised source : List ℕ) (settings : Settings) (limit : Option BitLimit) (spent k at : ℕ) (out : List ℕ) (s : Slices)
     (ready : MbReady (given_by v reference book codebook) raised source k (length out) at s) (source_bytes : Bytes source) (reference_bytes : Bytes reference) (spends : Spends (given_by v reference book codebook) limit k spent) where
   abbrev g : Given
   g = given_by v reference book codebook

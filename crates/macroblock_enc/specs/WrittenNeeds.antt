@@ -1,5 +1,6 @@
 -- What writing a macroblock asks and leaves (document 01, `svq1_enc_inter.rs`, refusal 22).
 use Rattle.std.specs.Prelude.{◌≡◌, Bool, List, ◌++◌, ℕ, ◌+◌, ◌*◌, ◌≤◌, ◌<◌, leb, length}
+use Rattle.bits.specs.Refusals.{number_told}
 use Rattle.bits.specs.Basics.{pick, unless, Bytes}
 use Rattle.bits.specs.Bits.{bits_of, put_bits}
 use Rattle.bits.specs.BitNeeds.{Fits}
@@ -78,7 +79,7 @@ pub record CandidateWritten (book : List ℕ) (n : Near) (c : MbCandidate) (out 
   pub mode : r.mode ≡ c.mode
   pub bits : r.bits ≡ c.bits
   pub error : r.error ≡ c.error
-  pub refused : r.refused ≡ unless (fits_in (length out) at c.bits) 22
+  pub refused : number_told r.refused ≡ unless (fits_in (length out) at c.bits) 22
   pub next : r.next ≡ pick (fits_in (length out) at c.bits) (at + c.bits) at
   pub output : bits_of left ≡ pick (fits_in (length out) at c.bits) (put_bits (bits_of out) at (choice_bits (by_book book) n (choice_of c))) (bits_of out)
 
@@ -110,7 +111,7 @@ pub record MbWritten (g : Given) (t : Task) (k spent at : ℕ) (l : Lent) (r : W
   pub mode : r.mode ≡ mode_of (mb_choice g t k spent l.slices)
   pub bits : r.bits ≡ (mb_weight g t k spent l.slices).bits
   pub error : r.error ≡ (mb_weight g t k spent l.slices).err
-  pub refused : r.refused ≡ unless (fits_in (length l.out) at (mb_weight g t k spent l.slices).bits) 22
+  pub refused : number_told r.refused ≡ unless (fits_in (length l.out) at (mb_weight g t k spent l.slices).bits) 22
   pub next : r.next ≡ pick (fits_in (length l.out) at (mb_weight g t k spent l.slices).bits) (at + (mb_weight g t k spent l.slices).bits) at
   pub output : bits_of l'.out ≡ pick (fits_in (length l.out) at (mb_weight g t k spent l.slices).bits) (put_bits (bits_of l.out) at (choice_bits g (near g l.slices k) (mb_choice g t k spent l.slices))) (bits_of l.out)
   pub slices : l'.slices ≡ pick (fits_in (length l.out) at (mb_weight g t k spent l.slices).bits) (laid g k (mb_choice g t k spent l.slices) l.slices) l.slices

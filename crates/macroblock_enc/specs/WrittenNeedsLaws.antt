@@ -1,9 +1,10 @@
 -- Laws of writing a macroblock.
 -- Assumes nothing.
-use Rattle.std.specs.Prelude.{◌≡◌, refl, Bool, true, false, List, ◌++◌, ℕ, ◌+◌, ◌*◌, ◌≤◌, ◌<◌, length}
+use Rattle.std.specs.Prelude.{◌≡◌, refl, Bool, true, false, List, ◌++◌, ℕ, ◌+◌, ◌*◌, ◌≤◌, ◌<◌, length, Some, None}
 use Rattle.std.proofs.Common.{sym, ◌∙◌, arith, le-leb, length-append}
 use Rattle.std.proofs.Math.Path.{ap}
 use Rattle.std.proofs.lemmas.Bool.{lt-leb}
+use Rattle.bits.specs.declared.refusal.Refusal.TheVariants.{NoRoom}
 use Rattle.bits.specs.BitNeeds.{Fits, Wrote}
 use Rattle.book.specs.Book.{tables_of}
 use Rattle.book.specs.declared.svq1_vlc.Svq1Half.{Svq1Half}
@@ -108,13 +109,13 @@ module _ (book : List ℕ) (n : Near) (c : MbCandidate) (out : List ℕ) (at : �
   }
 
   pub wrote_candidate : (next : ℕ) (left : List ℕ) → at + c.bits ≤ 8 * length out → Wrote out at (choice_bits (by_book book) n (choice_of c)) next left
-      → CandidateWritten book n c out at (record { refused = 0; mode = c.mode; bits = c.bits; error = c.error; next = next }) left
+      → CandidateWritten book n c out at (record { refused = None; mode = c.mode; bits = c.bits; error = c.error; next = next }) left
   wrote_candidate next left h o =
       let f = le-leb (at + c.bits) (8 * length out) h in
       record { mode = refl; bits = refl; error = refl; refused = rw f; next = rw f (o.behind ∙ ap (λ (i : ℕ). at + i) (sym w.bits)); output = rw f o.bits }
 
   pub wrote_nothing : 8 * length out < at + c.bits
-      → CandidateWritten book n c out at (record { refused = 22; mode = c.mode; bits = c.bits; error = c.error; next = at }) out
+      → CandidateWritten book n c out at (record { refused = Some NoRoom; mode = c.mode; bits = c.bits; error = c.error; next = at }) out
   wrote_nothing h =
       let f = lt-leb (at + c.bits) (8 * length out) h in
       record { mode = refl; bits = refl; error = refl; refused = rw f; next = rw f; output = rw f }

@@ -1,10 +1,10 @@
 -- The motion search: candidates in their order, which are tried, which one stays, and its refusals (document 01, `svq1_enc_inter.rs`, refusals 1, 3, 4, 9, 23).
-use Rattle.std.specs.Prelude.{ℕ, zero, suc, ◌+◌, ◌-◌, ◌*◌, ◌/◌, ◌%◌, min, Bool, true, ◌&&◌, ◌||◌, List, eqb, ltb, length, ℤ, pos, ◌+ℤ◌}
-use Rattle.std.proofs.Math.Option.{Option, none, some}
+use Rattle.std.specs.Prelude.{ℕ, zero, suc, Option, Some, None, ◌+◌, ◌-◌, ◌*◌, ◌/◌, ◌%◌, min, Bool, true, ◌&&◌, ◌||◌, List, eqb, ltb, length, ℤ, pos, ◌+ℤ◌}
 use Rattle.std.proofs.Math.IntN.{sub_ℕ}
 use Rattle.std.specs.Int.Signed.{lt_z, le_z, shr_z}
 use Rattle.bits.specs.Basics.{pick, or_else, unless}
-use Rattle.bits.specs.Calls.{Answer, done, refused, unless_refused}
+use Rattle.bits.specs.Refusals.{Answer, done, refused}
+use Rattle.bits.specs.Calls.{unless_refused}
 use Rattle.vectors.specs.declared.svq1_motion_predictor.Svq1Mv.{Svq1Mv}
 use Rattle.vectors.specs.Vectors.{zero_mv, in_range, codable}
 use Rattle.canvas.specs.Canvas.{Canvas, size_refusal, canvas_refusal}
@@ -84,8 +84,8 @@ search_best g = let f = full_search g in around_to g (centre f) f 9
 
 -- the vector found; none is 23
 abbrev pub vector_of : Best → Option Svq1Mv
-vector_of nothing = none
-vector_of (best v e) = some v
+vector_of nothing = None
+vector_of (best v e) = Some v
 
 unfoldable pub searched : Search → Option Svq1Mv
 searched g = vector_of (search_best g)
@@ -106,8 +106,8 @@ search_refusal g =
 
 -- 23: no vector tried is codable and in the window
 abbrev pub vector_answer : Option Svq1Mv → Answer Svq1Mv
-vector_answer none = refused 23
-vector_answer (some v) = done v
+vector_answer None = refused 23
+vector_answer (Some v) = done v
 
 -- the search as a call
 unfoldable pub search_answer : Search → Answer Svq1Mv

@@ -1,23 +1,6 @@
--- The search and the sum of one vector as calls: what their answers stand for, and their tests as the code makes them (document 01, refusals 1, 3, 4, 9 and 23, document 02, §6).
+-- The tests of the search and of the sum of one vector as the code makes them (document 01, refusal 9).
 use Rattle.std.specs.Prelude.{ℕ, ◌*◌, ◌%◌, ◌≤◌, ◌≡◌, Bool, ◌&&◌, ◌||◌, eqb, ltb, ℤ}
-use Rattle.bits.specs.Calls.{Answer, done, refused}
-use Rattle.vectors.specs.declared.svq1_motion_predictor.Svq1Mv.{Svq1Mv}
-use Rattle.compensation.specs.declared.svq1_enc_inter.inner.VectorSum.{VectorSum}
-use Rattle.motion.specs.declared.svq1_enc_inter.Searched.{Searched}
-use Rattle.motion.specs.declared.svq1_enc_inter.Searched.TheVariants.{Vector, Refused}
-use Rattle.motion.specs.declared.svq1_enc_inter.SummedVector.{SummedVector}
-use Rattle.motion.specs.declared.svq1_enc_inter.SummedVector.TheVariants as summed
 use Rattle.motion.specs.CandidateForms.{lowered}
-
--- the vector, or the number of the refusal
-abbrev pub searched_answer : Searched → Answer Svq1Mv
-searched_answer (Vector v) = done v
-searched_answer (Refused n) = refused n
-
--- the sum and the rows taken, or the number of the refusal
-abbrev pub summed_answer : SummedVector → Answer VectorSum
-summed_answer (summed.Sum s) = done s
-summed_answer (summed.Refused n) = refused n
 
 -- side 8 or 16
 abbrev pub either_side : ℕ → Bool

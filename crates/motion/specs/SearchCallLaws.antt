@@ -7,7 +7,7 @@ use Rattle.std.proofs.Math.Bool.{Bool}
 use Rattle.std.proofs.Math.Dec.{ltb, eqb}
 use Rattle.bits.specs.Basics.{or_else, unless}
 use Rattle.bits.specs.BasicsLaws.{both_true, or_first, or_next, or_none, unless-none}
-use Rattle.bits.specs.Calls.{refused}
+use Rattle.bits.specs.Refusals.{refused}
 use Rattle.motion.specs.declared.svq1_enc_inter.inner.Spot.{Spot}
 use Rattle.vectors.specs.Vectors.{in_range}
 use Rattle.vectors.specs.VectorsLaws.{InRange, range_pos, range_neg}

@@ -1,11 +1,10 @@
 -- Laws of the search that upper layers cite: what is found is codable against its predictor and lies in the window.
 -- Assumes nothing.
-use Rattle.std.specs.Prelude.{◌≡◌, Bool, ◌&&◌, eqb, ℤ}
+use Rattle.std.specs.Prelude.{◌≡◌, Some, Bool, ◌&&◌, eqb, ℤ}
 use Rattle.std.proofs.Math.Path.{refl}
 use Prim.Native.Nat.{ℕ, zero, suc, ◌+◌, ◌*◌}
 use Rattle.std.proofs.Common.{arith}
 use Rattle.std.proofs.Math.Bool.{true, false}
-use Rattle.std.proofs.Math.Option.{some}
 use Rattle.bits.specs.Basics.{pick}
 use Rattle.bits.specs.BasicsLaws.{both_true}
 use Rattle.vectors.specs.declared.svq1_motion_predictor.Svq1Mv.{Svq1Mv}
@@ -51,11 +50,11 @@ module _ (g : Search) where
   unfolding search_best full_search
   kept_best = kept-around 9 (centre (full_search g)) (full_search g) (kept-rows (2 * g.radius + 1) (consider g zero_mv nothing) (kept_one zero_mv nothing tt))
 
-  kept-vector : (f : Best) (v : Svq1Mv) → Kept g f → vector_of f ≡ some v → allowed g v ≡ true
+  kept-vector : (f : Best) (v : Svq1Mv) → Kept g f → vector_of f ≡ Some v → allowed g v ≡ true
   kept-vector nothing v k e = let z : ◌≡◌ {A = ℕ} 0 1 = cc in absurd (omega arith)
   kept-vector (best u n) v k e = let q : u ≡ v = cc in rw q at k
 
-  pub found_allowed : (v : Svq1Mv) → searched g ≡ some v → allowed g v ≡ true
+  pub found_allowed : (v : Svq1Mv) → searched g ≡ Some v → allowed g v ≡ true
   unfolding searched
   found_allowed v e = kept-vector (search_best g) v kept_best e
 
@@ -74,5 +73,5 @@ is_allowed g v e =
     record { codes = is_codable g.predictor v x.0 y.0; across = x.1; down = y.1 }
 
 -- a found vector is both
-pub found : (g : Search) (v : Svq1Mv) → searched g ≡ some v → Allowed g v
+pub found : (g : Search) (v : Svq1Mv) → searched g ≡ Some v → Allowed g v
 found g v e = is_allowed g v (found_allowed g v e)

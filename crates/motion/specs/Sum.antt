@@ -2,7 +2,8 @@
 use Rattle.std.specs.Prelude.{ℕ, ◌*◌, ◌≡◌, false, ◌&&◌, not, List, take, drop}
 use Rattle.std.proofs.Math.Option.{Option, none, some}
 use Rattle.bits.specs.Basics.{pick}
-use Rattle.bits.specs.Calls.{Answer, done, refused, unless_refused}
+use Rattle.bits.specs.Refusals.{Answer, done, refused}
+use Rattle.bits.specs.Calls.{unless_refused}
 use Rattle.vectors.specs.declared.svq1_motion_predictor.Svq1Mv.{Svq1Mv}
 use Rattle.compensation.specs.declared.svq1_enc_inter.inner.VectorSum.{VectorSum}
 use Rattle.compensation.specs.Compensation.{moved_block}

@@ -6,7 +6,7 @@ use Rattle.std.proofs.Common.{ap, ◌∙◌, eq-eqb, ne_eqb}
 use Rattle.std.proofs.Math.Bool.{true, false}
 use Rattle.std.proofs.Math.Option.{Option}
 use Rattle.bits.specs.Basics.{pick}
-use Rattle.bits.specs.Calls.{done, refused}
+use Rattle.bits.specs.Refusals.{done, refused}
 use Rattle.vectors.specs.declared.svq1_motion_predictor.Svq1Mv.{Svq1Mv}
 use Rattle.vectors.specs.Vectors.{in_range, codable}
 use Rattle.motion.specs.Search.{Search, in_window, allowed, search_refusal}

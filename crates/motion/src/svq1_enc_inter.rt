@@ -8,26 +8,14 @@ ghost use Rattle.vectors.specs.VectorsLaws.{InRange};
 ghost use Rattle.motion.specs.Search.{vector_of, vector_answer, search_refusal, search_answer};
 ghost use Rattle.motion.specs.Sum.{sum_or23, sum_answer};
 ghost use Rattle.motion.specs.CandidateForms.{raised_end, spot_search, MotionReady, lowered, lowered_mv, best_so_far, BestHeld};
-ghost use Rattle.motion.specs.SearchCall.{searched_answer, summed_answer, either_side, search_block_ok, Raised};
+ghost use Rattle.motion.specs.SearchCall.{either_side, search_block_ok, Raised};
+ghost use Rattle.bits.specs.Refusals.{refused_by, answer_of};
 
 use super::svq1_enc_inter::inner::{Candidate, Spot, axis_ok, search_best, vector_sum};
-use canvas::svq1_plane::plane_refusal;
+use bits::refusal::Refusal;
+use canvas::svq1_plane::check_plane;
 use compensation::svq1_enc_inter::inner::VectorSum;
 use vectors::svq1_motion_predictor::Svq1Mv;
-
-// What a search answers: the vector, or the number of the refusal.
-#[derive(Clone, Copy)]
-pub enum Searched {
-    Vector(Svq1Mv),
-    Refused(u8),
-}
-
-// What summing one vector answers: its sum and the rows taken, or the number of the refusal.
-#[derive(Clone, Copy)]
-pub enum SummedVector {
-    Sum(VectorSum),
-    Refused(u8),
-}
 
 fn either_side(side: usize) -> bool
     ensures { result ≡ either_side side }
@@ -38,22 +26,12 @@ fn either_side(side: usize) -> bool
 fn block_ok(len: usize, side: usize, x: usize, y: usize, stride: usize, rows: usize) -> bool
     ensures { result ≡ search_block_ok len side x y stride rows }
 {
-    if !either_side(side) {
-        return false;
-    }
-    if x % side != 0 {
-        return false;
-    }
-    if y % side != 0 {
-        return false;
-    }
-    if stride <= x {
-        return false;
-    }
-    if rows <= y {
-        return false;
-    }
-    len == side * side
+    either_side(side)
+        && x % side == 0
+        && y % side == 0
+        && x < stride
+        && y < rows
+        && len == side * side
 }
 
 fn in_range(z: i32) -> bool
@@ -65,13 +43,11 @@ fn in_range(z: i32) -> bool
 fn vector_ok(v: Svq1Mv) -> bool
     ensures { result ≡ (in_range v.x && in_range v.y) }
 {
-    if !in_range(v.x) {
-        return false;
-    }
-    in_range(v.y)
+    in_range(v.x) && in_range(v.y)
 }
 
-fn search_refusal(
+// Refuses a plane, a block or a predictor.
+fn check_search(
     reference: &[u8],
     width: usize,
     height: usize,
@@ -83,20 +59,14 @@ fn search_refusal(
     y: usize,
     predictor: Svq1Mv,
     radius: u8,
-) -> u8
-    ensures { result ≡ search_refusal (record { reference = record { samples = reference.now; stride = stride; rows = rows }; width = width; height = height; target = target.now; side = side; x = x; y = y; predictor = predictor; radius = radius }) }
+) -> Result<(), Refusal>
+    ensures { refused_by result ≡ search_refusal (record { reference = record { samples = reference.now; stride = stride; rows = rows }; width = width; height = height; target = target.now; side = side; x = x; y = y; predictor = predictor; radius = radius }) }
 {
-    let n = plane_refusal(reference, width, height, stride, rows);
-    if n != 0 {
-        return n;
+    check_plane(reference, width, height, stride, rows)?;
+    if !block_ok(target.len(), side, x, y, stride, rows) || !vector_ok(predictor) {
+        return Err(Refusal::SearchBlock);
     }
-    if !block_ok(target.len(), side, x, y, stride, rows) {
-        return 9;
-    }
-    if !vector_ok(predictor) {
-        return 9;
-    }
-    0
+    Ok(())
 }
 
 // A component raised by 1024, and back.
@@ -114,16 +84,16 @@ fn lower(u: usize) -> i32
     u as i32 - 1024
 }
 
-fn answered(b: Candidate) -> Searched
+fn answered(b: Candidate) -> Result<Svq1Mv, Refusal>
     requires { BestHeld b }
-    ensures { searched_answer result ≡ vector_answer (vector_of (best_so_far b)) }
+    ensures { answer_of result ≡ vector_answer (vector_of (best_so_far b)) }
 {
-    if b.error < 65536 {
-        let x = lower(b.ux);
-        let y = lower(b.uy);
-        return Searched::Vector(Svq1Mv { x, y });
+    if 65536 <= b.error {
+        return Err(Refusal::NoVector);
     }
-    Searched::Refused(23)
+    let x = lower(b.ux);
+    let y = lower(b.uy);
+    Ok(Svq1Mv { x, y })
 }
 
 // The motion search for the block of side x side samples at (x, y) of a plane of width x height visible samples.
@@ -139,15 +109,12 @@ pub fn search_motion_vector(
     y: usize,
     predictor: Svq1Mv,
     radius: u8,
-) -> Searched
-    ensures { searched_answer result ≡ search_answer (record { reference = record { samples = reference.now; stride = stride; rows = rows }; width = width; height = height; target = target.now; side = side; x = x; y = y; predictor = predictor; radius = radius }) }
+) -> Result<Svq1Mv, Refusal>
+    ensures { answer_of result ≡ search_answer (record { reference = record { samples = reference.now; stride = stride; rows = rows }; width = width; height = height; target = target.now; side = side; x = x; y = y; predictor = predictor; radius = radius }) }
 {
-    let n = search_refusal(
+    check_search(
         reference, width, height, stride, rows, target, side, x, y, predictor, radius,
-    );
-    if n != 0 {
-        return Searched::Refused(n);
-    }
+    )?;
     let px = raise(predictor.x);
     let py = raise(predictor.y);
     let p = Spot {
@@ -160,29 +127,32 @@ pub fn search_motion_vector(
         side,
         px,
         py,
-        radius: radius as usize,
+        radius: usize::from(radius),
     };
-    let b = search_best(target, reference, p);
-    answered(b)
+    answered(search_best(target, reference, p))
 }
 
-// The sum of a vector that may be tried, its components raised by 1024; 23 for any other.
-fn summed(target: &[u8], reference: &[u8], p: Spot, ux: usize, uy: usize, best: u64) -> SummedVector
+// The sum of a vector that may be tried, its components raised by 1024; any other is refused.
+fn summed(
+    target: &[u8],
+    reference: &[u8],
+    p: Spot,
+    ux: usize,
+    uy: usize,
+    best: u64,
+) -> Result<VectorSum, Refusal>
     requires { MotionReady target.now reference.now p × (ux < raised_end) × (uy < raised_end) }
-    ensures { summed_answer result ≡ sum_or23 (spot_search target.now reference.now p) (lowered_mv ux uy) (best_or_none best) }
+    ensures { answer_of result ≡ sum_or23 (spot_search target.now reference.now p) (lowered_mv ux uy) (best_or_none best) }
 {
-    if !axis_ok(p.side, p.x, p.width, p.px, ux) {
-        return SummedVector::Refused(23);
-    }
-    if !axis_ok(p.side, p.y, p.height, p.py, uy) {
-        return SummedVector::Refused(23);
+    if !axis_ok(p.side, p.x, p.width, p.px, ux) || !axis_ok(p.side, p.y, p.height, p.py, uy) {
+        return Err(Refusal::NoVector);
     }
     let found = Candidate {
         ux: 1024,
         uy: 1024,
         error: best,
     };
-    SummedVector::Sum(vector_sum(target, reference, p, ux, uy, found))
+    Ok(vector_sum(target, reference, p, ux, uy, found))
 }
 
 // The sum of one vector against the best absolute error found so far, 65536 or more for none found: it ends behind the first row in which it
@@ -200,17 +170,14 @@ pub fn sum_motion_vector(
     predictor: Svq1Mv,
     v: Svq1Mv,
     best: u64,
-) -> SummedVector
-    ensures { summed_answer result ≡ sum_answer (record { reference = record { samples = reference.now; stride = stride; rows = rows }; width = width; height = height; target = target.now; side = side; x = x; y = y; predictor = predictor; radius = 0 }) v (best_or_none best) }
+) -> Result<VectorSum, Refusal>
+    ensures { answer_of result ≡ sum_answer (record { reference = record { samples = reference.now; stride = stride; rows = rows }; width = width; height = height; target = target.now; side = side; x = x; y = y; predictor = predictor; radius = 0 }) v (best_or_none best) }
 {
-    let n = search_refusal(
+    check_search(
         reference, width, height, stride, rows, target, side, x, y, predictor, 0,
-    );
-    if n != 0 {
-        return SummedVector::Refused(n);
-    }
+    )?;
     if !vector_ok(v) {
-        return SummedVector::Refused(23);
+        return Err(Refusal::NoVector);
     }
     let px = raise(predictor.x);
     let py = raise(predictor.y);

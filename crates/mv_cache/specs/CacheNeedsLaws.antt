@@ -1,13 +1,12 @@
 -- Laws of the vector slices for the code: a neighbour by the tests that it makes, and a component's byte.
 -- Assumes nothing.
-use Rattle.std.specs.Prelude.{ℕ, suc, ◌+◌, ◌-◌, ◌*◌, ◌/◌, ◌%◌, ◌≤◌, ◌<◌, ◌≡◌, refl, true, false, List, length, ℤ, pos, negsuc, ◌+ℤ◌}
+use Rattle.std.specs.Prelude.{Some, None, ℕ, suc, ◌+◌, ◌-◌, ◌*◌, ◌/◌, ◌%◌, ◌≤◌, ◌<◌, ◌≡◌, refl, true, false, List, length, ℤ, pos, negsuc, ◌+ℤ◌}
 use Rattle.std.proofs.Common.{sym, ap, true≢false, arith, mul_comm, mod-lt, div-lt_iff_lt-mul}
 use Rattle.std.proofs.Math.IntN.{sub_ℕ}
 use Rattle.std.specs.Int.Signed.{lt_z}
 use Rattle.std.proofs.Math.Arith.{digits_lt}
 use borrow.Author.Tests.{lt-ltb, le-ltb, ltb-true}
 use Rattle.bits.specs.Basics.{signed_byte}
-use Rattle.vectors.specs.declared.svq1_motion_predictor.Neighbour.TheVariants.{Absent, Present}
 use Rattle.vectors.specs.VectorsLaws.{InRange, range_pos, range_neg}
 use Rattle.mv_cache.specs.Neighbours.{stored_at, neighbour_at}
 use Rattle.canvas.specs.Canvas.{largest_side, blocks_along}
@@ -17,26 +16,26 @@ use Rattle.mv_cache.specs.GridLaws.{in_owner}
 use Rattle.bits.specs.DifferenceLaws.{pos_is}
 
 module _ (cols rows : ℕ) (vx vy : List ℕ) where
-  pub absent_above : (row up : ℕ) (col : ℤ) → row < up → Absent ≡ neighbour_at cols rows vx vy (sub_ℕ row up) col
+  pub absent_above : (row up : ℕ) (col : ℤ) → row < up → None ≡ neighbour_at cols rows vx vy (sub_ℕ row up) col
   unfolding neighbour_at
   absent_above row up col h = simp (lt-ltb _ _ h)
 
-  pub absent_below : (row up : ℕ) (col : ℤ) → up ≤ row → 2 * rows ≤ row - up → Absent ≡ neighbour_at cols rows vx vy (sub_ℕ row up) col
+  pub absent_below : (row up : ℕ) (col : ℤ) → up ≤ row → 2 * rows ≤ row - up → None ≡ neighbour_at cols rows vx vy (sub_ℕ row up) col
   unfolding neighbour_at
   absent_below row up col h k = simp (le-ltb _ _ h, le-ltb _ _ k)
 
   pub absent_left : (row up col back : ℕ) → up ≤ row → row - up < 2 * rows → col < back
-      → Absent ≡ neighbour_at cols rows vx vy (sub_ℕ row up) (sub_ℕ col back)
+      → None ≡ neighbour_at cols rows vx vy (sub_ℕ row up) (sub_ℕ col back)
   unfolding neighbour_at
   absent_left row up col back h k l = simp (le-ltb _ _ h, lt-ltb _ _ k, lt-ltb _ _ l)
 
   pub absent_right : (row up col back : ℕ) → up ≤ row → row - up < 2 * rows → back ≤ col → 2 * cols ≤ col - back
-      → Absent ≡ neighbour_at cols rows vx vy (sub_ℕ row up) (sub_ℕ col back)
+      → None ≡ neighbour_at cols rows vx vy (sub_ℕ row up) (sub_ℕ col back)
   unfolding neighbour_at
   absent_right row up col back h k l m = simp (le-ltb _ _ h, lt-ltb _ _ k, le-ltb _ _ l, le-ltb _ _ m)
 
   pub present : (row up col back : ℕ) → up ≤ row → row - up < 2 * rows → back ≤ col → col - back < 2 * cols
-      → Present (stored_at cols vx vy (row - up) (col - back)) ≡ neighbour_at cols rows vx vy (sub_ℕ row up) (sub_ℕ col back)
+      → Some (stored_at cols vx vy (row - up) (col - back)) ≡ neighbour_at cols rows vx vy (sub_ℕ row up) (sub_ℕ col back)
   unfolding neighbour_at
   present row up col back h k l m = simp (le-ltb _ _ h, lt-ltb _ _ k, le-ltb _ _ l, lt-ltb _ _ m)
 

@@ -1,9 +1,7 @@
 -- The block vectors in memory, and the neighbours of a macroblock (document 01, `svq1_mv_cache.rs`).
-use Rattle.std.specs.Prelude.{ℕ, ◌+◌, ◌*◌, ◌/◌, ◌%◌, Bool, false, ◌&&◌, List, ltb, get_or, ℤ, pos, negsuc, ◌+ℤ◌}
+use Rattle.std.specs.Prelude.{Option, Some, None, ℕ, ◌+◌, ◌*◌, ◌/◌, ◌%◌, Bool, false, ◌&&◌, List, ltb, get_or, ℤ, pos, negsuc, ◌+ℤ◌}
 use Rattle.bits.specs.Basics.{pick, natural, signed_of}
 use Rattle.vectors.specs.declared.svq1_motion_predictor.Svq1Mv.{Svq1Mv}
-use Rattle.vectors.specs.declared.svq1_motion_predictor.Neighbour.{Neighbour}
-use Rattle.vectors.specs.declared.svq1_motion_predictor.Neighbour.TheVariants.{Absent, Present}
 use Rattle.vectors.specs.Vectors.{predicted}
 
 -- a place among n, or none
@@ -16,21 +14,21 @@ abbrev pub stored_at : ℕ → List ℕ → List ℕ → ℕ → ℕ → Svq1Mv
 stored_at cols vx vy row col = record { x = signed_of (get_or vx (row * (2 * cols) + col) 0); y = signed_of (get_or vy (row * (2 * cols) + col) 0) }
 
 -- the neighbour there; off the plane it is absent
-unfoldable pub neighbour_at : ℕ → ℕ → List ℕ → List ℕ → ℤ → ℤ → Neighbour
+unfoldable pub neighbour_at : ℕ → ℕ → List ℕ → List ℕ → ℤ → ℤ → Option Svq1Mv
 neighbour_at cols rows vx vy row col =
-    pick (within row (2 * rows) && within col (2 * cols)) (Present (stored_at cols vx vy (natural row) (natural col))) Absent
+    pick (within row (2 * rows) && within col (2 * cols)) (Some (stored_at cols vx vy (natural row) (natural col))) None
 
 -- the seven neighbours outside a macroblock that predictions use; its first 8×8 row and column are r and c
 pub record Near : Type 0 where
-  pub left : Neighbour
-  pub low_left : Neighbour
-  pub above : Neighbour
-  pub above_right : Neighbour
-  pub top : Neighbour
-  pub top_next : Neighbour
-  pub top_right : Neighbour
+  pub left : Option Svq1Mv
+  pub low_left : Option Svq1Mv
+  pub above : Option Svq1Mv
+  pub above_right : Option Svq1Mv
+  pub top : Option Svq1Mv
+  pub top_next : Option Svq1Mv
+  pub top_right : Option Svq1Mv
 
-abbrev pub near_at : (ℤ → ℤ → Neighbour) → ℤ → ℤ → Near
+abbrev pub near_at : (ℤ → ℤ → Option Svq1Mv) → ℤ → ℤ → Near
 near_at at r c = record {
   left = at r (c +ℤ negsuc 0);
   low_left = at (r +ℤ pos 1) (c +ℤ negsuc 0);
@@ -55,12 +53,12 @@ for_first n = predicted n.left n.top n.top_right
 
 -- of the second: (r, c), (r-1, c+1), (r-1, c+2)
 abbrev pub for_second : Near → Svq1Mv → Svq1Mv
-for_second n a = predicted (Present a) n.top_next n.top_right
+for_second n a = predicted (Some a) n.top_next n.top_right
 
 -- of the third: (r+1, c-1), (r, c), (r, c+1)
 abbrev pub for_third : Near → Svq1Mv → Svq1Mv → Svq1Mv
-for_third n a b = predicted n.low_left (Present a) (Present b)
+for_third n a b = predicted n.low_left (Some a) (Some b)
 
 -- of the fourth: (r+1, c), (r, c+1), (r, c)
 abbrev pub for_fourth : Svq1Mv → Svq1Mv → Svq1Mv → Svq1Mv
-for_fourth a b c = predicted (Present c) (Present b) (Present a)
+for_fourth a b c = predicted (Some c) (Some b) (Some a)

@@ -1,6 +1,6 @@
 -- Laws of the neighbours: they are vectors of earlier macroblocks, so slices that agree on those give the same neighbours; vectors in -32..31 stay so when they are stored and when a prediction is made of them.
 -- Assumes nothing.
-use Rattle.std.specs.Prelude.{◌≡◌, ℕ, zero, suc, ◌+◌, ◌-◌, ◌*◌, ◌/◌, ◌%◌, ◌≤◌, ◌<◌, List, [], ◌∷◌, map, Bool, true, ◌&&◌, ltb, get_or, ℤ, pos, negsuc, ◌+ℤ◌}
+use Rattle.std.specs.Prelude.{Option, Some, None, ◌≡◌, ℕ, zero, suc, ◌+◌, ◌-◌, ◌*◌, ◌/◌, ◌%◌, ◌≤◌, ◌<◌, List, [], ◌∷◌, map, Bool, true, ◌&&◌, ltb, get_or, ℤ, pos, negsuc, ◌+ℤ◌}
 use Rattle.std.proofs.Math.Path.{refl}
 use Rattle.std.proofs.Common.{sym, arith, div-add-mod', mul-le-mul, le_refl, suc-mul, true≢false}
 use Rattle.std.proofs.Math.Decide.{dec_lt}
@@ -11,8 +11,6 @@ use borrow.Author.Tests.{ltb-true, ltb-false}
 use Rattle.bits.specs.Basics.{pick, All, signed_of, signed_byte}
 use Rattle.bits.specs.SignedLaws.{byte_back}
 use Rattle.vectors.specs.declared.svq1_motion_predictor.Svq1Mv.{Svq1Mv}
-use Rattle.vectors.specs.declared.svq1_motion_predictor.Neighbour.{Neighbour}
-use Rattle.vectors.specs.declared.svq1_motion_predictor.Neighbour.TheVariants.{Absent, Present}
 use Rattle.vectors.specs.VectorsLaws.{InRange, range_pos, range_neg, Inside, InsideIf, predicted_in}
 use Rattle.mv_cache.specs.Neighbours.{stored_at, neighbour_at, Near, near_of, for_one, for_first, for_second, for_third, for_fourth}
 use Rattle.mv_cache.specs.Grid.{owner, place_in, put_part}
@@ -87,7 +85,7 @@ seven cols k P h = record {
 
 -- ---- slices that agree on the macroblocks before k give the same neighbours
 module _ (cols rows k : ℕ) (vx vy ux uy : List ℕ) (ex : Agree 2 cols k vx ux) (ey : Agree 2 cols k vy uy) where
-  by_test : (p q : Bool) (a c : Neighbour) → (q ≡ true → a ≡ c) → pick (p && q) a Absent ≡ pick (p && q) c Absent
+  by_test : (p q : Bool) (a c : Option Svq1Mv) → (q ≡ true → a ≡ c) → pick (p && q) a None ≡ pick (p && q) c None
   by_test true true a c h = h refl
   by_test true false a c h = refl
   by_test false q a c h = refl
@@ -134,20 +132,20 @@ pub for_first_in : (n : Near) → Around n → Inside (for_first n)
 for_first_in n h = predicted_in n.left n.top n.top_right h.left h.top h.top_right
 
 pub for_second_in : (n : Near) (a : Svq1Mv) → Around n → Inside a → Inside (for_second n a)
-for_second_in n a h i = predicted_in (Present a) n.top_next n.top_right i h.top_next h.top_right
+for_second_in n a h i = predicted_in (Some a) n.top_next n.top_right i h.top_next h.top_right
 
 pub for_third_in : (n : Near) (a b : Svq1Mv) → Around n → Inside a → Inside b → Inside (for_third n a b)
-for_third_in n a b h i j = predicted_in n.low_left (Present a) (Present b) h.low_left i j
+for_third_in n a b h i j = predicted_in n.low_left (Some a) (Some b) h.low_left i j
 
 pub for_fourth_in : (a b c : Svq1Mv) → Inside a → Inside b → Inside c → Inside (for_fourth a b c)
-for_fourth_in a b c i j l = predicted_in (Present c) (Present b) (Present a) l j i
+for_fourth_in a b c i j l = predicted_in (Some c) (Some b) (Some a) l j i
 
 -- a slice's vectors of the macroblocks before k are in -32..31
 abbrev pub Ranged : ℕ → ℕ → List ℕ → Type 0
 Ranged cols k vs = (j : ℕ) → owner 2 cols j < k → InRange (signed_of (get_or vs j 0))
 
 module _ (cols rows k : ℕ) (vx vy : List ℕ) (hx : Ranged cols k vx) (hy : Ranged cols k vy) where
-  by_in : (p q : Bool) (v : Svq1Mv) → (q ≡ true → Inside v) → InsideIf (pick (p && q) (Present v) Absent)
+  by_in : (p q : Bool) (v : Svq1Mv) → (q ≡ true → Inside v) → InsideIf (pick (p && q) (Some v) None)
   by_in true true v h = h refl
   by_in true false v h = tt
   by_in false q v h = tt

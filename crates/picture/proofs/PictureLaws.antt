@@ -3,6 +3,7 @@
 use Rattle.std.specs.Prelude.{◌≡◌, List, [], ◌∷◌, ℕ, ◌+◌, ◌-◌}
 use Rattle.std.proofs.Math.Path.{sym}
 use Rattle.std.proofs.Common.{ap, ◌∙◌, add-zero}
+use Rattle.bits.specs.Refusals.{number_told}
 use Rattle.bits.specs.Basics.{or_else}
 use Rattle.bits.specs.Bits.{bits_of}
 use Rattle.plane.specs.Run.{End}
@@ -17,10 +18,10 @@ use Rattle.picture.specs.PictureNeeds.{end_by, PlaneThrough, PictureThrough}
 -- ---- three planes
 module _ (s : Shared) (a b c : PlaneIn) (out : List ℕ) (start allowance : ℕ) {r0 r1 r2 : WriteEnd} {out0 out1 out2 : List ℕ} {x0 x1 x2 : Results} {two refused : ℕ}
     (p0 : PlaneThrough s a (macroblocks (b ∷ c ∷ [])) (handed_by (bits_of out) start allowance 0) r0 out0 x0)
-    (p1 : PlaneThrough s b (macroblocks (c ∷ [])) (handed_by (bits_of out0) r0.next (allowance - r0.bits) r0.refused) r1 out1 x1)
-    (so : two ≡ or_else r0.refused r1.refused)
+    (p1 : PlaneThrough s b (macroblocks (c ∷ [])) (handed_by (bits_of out0) r0.next (allowance - r0.bits) (number_told r0.refused)) r1 out1 x1)
+    (so : two ≡ or_else (number_told r0.refused) (number_told r1.refused))
     (p2 : PlaneThrough s c 0 (handed_by (bits_of out1) r1.next (allowance - r0.bits - r1.bits) two) r2 out2 x2)
-    (ends : refused ≡ or_else two r2.refused) where
+    (ends : refused ≡ or_else two (number_told r2.refused)) where
   abbrev ps : List PlaneIn
   ps = a ∷ b ∷ c ∷ []
 
@@ -33,7 +34,7 @@ module _ (s : Shared) (a b c : PlaneIn) (out : List ℕ) (start allowance : ℕ)
   abbrev h2 : Handed
   h2 = hand_on h1 (plane_end s b (macroblocks (c ∷ [])) h1)
 
-  one : h1 ≡ handed_by (bits_of out0) r0.next (allowance - r0.bits) r0.refused
+  one : h1 ≡ handed_by (bits_of out0) r0.next (allowance - r0.bits) (number_told r0.refused)
   one = ap (hand_on h0) p0.ended
 
   end1 : plane_end s b (macroblocks (c ∷ [])) h1 ≡ end_by r1 out1 x1.slices

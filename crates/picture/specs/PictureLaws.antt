@@ -1,6 +1,6 @@
 -- Laws of a picture: what a plane hands on and what the next one asks. That three planes make a picture is in proofs/PictureLaws.
 -- Assumes nothing.
-use Rattle.std.specs.Prelude.{◌≡◌, Bool, List, ◌∷◌, ℕ, ◌+◌, ◌-◌, ◌*◌, ◌%◌, ◌≤◌, length}
+use Rattle.std.specs.Prelude.{◌≡◌, Bool, List, ◌∷◌, ℕ, ◌+◌, ◌-◌, ◌*◌, ◌%◌, ◌≤◌, length, None}
 use Rattle.std.proofs.Math.Path.{refl, sym}
 use Rattle.std.proofs.Common.{◌∙◌, arith, add-zero, mul-le-mul_left}
 use Rattle.std.proofs.Math.Bool.{true, false}
@@ -118,7 +118,7 @@ module _ (s : Shared) (p : PlaneIn) (behind : ℕ) (out : List ℕ) (start remai
   abbrev H : Handed
   H = handed_by (bits_of out) start remaining before
 
-  pub through_unreached : (before ≡ 0 → ⊥) → PlaneThrough s p behind H (record { refused = 0; done = 0; next = start; bits = 0; error = 0 }) out p.results
+  pub through_unreached : (before ≡ 0 → ⊥) → PlaneThrough s p behind H (record { refused = None; done = 0; next = start; bits = 0; error = 0 }) out p.results
   unfolding plane_end plane_left
   through_unreached n =
       let q = ne_eqb before 0 n in

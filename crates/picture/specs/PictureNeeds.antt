@@ -1,12 +1,13 @@
 -- What the functions behind a picture's call ask and answer (document 02, §5).
-use Rattle.std.specs.Prelude.{ℕ, ◌*◌, ◌≤◌, List, [], ◌∷◌, ◌≡◌, eqb, length}
+use Rattle.std.specs.Prelude.{ℕ, ◌*◌, ◌≤◌, List, [], ◌∷◌, ◌≡◌, Option, Some, eqb, length}
+use Rattle.bits.specs.Refusals.{number_told}
+use Rattle.bits.specs.declared.refusal.Refusal.{Refusal}
 use Rattle.bits.specs.Basics.{pick, or_else, first_of}
 use Rattle.bits.specs.Bits.{bits_of}
 use Rattle.book.specs.Book.{book_refusal}
 use Rattle.canvas.specs.Canvas.{largest_side}
 use Rattle.canvas.specs.declared.svq1_plane.Svq1PlaneCanvas.{Svq1PlaneCanvas}
 use Rattle.macroblock.specs.Slices.{Slices}
-use Rattle.macroblock_enc.specs.declared.svq1_enc_inter.inner.limit.BitLimit.TheVariants.{Within}
 use Rattle.macroblock_enc.specs.LimitForms.{Spends}
 use Rattle.plane.specs.Run.{End}
 use Rattle.plane.specs.Plane.{Writing}
@@ -21,7 +22,7 @@ use Rattle.picture.specs.Calls.{PictureAnswer, written_picture}
 
 -- the answer of the code
 abbrev pub picture_end_of : PictureEnd → PictureAnswer
-picture_end_of r = record { refusal = r.refused; done = r.done; planes = write_end_of r.first ∷ write_end_of r.second ∷ write_end_of r.third ∷ [] }
+picture_end_of r = record { refusal = number_told r.refused; done = r.done; planes = write_end_of r.first ∷ write_end_of r.second ∷ write_end_of r.third ∷ [] }
 
 -- ---- refusals
 -- a check behind others is asked only where they pass
@@ -30,14 +31,14 @@ behind_others before n = pick (eqb before 0) n 0
 
 -- the checks of three planes and of the allowance, in turn
 pub record RefusalsTold (a b c d : ℕ) (r : PictureRefusals) : Type 0 where
-  pub first : r.first ≡ a
-  pub second : r.second ≡ behind_others a b
-  pub third : r.third ≡ behind_others (or_else a b) c
-  pub picture : r.picture ≡ first_of (a ∷ b ∷ c ∷ d ∷ [])
+  pub first : number_told r.first ≡ a
+  pub second : number_told r.second ≡ behind_others a b
+  pub third : number_told r.third ≡ behind_others (or_else a b) c
+  pub picture : number_told r.picture ≡ first_of (a ∷ b ∷ c ∷ d ∷ [])
 
--- the answer for a plane of a refused picture: a number or 0, and nothing done
-abbrev pub nothing_done : ℕ → WriteEnd
-nothing_done n = record { refused = n; done = 0; next = 0; bits = 0; error = 0 }
+-- the answer for a plane of a refused picture: a refusal, if it meets one, and nothing done
+abbrev pub nothing_done : Option Refusal → WriteEnd
+nothing_done refused = record { refused = refused; done = 0; next = 0; bits = 0; error = 0 }
 
 -- a size that passes 1
 pub record SmallSides (c : Svq1PlaneCanvas) : Type 0 where
@@ -63,11 +64,11 @@ pub record Intact (s : Shared) (ps : List PlaneIn) (bytes : ℕ) (h : Handed) : 
 pub record NextReady (s : Shared) (p : PlaneIn) (behind remaining bytes start : ℕ) : Type 0 where
   pub plane : PlaneAccepted (plane_given s p) p.results.slices bytes start
   pub samples : length p.source ≡ p.canvas.width * p.canvas.height
-  pub spends : Spends (plane_given s p) (Within remaining behind) 0 0
+  pub spends : Spends (plane_given s p) (Some (record { allowance = remaining; behind = behind })) 0 0
 
 -- the end that an answer, an output and slices stand for
 abbrev pub end_by : WriteEnd → List ℕ → Slices → End Writing
-end_by r out v = record { refusal = r.refused; done = r.done; state = record { out = bits_of out; next = r.next; slices = v; bits = r.bits; error = r.error } }
+end_by r out v = record { refusal = number_told r.refused; done = r.done; state = record { out = bits_of out; next = r.next; slices = v; bits = r.bits; error = r.error } }
 
 -- a plane has ended, reached or not, with the answer r, and has left out' and results'
 pub record PlaneThrough (s : Shared) (p : PlaneIn) (behind : ℕ) (h : Handed) (r : WriteEnd) (out' : List ℕ) (results' : Results) : Type 0 where

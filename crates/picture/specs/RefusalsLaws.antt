@@ -1,7 +1,9 @@
 -- Laws of a picture's refusals: what planes that pass have, the code's tests in turn, and what a call answers. Assumes nothing.
-use Rattle.std.specs.Prelude.{ℕ, ◌+◌, ◌*◌, ◌≤◌, ◌<◌, ◌≡◌, refl, Bool, true, false, List, [], ◌∷◌, ◌++◌, map, eqb, leb, length}
+use Rattle.std.specs.Prelude.{ℕ, ◌+◌, ◌*◌, ◌≤◌, ◌<◌, ◌≡◌, refl, Bool, true, false, List, [], ◌∷◌, ◌++◌, map, Option, eqb, leb, length}
 use Rattle.std.proofs.Common.{sym, ap, ◌∙◌, add-zero, mul-le-mul, arith}
 use borrow.Author.Tests.{eq-eqb, ne_eqb, leb-true, le-leb, lt-leb}
+use Rattle.bits.specs.Refusals.{number_told}
+use Rattle.bits.specs.declared.refusal.Refusal.{Refusal}
 use Rattle.bits.specs.Basics.{All, or_else, first_of}
 use Rattle.bits.specs.BasicsLaws.{or_none, unless-none, first_last, first-append, two_links, first-none}
 use Rattle.bits.specs.Bits.{bits_of}
@@ -86,15 +88,17 @@ module _ (p q r : PlaneLengths) (x y z book codebook : List ℕ) (bytes start : 
   abbrev d : ℕ → ℕ
   d allowance = allowance_refusal book (canvas_blocks p.canvas + (canvas_blocks q.canvas + canvas_blocks r.canvas)) allowance
 
-  module _ {first second two third planes : ℕ} (e : first ≡ a) (f : second ≡ behind_others first b) (g : two ≡ or_else first second) (h : third ≡ behind_others two c) (k : planes ≡ or_else two third) where
-    two_are : two ≡ first_of (a ∷ b ∷ [])
-    two_are = one_more (a ∷ []) b (first_last first a e) (g ∙ ap (or_else first) f)
+  module _ (first second two third planes : Option Refusal) (e : number_told first ≡ a) (f : number_told second ≡ behind_others (number_told first) b)
+      (g : number_told two ≡ or_else (number_told first) (number_told second)) (h : number_told third ≡ behind_others (number_told two) c)
+      (k : number_told planes ≡ or_else (number_told two) (number_told third)) where
+    two_are : number_told two ≡ first_of (a ∷ b ∷ [])
+    two_are = one_more (a ∷ []) b (first_last (number_told first) a e) (g ∙ ap (or_else (number_told first)) f)
 
-    planes_are : planes ≡ first_of (a ∷ b ∷ c ∷ [])
-    planes_are = one_more (a ∷ b ∷ []) c two_are (k ∙ ap (or_else two) h)
+    planes_are : number_told planes ≡ first_of (a ∷ b ∷ c ∷ [])
+    planes_are = one_more (a ∷ b ∷ []) c two_are (k ∙ ap (or_else (number_told two)) h)
 
     -- where all pass, 31 can be judged
-    pub judged : planes ≡ 0 → AllowanceReady book p.canvas q.canvas r.canvas
+    pub judged : number_told planes ≡ 0 → AllowanceReady book p.canvas q.canvas r.canvas
     judged none =
         let each = first-none (a ∷ b ∷ c ∷ []) (sym planes_are ∙ none) in
         let one = checks_pass p x book codebook bytes start each.0 in
@@ -106,13 +110,15 @@ module _ (p q r : PlaneLengths) (x y z book codebook : List ℕ) (bytes start : 
         }
 
     -- and then 31
-    pub told : (allowance : ℕ) {short last : ℕ} → short ≡ behind_others planes (d allowance) → last ≡ or_else planes short → RefusalsTold a b c (d allowance) (record { first = first; second = second; third = third; picture = last })
-    told allowance i l =
+    pub told : (allowance : ℕ) (short last : Option Refusal) → number_told short ≡ behind_others (number_told planes) (d allowance)
+        → number_told last ≡ or_else (number_told planes) (number_told short)
+        → RefusalsTold a b c (d allowance) (record { first = first; second = second; third = third; picture = last })
+    told allowance short last i l =
         record {
           first = e;
           second = f ∙ ap (λ (n : ℕ). behind_others n b) e;
           third = h ∙ ap (λ (n : ℕ). behind_others n c) (two_are ∙ two_links a b);
-          picture = one_more (a ∷ b ∷ c ∷ []) (d allowance) planes_are (l ∙ ap (or_else planes) i);
+          picture = one_more (a ∷ b ∷ c ∷ []) (d allowance) planes_are (l ∙ ap (or_else (number_told planes)) i);
         }
 
 -- ---- 31
@@ -162,15 +168,15 @@ module _ (s : Shared) (a b c : PlaneIn) (allowance : ℕ) where
   abbrev three : List PlaneIn
   three = a ∷ b ∷ c ∷ []
 
-  pub refusal_of_three : (bytes start : ℕ) {r : PictureRefusals} → ThreeTold s a b c allowance bytes start r → r.picture ≡ picture_refusal s three allowance bytes start
+  pub refusal_of_three : (bytes start : ℕ) {r : PictureRefusals} → ThreeTold s a b c allowance bytes start r → number_told r.picture ≡ picture_refusal s three allowance bytes start
   unfolding picture_refusal macroblocks
   refusal_of_three bytes start t = rw (add-zero (canvas_blocks c.canvas)) t.picture
 
-  module _ (out : List ℕ) (start : ℕ) {r : PictureRefusals} (t : ThreeTold s a b c allowance (length out) start r) (h : r.picture ≡ 0 → ⊥) where
+  module _ (out : List ℕ) (start : ℕ) {r : PictureRefusals} (t : ThreeTold s a b c allowance (length out) start r) (h : number_told r.picture ≡ 0 → ⊥) where
     abbrev answer : PictureAnswer
-    answer = record { refusal = r.picture; done = 0; planes = refused_answer r.first ∷ refused_answer r.second ∷ refused_answer r.third ∷ [] }
+    answer = record { refusal = number_told r.picture; done = 0; planes = refused_answer (number_told r.first) ∷ refused_answer (number_told r.second) ∷ refused_answer (number_told r.third) ∷ [] }
 
-    same : r.picture ≡ picture_refusal s three allowance (length out) start
+    same : number_told r.picture ≡ picture_refusal s three allowance (length out) start
     same = refusal_of_three (length out) start t
 
     refused : eqb (picture_refusal s three allowance (length out) start) 0 ≡ false

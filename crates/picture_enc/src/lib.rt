@@ -6,6 +6,7 @@ ghost use Rattle.picture.specs.Picture.{shared_by, results_by, plane_by};
 ghost use Rattle.picture.specs.Calls.{PictureWritten};
 ghost use Rattle.picture.specs.PictureNeeds.{picture_end_of, nothing_done};
 
+use bits::refusal::Refusal;
 use canvas::svq1_plane::Svq1PlaneCanvas;
 use macroblock::svq1_enc_inter::Settings;
 use picture::PictureEnd;
@@ -14,8 +15,8 @@ use picture_planes::inner::write_planes;
 use plane::svq1_plane::inner::SliceLengths;
 use plane_enc::svq1_enc_inter::WriteEnd;
 
-// A plane of which nothing is done, with the number of a refusal, or 0.
-fn nothing_done(refused: u8) -> WriteEnd
+// A plane of which nothing is done, with the refusal that it meets, if any.
+fn nothing_done(refused: Option<Refusal>) -> WriteEnd
     ensures { result ≡ nothing_done refused }
 {
     WriteEnd {
@@ -101,7 +102,7 @@ pub fn encode_picture(
         start,
         allowance,
     );
-    if told.picture != 0 {
+    if told.picture.is_some() {
         return PictureEnd {
             refused: told.picture,
             done: 0,

@@ -4,6 +4,7 @@ use Rattle.std.specs.Prelude.{◌≡◌, ℕ, ◌+◌, ◌-◌, ◌*◌, ◌≤�
 use Rattle.std.proofs.Math.Path.{sym}
 use Rattle.std.proofs.Common.{ap, ◌∙◌, arith, add-zero}
 use mathlib.Core.List.{List, [], ◌∷◌}
+use Rattle.bits.specs.Refusals.{number_told}
 use Rattle.bits.specs.Basics.{or_else}
 use Rattle.bits.specs.Bits.{bits_of}
 use Rattle.bits.specs.BitsLaws.{length_bits_of}
@@ -75,7 +76,7 @@ module _ (s : Shared) (a b c : PlaneIn) (out : List ℕ) (start allowance : ℕ)
       through0 = rw behind_first at t0
 
       abbrev second : Handed
-      second = handed_by (bits_of out0) r0.next (allowance - r0.bits) r0.refused
+      second = handed_by (bits_of out0) r0.next (allowance - r0.bits) (number_told r0.refused)
 
       pub spent_first : r0.bits ≤ allowance
       spent_first = omega (arith, spent_most s a (b ∷ c ∷ []) bytes first intact0, ap (λ (x : End Writing). x.state.bits) through0.ended)
@@ -94,7 +95,7 @@ module _ (s : Shared) (a b c : PlaneIn) (out : List ℕ) (start allowance : ℕ)
         pub spent_second : r1.bits ≤ allowance - r0.bits
         spent_second = omega (arith, spent_most s b (c ∷ []) bytes second intact1, ap (λ (x : End Writing). x.state.bits) through1.ended)
 
-        module _ {two : ℕ} (so : two ≡ or_else r0.refused r1.refused) where
+        module _ {two : ℕ} (so : two ≡ or_else (number_told r0.refused) (number_told r1.refused)) where
           abbrev third : Handed
           third = handed_by (bits_of out1) r1.next (allowance - r0.bits - r1.bits) two
 
@@ -113,6 +114,6 @@ module _ (s : Shared) (a b c : PlaneIn) (out : List ℕ) (start allowance : ℕ)
                 let d2 = done_few s c 0 third small2 t2 in
                 (omega arith, omega arith)
 
-            pub planes_through : {refused : ℕ} → refused ≡ or_else two r2.refused
+            pub planes_through : {refused : ℕ} → refused ≡ or_else two (number_told r2.refused)
                 → PictureThrough s (a ∷ b ∷ c ∷ []) first (record { refusal = refused; done = r0.done + (r1.done + r2.done); planes = write_end_of r0 ∷ write_end_of r1 ∷ write_end_of r2 ∷ [] }) out2 (x0 ∷ x1 ∷ x2 ∷ [])
             planes_through ends = three_through s a b c out start allowance through0 through1 so t2 ends

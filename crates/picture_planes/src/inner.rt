@@ -1,10 +1,12 @@
 // A picture that no refusal meets.
 ghost use Rattle.std.specs.Prelude.{◌≡◌, [], ◌∷◌, length};
 ghost use Rattle.bits.specs.Bits.{bits_of};
+ghost use Rattle.bits.specs.Refusals.{number_told};
 ghost use Rattle.picture.specs.Picture.{shared_by, results_by, plane_by, handed_by};
 ghost use Rattle.picture.specs.Refusals.{picture_refusal};
 ghost use Rattle.picture.specs.PictureNeeds.{picture_end_of, NextReady, PlaneThrough, PictureThrough};
 
+use bits::refusal::Refusal;
 use canvas::svq1_plane::Svq1PlaneCanvas;
 use macroblock::svq1_enc_inter::Settings;
 use macroblock_enc::svq1_enc_inter::inner::limit::BitLimit;
@@ -15,7 +17,7 @@ use plane_enc::svq1_enc_inter::inner::write_accepted;
 
 // A plane behind those before it, inside what they left of the allowance, with so many macroblocks behind it; where one of them ended early, nothing is done.
 fn write_next(
-    before: u8,
+    before: Option<Refusal>,
     canvas: Svq1PlaneCanvas,
     source: &[u8],
     reference: &[u8],
@@ -32,11 +34,11 @@ fn write_next(
     stated: &mut [u32],
 ) -> WriteEnd
     requires { NextReady (shared_by book.now codebook.now settings) (plane_by canvas source.now reference.now (results_by recon.old vx.old vy.old stated.old)) behind remaining (length out.old) start }
-    ensures { PlaneThrough (shared_by book.now codebook.now settings) (plane_by canvas source.now reference.now (results_by recon.old vx.old vy.old stated.old)) behind (handed_by (bits_of out.old) start remaining before) result out.new (results_by recon.new vx.new vy.new stated.new) }
+    ensures { PlaneThrough (shared_by book.now codebook.now settings) (plane_by canvas source.now reference.now (results_by recon.old vx.old vy.old stated.old)) behind (handed_by (bits_of out.old) start remaining (number_told before)) result out.new (results_by recon.new vx.new vy.new stated.new) }
 {
-    if before != 0 {
+    if before.is_some() {
         return WriteEnd {
-            refused: 0,
+            refused: None,
             done: 0,
             next: start,
             bits: 0,
@@ -50,10 +52,10 @@ fn write_next(
         book,
         codebook,
         settings,
-        BitLimit::Within {
+        Some(BitLimit {
             allowance: remaining,
             behind,
-        },
+        }),
         out,
         start,
         recon,
@@ -99,8 +101,8 @@ pub fn write_planes(
     let last = blocks_of(canvas2);
     let behind = blocks_of(canvas1) + last;
     let first = write_next(
-        0, canvas0, source0, reference0, book, codebook, settings, allowance, behind, out, start,
-        recon0, vx0, vy0, stated0,
+        None, canvas0, source0, reference0, book, codebook, settings, allowance, behind, out,
+        start, recon0, vx0, vy0, stated0,
     );
     let remaining = allowance - first.bits;
     let second = write_next(

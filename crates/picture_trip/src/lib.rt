@@ -2,6 +2,7 @@
 #![tactic(auto)]
 
 ghost use Rattle.std.specs.Prelude.{[], ◌∷◌};
+ghost use Rattle.bits.specs.Refusals.{number_told};
 ghost use Rattle.macroblock.specs.MacroblockNeeds.{given_by};
 ghost use Rattle.macroblock.specs.Slices.{slices_by};
 ghost use Rattle.plane.specs.Calls.{PlaneRead};
@@ -112,7 +113,7 @@ pub fn round_trip_picture(
     backx2: &mut [u8],
     backy2: &mut [u8],
 ) -> PictureTripEnd
-    ensures { PictureTrip (shared_by book.now codebook.now settings) (record { plane = plane_by canvas0 source0.now reference0.now (results_by recon0.old vx0.old vy0.old stated0.old); wrote = writer.write_end_of result.written.first; left = results_by recon0.new vx0.new vy0.new stated0.new; back = slices_by back0.old backx0.old backy0.old; read = reader.read_end_of result.read.first; left_back = slices_by back0.new backx0.new backy0.new } ∷ record { plane = plane_by canvas1 source1.now reference1.now (results_by recon1.old vx1.old vy1.old stated1.old); wrote = writer.write_end_of result.written.second; left = results_by recon1.new vx1.new vy1.new stated1.new; back = slices_by back1.old backx1.old backy1.old; read = reader.read_end_of result.read.second; left_back = slices_by back1.new backx1.new backy1.new } ∷ record { plane = plane_by canvas2 source2.now reference2.now (results_by recon2.old vx2.old vy2.old stated2.old); wrote = writer.write_end_of result.written.third; left = results_by recon2.new vx2.new vy2.new stated2.new; back = slices_by back2.old backx2.old backy2.old; read = reader.read_end_of result.read.third; left_back = slices_by back2.new backx2.new backy2.new } ∷ []) allowance out.old start result.written.refused result.written.done out.new }
+    ensures { PictureTrip (shared_by book.now codebook.now settings) (record { plane = plane_by canvas0 source0.now reference0.now (results_by recon0.old vx0.old vy0.old stated0.old); wrote = writer.write_end_of result.written.first; left = results_by recon0.new vx0.new vy0.new stated0.new; back = slices_by back0.old backx0.old backy0.old; read = reader.read_end_of result.read.first; left_back = slices_by back0.new backx0.new backy0.new } ∷ record { plane = plane_by canvas1 source1.now reference1.now (results_by recon1.old vx1.old vy1.old stated1.old); wrote = writer.write_end_of result.written.second; left = results_by recon1.new vx1.new vy1.new stated1.new; back = slices_by back1.old backx1.old backy1.old; read = reader.read_end_of result.read.second; left_back = slices_by back1.new backx1.new backy1.new } ∷ record { plane = plane_by canvas2 source2.now reference2.now (results_by recon2.old vx2.old vy2.old stated2.old); wrote = writer.write_end_of result.written.third; left = results_by recon2.new vx2.new vy2.new stated2.new; back = slices_by back2.old backx2.old backy2.old; read = reader.read_end_of result.read.third; left_back = slices_by back2.new backx2.new backy2.new } ∷ []) allowance out.old start (number_told result.written.refused) result.written.done out.new }
 {
     let written = encode_picture(
         canvas0, source0, reference0, canvas1, source1, reference1, canvas2, source2, reference2,

@@ -1,6 +1,7 @@
 -- A plan as a call: its refusals and its answer (document 01, `svq1_enc_tree.rs`, refusals 5 to 8).
 use Rattle.std.specs.Prelude.{ℕ, List}
-use Rattle.bits.specs.Calls.{Answer, done, unless_refused}
+use Rattle.bits.specs.Refusals.{Answer, done}
+use Rattle.bits.specs.Calls.{unless_refused}
 use Rattle.book.specs.Book.{tables_of}
 use Rattle.codebook.specs.Codebook.{vector_at}
 use Rattle.leaf.specs.LeafCall.{BlockIn, terms_of, block_refusal}

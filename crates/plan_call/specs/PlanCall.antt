@@ -1,14 +1,14 @@
 -- A plan as a call, in memory: what its struct answers, and what its parts ask and leave (document 01, refusal 8).
-use Rattle.std.specs.Prelude.{◌≡◌, List, ℕ, ◌-◌, ◌≤◌, eqb, length, take, drop, replicate}
-use Rattle.bits.specs.Basics.{pick, All}
-use Rattle.bits.specs.Calls.{Answer, done, refused}
+use Rattle.std.specs.Prelude.{◌≡◌, List, ℕ, ◌-◌, ◌≤◌, length, take, drop, replicate, Result, Ok, Err, IfOk}
+use Rattle.bits.specs.Basics.{All}
+use Rattle.bits.specs.Refusals.{Answer, done, refused, number_of}
+use Rattle.bits.specs.declared.refusal.Refusal.{Refusal}
 use Rattle.book.specs.Level.{area}
 use Rattle.codebook.specs.Codebook.{vector_at}
 use Rattle.leaf_call.specs.LeafAnswer.{Searchable}
 use Rattle.leaf.specs.LeafCall.{BlockIn}
 use Rattle.leaf.specs.declared.svq1_enc_leaf.LeafTerms.{LeafTerms}
-use Rattle.tree.specs.Blocks.{block_count}
-use Rattle.tree.specs.NodeForms.{tree_of, off_block, CleanBlock}
+use Rattle.tree.specs.NodeForms.{tree_of, CleanBlock}
 use Rattle.plan.specs.PlanClaim.{PlanClaim}
 use Rattle.plan.specs.PlannedForms.{weight}
 use Rattle.plan.specs.PlanNeeds.{planning_in, PlanFound}
@@ -31,19 +31,14 @@ pub record PlanShown (book codebook : List ℕ) (d : ℕ) (terms : LeafTerms) (t
   pub behind : drop (area d) left ≡ replicate (256 - area d) 0
 
 -- the answer for a block of n samples, by the struct's fields
-abbrev pub plan_answer_of : ℕ → PlanAnswer → Answer PlanMade
-plan_answer_of n r =
-    pick (eqb r.refused 0) (done (record { tree = tree_of r.blocks; weight = weight r.bits r.error; shown = take n r.samples })) (refused r.refused)
+abbrev pub plan_answer_of : ℕ → Result PlanAnswer Refusal → Answer PlanMade
+plan_answer_of n (Ok a) = done (record { tree = tree_of a.blocks; weight = weight a.bits a.error; shown = take n a.samples })
+plan_answer_of n (Err r) = refused (number_of r)
 
--- what a refused call answers: its number, and nothing else
-abbrev pub refused_plan : ℕ → PlanAnswer
-refused_plan n = record { refused = n; bits = 0; error = 0; blocks = replicate block_count off_block; samples = replicate 256 0 }
-
--- a call's answer: by the definition, with zeros behind the block's samples and every block in its one form; a refused one is its number and nothing else; of an
--- accepted one document 01's sentence on plans holds
-pub record PlanAnswered (b : BlockIn) (lambda : ℕ) (r : PlanAnswer) : Type 0 where
+-- a call's answer: by the definition, with zeros behind the block's samples and every block in its one form; of an accepted one document 01's sentence on plans
+-- holds
+pub record PlanAnswered (b : BlockIn) (lambda : ℕ) (r : Result PlanAnswer Refusal) : Type 0 where
   pub answer : plan_answer_of (length b.target) r ≡ plan_answer b lambda
-  pub behind : drop (length b.target) r.samples ≡ replicate (256 - length b.target) 0
-  pub bare : (r.refused ≡ 0 → ⊥) → r ≡ refused_plan r.refused
-  pub clean : All CleanBlock r.blocks
-  pub claimed : r.refused ≡ 0 → PlanClaim b lambda
+  pub behind : IfOk r (λ a. drop (length b.target) a.samples ≡ replicate (256 - length b.target) 0)
+  pub clean : IfOk r (λ a. All CleanBlock a.blocks)
+  pub claimed : IfOk r (λ a. PlanClaim b lambda)

@@ -1,8 +1,11 @@
 -- Laws of a plan as a call.
 -- Assumes nothing.
-use Rattle.std.specs.Prelude.{◌≡◌, refl, List, ℕ, zero, suc, ◌≤◌, length, take, drop, replicate}
-use Rattle.std.proofs.Common.{ap, ◌∙◌, arith, eq-eqb, ne_eqb}
+use Rattle.std.specs.Prelude.{◌≡◌, refl, List, ℕ, zero, suc, ◌≤◌, length, take, drop, replicate, Ok, Err}
+use Rattle.std.proofs.Common.{ap, ◌∙◌, arith, eq-eqb}
 use Rattle.bits.specs.Basics.{Bytes}
+use Rattle.bits.specs.Refusals.{number_of, done}
+use Rattle.bits.specs.CallsLaws.{answer_met}
+use Rattle.bits.specs.declared.refusal.Refusal.{Refusal}
 use Rattle.book.specs.Level.{area}
 use Rattle.codebook.specs.Codebook.{vector_at}
 use Rattle.leaf.specs.LeafCall.{BlockIn, terms_of, block_refusal}
@@ -10,7 +13,6 @@ use Rattle.leaf.specs.declared.svq1_enc_leaf.LeafTerms.{LeafTerms}
 use Rattle.leaf_call.specs.LeafAnswerLaws.{block_passes, drop_replicate}
 use Rattle.codebook.specs.CodebookForms.{raised_codebook}
 use Rattle.codebook.specs.CodebookFormsLaws.{raised-length}
-use Rattle.tree.specs.Blocks.{block_count}
 use Rattle.tree.specs.GeometryLaws.{area_most}
 use Rattle.tree.specs.Plan.{Planning}
 use Rattle.plan.specs.PlanNeeds.{PlanReady, planning_in, PlanFound}
@@ -18,12 +20,11 @@ use Rattle.plan.specs.PlanNeedsLaws.{plan_ready}
 use Rattle.tree_samples.specs.ShownLaws.{rebuilt-shown}
 use Rattle.tree.specs.TreeBits.{tree_shown}
 use Rattle.plan.specs.PlanAnswer.{plan_made, plan_answer}
-use Rattle.tree.specs.NodeForms.{tree_of, off_block, CleanBlock}
+use Rattle.tree.specs.NodeForms.{tree_of}
 use Rattle.tree.specs.WalkNeeds.{SoundTree}
 use Rattle.plan.specs.FrontNeeds.{FrontReady, FrontShown}
-use Rattle.plan_call.specs.PlanCall.{Plannable, PlanShown, refused_plan, PlanAnswered}
+use Rattle.plan_call.specs.PlanCall.{Plannable, PlanShown, PlanAnswered}
 use Rattle.plan.specs.declared.svq1_enc_tree.MbPlan.{MbPlan}
-use Rattle.bits.specs.ListLaws.{all_repeat}
 use Rattle.plan.specs.PlanClaimLaws.{plan_claimed}
 use Rattle.plan.specs.SoundLaws.{plan_sound}
 
@@ -77,20 +78,13 @@ module _ (book codebook raised : List ℕ) (d : ℕ) (terms : LeafTerms) (target
         }
 
 -- ---- the answers
-pub plan_refused : (b : BlockIn) (lambda n : ℕ) → n ≡ block_refusal b → (n ≡ 0 → ⊥) → PlanAnswered b lambda (refused_plan n)
+pub plan_refused : (b : BlockIn) (lambda : ℕ) (r : Refusal) → number_of r ≡ block_refusal b → PlanAnswered b lambda (Err r)
 unfolding plan_answer
-plan_refused b lambda n e h =
-    record {
-      answer = rw (← e, ne_eqb n 0 h);
-      behind = drop_replicate (length b.target) 256;
-      bare = λ z. refl;
-      clean = all_repeat CleanBlock block_count off_block refl;
-      claimed = λ z. absurd (h z);
-    }
+plan_refused b lambda r e = record { answer = answer_met r (block_refusal b) (done (plan_made b lambda)) e; behind = tt; clean = tt; claimed = tt }
 
 pub plan_answered : (b : BlockIn) (lambda : ℕ) → Bytes b.target → Bytes b.predictor → block_refusal b ≡ 0 → (terms : LeafTerms) → terms ≡ terms_of b → (p : MbPlan) (samples : List ℕ)
     → PlanShown b.book b.codebook b.level terms b.target b.predictor lambda p samples
-    → PlanAnswered b lambda (record { refused = 0; bits = p.bits; error = p.error; blocks = p.blocks; samples = samples })
+    → PlanAnswered b lambda (Ok (record { bits = p.bits; error = p.error; blocks = p.blocks; samples = samples }))
 unfolding plan_answer plan_made
 plan_answered b lambda bt bp e terms et p samples s =
     let q = block_passes b e in
@@ -98,7 +92,6 @@ plan_answered b lambda bt bp e terms et p samples s =
     record {
       answer = rw (q.target, eq-eqb (block_refusal b) 0 e, u.found.tree, u.found.weighs, u.front);
       behind = rw q.target u.behind;
-      bare = λ z. absurd (z refl);
       clean = s.found.clean;
-      claimed = λ z. plan_claimed b lambda bt bp e;
+      claimed = plan_claimed b lambda bt bp e;
     }

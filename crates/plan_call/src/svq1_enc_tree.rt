@@ -1,40 +1,26 @@
 // The plan as a call.
-ghost use Rattle.std.specs.Prelude.{◌≡◌};
+ghost use Rattle.book.specs.Level.{level_number};
 ghost use Rattle.leaf.specs.LeafCall.{block_by};
-ghost use Rattle.plan_call.specs.PlanCall.{refused_plan, Plannable, PlanShown, PlanAnswered};
+ghost use Rattle.plan_call.specs.PlanCall.{Plannable, PlanShown, PlanAnswered};
 
-use book::inner::CODEBOOK_BYTES;
+use bits::refusal::Refusal;
+use book::inner::{CODEBOOK_BYTES, level_at};
+use book::svq1_blocktree::Svq1Level;
 use codebook::svq1_codebook::inner::raise_codebook;
 use leaf::svq1_enc_leaf::LeafTerms;
-use leaf_call::svq1_enc_leaf::block_refusal;
+use leaf_call::svq1_enc_leaf::check_block;
 use leaf_call::svq1_enc_leaf::inner::terms_of;
 use plan::svq1_enc_tree::MbPlan;
 use plan::svq1_enc_tree::inner::{plan, plan_reconstruction};
-use tree::svq1_enc_tree::{Block, TreeNode};
+use tree::svq1_enc_tree::Block;
 
-// What a plan call answers: 0 with the plan's bits, its error, its tree and the samples that it shows; or a refusal's number and nothing else.
+// What a plan call answers: the plan's bits, its error, its tree and the samples that it shows.
 #[derive(Clone, Copy)]
 pub struct PlanAnswer {
-    pub refused: u8,
     pub bits: u32,
     pub error: u32,
     pub blocks: [Block; 63],
     pub samples: [u8; 256],
-}
-
-fn refused_plan(refused: u8) -> PlanAnswer
-    ensures { result ≡ refused_plan refused }
-{
-    PlanAnswer {
-        refused,
-        bits: 0,
-        error: 0,
-        blocks: [Block {
-            node: TreeNode::Off,
-            stages: [0u8; 6],
-        }; 63],
-        samples: [0u8; 256],
-    }
 }
 
 // A plan that no refusal meets; `raised` is room for the raised codebook, and what the plan shows comes to the front of `samples`.
@@ -42,21 +28,23 @@ fn planned(
     book: &[u8],
     codebook: &[u8],
     raised: &mut [u8],
-    d: usize,
+    level: Svq1Level,
     terms: LeafTerms,
     target: &[u8],
     predictor: &[u8],
     lambda: u64,
     samples: &mut [u8],
 ) -> MbPlan
-    requires { Plannable book.now codebook.now raised.old d terms target.now predictor.now samples.old }
-    ensures { PlanShown book.now codebook.now d terms target.now predictor.now lambda result samples.new }
+    requires { Plannable book.now codebook.now raised.old (level_number level) terms target.now predictor.now samples.old }
+    ensures { PlanShown book.now codebook.now (level_number level) terms target.now predictor.now lambda result samples.new }
 {
     raise_codebook(codebook, raised);
-    let p = plan(terms, book, codebook, raised, lambda, d, target, predictor);
+    let p = plan(
+        terms, book, codebook, raised, lambda, level, target, predictor,
+    );
     let blocks = p.blocks;
     let half = terms.half;
-    plan_reconstruction(blocks, half, predictor, raised, d, samples);
+    plan_reconstruction(blocks, half, predictor, raised, level, samples);
     p
 }
 
@@ -72,20 +60,17 @@ pub fn plan_macroblock(
     skip: bool,
     lambda: u64,
     margin: u32,
-) -> PlanAnswer
+) -> Result<PlanAnswer, Refusal>
     ensures { PlanAnswered (block_by book.now codebook.now level half target.now predictor.now cap skip margin) lambda result }
 {
-    let refusal = block_refusal(book, codebook, level, half, target, predictor, cap, skip);
-    if refusal != 0 {
-        return refused_plan(refusal);
-    }
+    check_block(book, codebook, level, half, target, predictor, cap, skip)?;
     let mut raised = [0u8; CODEBOOK_BYTES];
     let mut samples = [0u8; 256];
     let p = planned(
         book,
         codebook,
         &mut raised,
-        level as usize,
+        level_at(level as usize),
         terms_of(half, cap, skip, margin),
         target,
         predictor,
@@ -93,11 +78,10 @@ pub fn plan_macroblock(
         &mut samples,
     );
     let blocks = p.blocks;
-    PlanAnswer {
-        refused: 0,
+    Ok(PlanAnswer {
         bits: p.bits,
         error: p.error,
         blocks,
         samples,
-    }
+    })
 }

@@ -1,6 +1,6 @@
 -- Laws of the plane reader: one macroblock is one step of the run, the loop's turns, and the call refused or read.
 -- Assumes nothing.
-use Rattle.std.specs.Prelude.{◌≡◌, List, ℕ, ◌+◌, ◌-◌, ◌≤◌, ◌<◌, drop}
+use Rattle.std.specs.Prelude.{◌≡◌, List, ℕ, ◌+◌, ◌-◌, ◌≤◌, ◌<◌, drop, Some, None, Ok, Err}
 use Rattle.std.proofs.Math.Path.{sym}
 use Rattle.std.proofs.Common.{◌∙◌, arith}
 use Rattle.std.proofs.Math.Bool.{true, false}
@@ -11,12 +11,12 @@ use Rattle.bits.specs.Basics.{or_else, first_of}
 use Rattle.bits.specs.BasicsLaws.{chain_met, chain_passed, two_links}
 use Rattle.bits.specs.Bits.{bits_of}
 use Rattle.bits.specs.BitsLaws.{length_bits_of}
-use Rattle.code_tables.specs.Codes.{got, bad}
+use Rattle.bits.specs.Refusals.{number_of}
+use Rattle.bits.specs.CallsLaws.{refusal_met}
+use Rattle.bits.specs.declared.refusal.Refusal.{Refusal}
 use Rattle.canvas.specs.Canvas.{size_refusal, canvas_refusal, canvas_links}
 use Rattle.macroblock.specs.Macroblock.{Given}
-use Rattle.macroblock.specs.Reading.{read_macroblock}
-use Rattle.macroblock.specs.Slices.{Slices, near, laid}
-use Rattle.macroblock_dec.specs.declared.svq1_plane.inner.reading.ReadMb.{ReadMb}
+use Rattle.macroblock.specs.Slices.{Slices}
 use Rattle.macroblock_dec.specs.ReadNeeds.{ReadReady, MbRead}
 use Rattle.plane.specs.declared.svq1_plane.inner.SliceLengths.{SliceLengths}
 use Rattle.plane.specs.Run.{Step, on, stop}
@@ -30,25 +30,19 @@ use Rattle.plane_dec.specs.declared.svq1_plane.ReadEnd.{ReadEnd}
 use Rattle.plane_dec.specs.ReaderNeeds.{read_end_of, ReadThrough, Going}
 
 -- ---- one macroblock is one step
-module _ (g : Given) (bytes : List ℕ) (at k : ℕ) (u : Slices) (r : ReadMb) (left : Slices) (m : MbRead g bytes at k u r left) where
+module _ (g : Given) (bytes : List ℕ) (at k : ℕ) (u left : Slices) where
   abbrev step_here : Step ReadingState
   step_here = read_step g (bits_of bytes) k (record { next = at; slices = u })
 
-  pub step_on : r.refused ≡ 0 → step_here ≡ on (record { next = r.next; slices = left })
+  pub step_on : (next : ℕ) → MbRead g bytes at k u (Ok next) left → step_here ≡ on (record { next = next; slices = left })
   unfolding read_step
-  step_on z =
-      let yes = eq-eqb r.refused 0 z in
-      let is : got m.choice (drop r.next (bits_of bytes)) ≡ read_macroblock g (near g u k) (drop at (bits_of bytes)) = rw yes at m.is in
-      let left_is : left ≡ laid g k m.choice u = rw yes at m.slices in
-      let n : length (bits_of bytes) - length (drop r.next (bits_of bytes)) ≡ r.next = omega (arith, length-drop r.next (bits_of bytes), length_bits_of bytes, m.within) in
-      rw (← is, n, ← left_is)
+  step_on next m =
+      let n : length (bits_of bytes) - length (drop next (bits_of bytes)) ≡ next = omega (arith, length-drop next (bits_of bytes), length_bits_of bytes, m.found.within) in
+      rw (← m.found.is, n, ← m.slices)
 
-  pub step_stop : (r.refused ≡ 0 → ⊥) → step_here ≡ stop r.refused
+  pub step_stop : (r : Refusal) → MbRead g bytes at k u (Err r) left → step_here ≡ stop (number_of r)
   unfolding read_step
-  step_stop e =
-      let no = ne_eqb r.refused 0 e in
-      let is : bad r.refused ≡ read_macroblock g (near g u k) (drop at (bits_of bytes)) = rw no at m.is in
-      rw (← is)
+  step_stop r m = rw (← m.0)
 
 -- ---- the loop
 module _ (g : Given) (raised bytes : List ℕ) (start : ℕ) (u₀ : Slices) (p : PlaneReady g raised u₀ (length bytes) start) where
@@ -59,23 +53,20 @@ module _ (g : Given) (raised bytes : List ℕ) (start : ℕ) (u₀ : Slices) (p 
     pub ready : k < count g → ReadReady g raised u k (length bytes) at
     ready h = record { ok = p.ok; held = same_held g u₀ u i.same p.held; number = h; from = record { bytes_fit = p.from.bytes_fit; bits_fit = omega (arith, i.within) } }
 
-    module _ (r : ReadMb) (left : Slices) (h : k < count g) (m : MbRead g bytes at k u r left) where
-      pub turn : r.refused ≡ 0 → Going g bytes start u₀ left (k + 1) r.next
-      turn z =
-          let left_is : left ≡ laid g k m.choice u = rw (eq-eqb r.refused 0 z) at m.slices in
-          record {
-            same = rw left_is (laid_same g k m.choice u₀ u i.same);
-            within = m.within;
-            loop = gone_on (read_step g (bits_of bytes)) (count g) _ k _ i.loop (record { next = r.next; slices = left }) h (step_on g bytes at k u r left m z);
-          }
+    module _ (left : Slices) (h : k < count g) where
+      pub turn : (next : ℕ) → MbRead g bytes at k u (Ok next) left → Going g bytes start u₀ left (k + 1) next
+      turn next m = record {
+        same = rw m.slices (laid_same g k m.choice u₀ u i.same);
+        within = m.found.within;
+        loop = gone_on (read_step g (bits_of bytes)) (count g) _ k _ i.loop (record { next = next; slices = left }) h (step_on g bytes at k u left next m);
+      }
 
-      pub stop_early : (r.refused ≡ 0 → ⊥) → ReadThrough g bytes start u₀ (record { refused = r.refused; done = k; next = at }) left
+      pub stop_early : (r : Refusal) → MbRead g bytes at k u (Err r) left → ReadThrough g bytes start u₀ (record { refused = Some r; done = k; next = at }) left
       unfolding read_plane read_up_to
-      stop_early e =
-          let left_is : left ≡ u = rw (ne_eqb r.refused 0 e) at m.slices in
-          ends_early (read_step g (bits_of bytes)) (count g) _ k _ i.loop r.refused h (step_stop g bytes at k u r left m e) ∙ rw left_is
+      stop_early r m =
+          ends_early (read_step g (bits_of bytes)) (count g) _ k _ i.loop (number_of r) h (step_stop g bytes at k u left r m) ∙ rw m.1
 
-    pub stop_last : count g ≤ k → ReadThrough g bytes start u₀ (record { refused = 0; done = k; next = at }) u
+    pub stop_last : count g ≤ k → ReadThrough g bytes start u₀ (record { refused = None; done = k; next = at }) u
     unfolding read_plane read_up_to
     stop_last h = ends_last (read_step g (bits_of bytes)) (count g) _ k _ i.loop h
 
@@ -94,10 +85,10 @@ module _ (g : Given) (bytes start : ℕ) (l : SliceLengths) (plane : ℕ) (e : p
 
 -- ---- the call
 module _ (g : Given) (bytes : List ℕ) (start : ℕ) (u : Slices) where
-  pub call_refused : (n : ℕ) → n ≡ read_refusal g bytes start u → (n ≡ 0 → ⊥) → PlaneRead g bytes start u (read_end_of (record { refused = n; done = 0; next = 0 })) u
+  pub call_refused : (r : Refusal) → number_of r ≡ read_refusal g bytes start u → PlaneRead g bytes start u (read_end_of (record { refused = Some r; done = 0; next = 0 })) u
   unfolding read_plane_answer read_slices
-  call_refused n e h =
-      let no : eqb (read_refusal g bytes start u) 0 ≡ false = ne_eqb (read_refusal g bytes start u) 0 (λ z. h (e ∙ z)) in
+  call_refused r e =
+      let no : eqb (read_refusal g bytes start u) 0 ≡ false = ne_eqb (read_refusal g bytes start u) 0 (refusal_met r (read_refusal g bytes start u) e) in
       record { answer = rw (no, ← e); left_slices = rw no }
 
   pub call_read : (r : ReadEnd) (left : Slices) → read_refusal g bytes start u ≡ 0 → ReadThrough g bytes start u r left → PlaneRead g bytes start u (read_end_of r) left

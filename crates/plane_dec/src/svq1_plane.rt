@@ -6,15 +6,16 @@ ghost use Rattle.macroblock.specs.Slices.{slices_by};
 ghost use Rattle.plane.specs.Calls.{PlaneRead};
 ghost use Rattle.plane_dec.specs.ReaderNeeds.{read_end_of};
 
-use super::svq1_plane::inner::{read_accepted, read_refusal};
+use super::svq1_plane::inner::{check_read, read_accepted};
+use bits::refusal::Refusal;
 use canvas::svq1_plane::Svq1PlaneCanvas;
 use plane::svq1_plane::inner::SliceLengths;
 
-// What reading a plane answers: the number of a refusal, or 0; the macroblocks done, which with 10, 11 and 24 is the index of the one refused;
-// and the next bit.
+// What reading a plane answers: why it was refused or ended early, if it was; the macroblocks done, which in the middle of a plane is the
+// index of the one refused; and the next bit.
 #[derive(Clone, Copy)]
 pub struct ReadEnd {
-    pub refused: u8,
+    pub refused: Option<Refusal>,
     pub done: usize,
     pub next: usize,
 }
@@ -39,7 +40,7 @@ pub fn decode_inter_plane(
         vx: vx.len(),
         vy: vy.len(),
     };
-    let refused = read_refusal(
+    let checked = check_read(
         canvas,
         reference,
         book,
@@ -48,9 +49,9 @@ pub fn decode_inter_plane(
         start,
         slices,
     );
-    if refused != 0 {
+    if let Err(refusal) = checked {
         return ReadEnd {
-            refused,
+            refused: Some(refusal),
             done: 0,
             next: 0,
         };

@@ -12,6 +12,7 @@ use Rattle.std.proofs.Math.ListN.{length, take, drop}
 use Rattle.std.proofs.lemmas.List.Edits.{sets, sets-eq}
 use Rattle.std.proofs.Math.Seq.{drop_at, drop-append-add}
 use borrow.Author.Tests.{lt-ltb, le-ltb}
+use Rattle.bits.specs.Refusals.{number_told}
 use Rattle.bits.specs.Bits.{bits_of}
 use Rattle.macroblock.specs.Mode.{mode_position}
 use Rattle.macroblock.specs.Macroblock.{Given}
@@ -143,7 +144,7 @@ module _ (g : Given) (t : Task) (start : ℕ) (l₀ : Lent) (held : List ℕ) wh
   telling_begun = record { slices = refl; spends = refl; stated = sym (in_none g t out start s held) }
 
   module _ (k spent at : ℕ) (l : Lent) (r : WrittenMb) (l' : Lent) (m : MbWritten g t k spent at l r l') where
-    pub telling_turn : (now now' : List ℕ) → r.refused ≡ 0 → Telling g t start l₀ held l.slices now k spent → now' ≡ told now k (mode_position r.mode ∷ r.bits ∷ r.error ∷ [])
+    pub telling_turn : (now now' : List ℕ) → number_told r.refused ≡ 0 → Telling g t start l₀ held l.slices now k spent → now' ≡ told now k (mode_position r.mode ∷ r.bits ∷ r.error ∷ [])
         → Telling g t start l₀ held l'.slices now' (k + 1) (spent + r.bits)
     unfolding after written
     telling_turn now now' z i e =

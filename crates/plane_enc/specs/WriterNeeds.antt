@@ -1,5 +1,6 @@
 -- The plane writer as a call: its answer, and a plane that is written to its end (document 01, refusal 22).
 use Rattle.std.specs.Prelude.{ℕ, ◌*◌, ◌≤◌, true, List, ◌≡◌, length}
+use Rattle.bits.specs.Refusals.{number_told}
 use Rattle.bits.specs.Basics.{Bytes}
 use Rattle.bits.specs.Bits.{bits_of}
 use Rattle.mv_cache.specs.NeighboursLaws.{Ranged}
@@ -15,13 +16,13 @@ use Rattle.plane.specs.PlaneNeeds.{PlaneReady, SameLengths}
 
 -- the answer of the writer
 abbrev pub write_end_of : WriteEnd → PlaneAnswer
-write_end_of r = record { refusal = r.refused; done = r.done; next = r.next; bits = r.bits; error = r.error }
+write_end_of r = record { refusal = number_told r.refused; done = r.done; next = r.next; bits = r.bits; error = r.error }
 
 -- a plane that is not refused is written as far as it goes
 abbrev pub WrittenThrough : Given → Task → ℕ → Lent → WriteEnd → Lent → Type 0
 WrittenThrough g t start l r l' =
     write_plane g t (bits_of l.out) start l.slices
-    ≡ record { refusal = r.refused; done = r.done; state = record { out = bits_of l'.out; next = r.next; slices = l'.slices; bits = r.bits; error = r.error } }
+    ≡ record { refusal = number_told r.refused; done = r.done; state = record { out = bits_of l'.out; next = r.next; slices = l'.slices; bits = r.bits; error = r.error } }
 
 -- what a plane that no refusal meets is written from: what passes, with the codebook's raised copy, and a source and a reference of bytes
 pub record Writes (g : Given) (raised : List ℕ) (t : Task) (start : ℕ) (l : Lent) : Type 0 where

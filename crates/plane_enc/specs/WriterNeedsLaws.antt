@@ -1,10 +1,13 @@
 -- Laws of the plane writer: one macroblock is one step of the run, the loop's turns, and the call refused or written.
 -- Assumes nothing.
-use Rattle.std.specs.Prelude.{◌≡◌, refl, Bool, List, ℕ, ◌+◌, ◌*◌, ◌≤◌, ◌<◌, length}
+use Rattle.std.specs.Prelude.{◌≡◌, refl, Bool, List, ℕ, ◌+◌, ◌*◌, ◌≤◌, ◌<◌, length, Some, None}
 use Rattle.std.proofs.Common.{sym, ap, ◌∙◌, arith, add-one}
 use Rattle.std.proofs.Math.Bool.{true, false}
 use Rattle.std.proofs.Math.Dec.{eqb}
 use borrow.Author.Tests.{eq-eqb, ne_eqb, leb-true}
+use Rattle.bits.specs.Refusals.{number_of, number_told}
+use Rattle.bits.specs.CallsLaws.{refusal_met}
+use Rattle.bits.specs.declared.refusal.Refusal.{Refusal}
 use Rattle.bits.specs.Basics.{unless, first_of}
 use Rattle.bits.specs.BasicsLaws.{unless-none, chain_met, chain_passed}
 use Rattle.bits.specs.Bits.{bits_of, put_bits}
@@ -45,17 +48,17 @@ module _ (g : Given) (t : Task) (k at bits error : ℕ) (l : Lent) (r : WrittenM
   same_fit : fits g t k here ≡ fitting
   same_fit = rw (length_bits_of l.out)
 
-  pub fits_if : r.refused ≡ 0 → fitting ≡ true
+  pub fits_if : number_told r.refused ≡ 0 → fitting ≡ true
   fits_if z = unless-none fitting 22 (omega arith) (sym m.refused ∙ z)
 
-  unfit_if : (r.refused ≡ 0 → ⊥) → fitting ≡ false
+  unfit_if : (number_told r.refused ≡ 0 → ⊥) → fitting ≡ false
   unfit_if e = go fitting refl
     where
       go : (q : Bool) → fitting ≡ q → q ≡ false
       go true f = absurd (e (m.refused ∙ ap (λ (b : Bool). unless b 22) f))
       go false f = refl
 
-  pub step_on : r.refused ≡ 0 → write_step g t k here ≡ on there
+  pub step_on : number_told r.refused ≡ 0 → write_step g t k here ≡ on there
   unfolding written
   step_on z =
       let f = fits_if z in
@@ -64,13 +67,13 @@ module _ (g : Given) (t : Task) (k at bits error : ℕ) (l : Lent) (r : WrittenM
       let s : l'.slices ≡ laid g k (mb_choice g t k bits l.slices) l.slices = rw f at m.slices in
       rw (same_fit, f, o, n, s, m.bits, m.error)
 
-  pub step_stop : (r.refused ≡ 0 → ⊥) → write_step g t k here ≡ stop r.refused
+  pub step_stop : (number_told r.refused ≡ 0 → ⊥) → write_step g t k here ≡ stop (number_told r.refused)
   step_stop e =
       let f = unfit_if e in
-      let c : r.refused ≡ 22 = rw f at m.refused in
+      let c : number_told r.refused ≡ 22 = rw f at m.refused in
       rw (same_fit, f, c)
 
-  pub as_it_was : (r.refused ≡ 0 → ⊥) → (bits_of l'.out ≡ bits_of l.out) × (l'.slices ≡ l.slices)
+  pub as_it_was : (number_told r.refused ≡ 0 → ⊥) → (bits_of l'.out ≡ bits_of l.out) × (l'.slices ≡ l.slices)
   as_it_was e =
       let f = unfit_if e in
       (rw f at m.output, rw f at m.slices)
@@ -121,7 +124,7 @@ module _ {g : Given} {raised : List ℕ} {t : Task} {start : ℕ} {l₀ : Lent} 
       unfolding weight_of
       low = omega (arith, m.error, near_24 (target g t k) (shown g k (mb_choice g t k bits u)) (target_block g t ok k) good.block)
 
-      pub turn : length l'.out ≡ length l.out → r.refused ≡ 0 → Underway g t start l₀ l' (k + 1) r.next (bits + r.bits) (error + r.error)
+      pub turn : length l'.out ≡ length l.out → number_told r.refused ≡ 0 → Underway g t start l₀ l' (k + 1) r.next (bits + r.bits) (error + r.error)
       turn e z =
           let f = fits_if g t k at bits error l r l' m z in
           let n : r.next ≡ at + (mb_weight g t k bits u).bits = rw f at m.next in
@@ -138,13 +141,13 @@ module _ {g : Given} {raised : List ℕ} {t : Task} {start : ℕ} {l₀ : Lent} 
             loop = gone_on (write_step g t) (count g) _ k _ i.loop (there g t k at bits error l r l' m) h (step_on g t k at bits error l r l' m z);
           }
 
-      pub stop_early : (r.refused ≡ 0 → ⊥) → WrittenThrough g t start l₀ (record { refused = r.refused; done = k; next = at; bits = bits; error = error }) l'
+      pub stop_early : (number_told r.refused ≡ 0 → ⊥) → WrittenThrough g t start l₀ (record { refused = r.refused; done = k; next = at; bits = bits; error = error }) l'
       unfolding write_plane
       stop_early e =
           let a = as_it_was g t k at bits error l r l' m e in
-          ends_early (write_step g t) (count g) _ k _ i.loop r.refused h (step_stop g t k at bits error l r l' m e) ∙ rw (a.0, a.1)
+          ends_early (write_step g t) (count g) _ k _ i.loop (number_told r.refused) h (step_stop g t k at bits error l r l' m e) ∙ rw (a.0, a.1)
 
-    pub stop_last : count g ≤ k → WrittenThrough g t start l₀ (record { refused = 0; done = k; next = at; bits = bits; error = error }) l
+    pub stop_last : count g ≤ k → WrittenThrough g t start l₀ (record { refused = None; done = k; next = at; bits = bits; error = error }) l
     unfolding write_plane
     stop_last h = ends_last (write_step g t) (count g) _ k _ i.loop h
 
@@ -153,9 +156,9 @@ module _ (g : Given) (n bytes start : ℕ) (l : SliceLengths) where
   abbrev before : List ℕ
   before = source_links g.width g.height n g.reference
 
-  pub by_source : (r : ℕ) → r ≡ first_of before → (r ≡ 0 → ⊥) → r ≡ write_refusal_by g n bytes start l
+  pub by_source : (r : Refusal) → number_of r ≡ first_of before → number_of r ≡ write_refusal_by g n bytes start l
   unfolding write_refusal_by
-  by_source r e h = chain_met r before (lent_links g bytes start l) e h
+  by_source r e = chain_met (number_of r) before (lent_links g bytes start l) e (refusal_met r (number_of r) refl)
 
   pub by_lent : (r : ℕ) → first_of before ≡ 0 → r ≡ first_of (lent_links g bytes start l) → r ≡ write_refusal_by g n bytes start l
   unfolding write_refusal_by
@@ -166,10 +169,10 @@ module _ (g : Given) (t : Task) (start : ℕ) (l : Lent) where
   abbrev refusal : ℕ
   refusal = write_refusal g t l.out start l.slices
 
-  pub call_refused : (n : ℕ) → n ≡ refusal → (n ≡ 0 → ⊥) → PlaneWritten g t start l (write_end_of (record { refused = n; done = 0; next = 0; bits = 0; error = 0 })) l
+  pub call_refused : (r : Refusal) → number_of r ≡ refusal → PlaneWritten g t start l (write_end_of (record { refused = Some r; done = 0; next = 0; bits = 0; error = 0 })) l
   unfolding write_answer write_out write_slices
-  call_refused n e h =
-      let no : eqb refusal 0 ≡ false = ne_eqb refusal 0 (λ z. h (e ∙ z)) in
+  call_refused r e =
+      let no : eqb refusal 0 ≡ false = ne_eqb refusal 0 (λ z. refusal_met r refusal e z) in
       record { answer = rw (no, ← e); left_out = rw no; left_slices = rw no }
 
   pub call_written : (r : WriteEnd) (l' : Lent) → refusal ≡ 0 → WrittenThrough g t start l r l' → PlaneWritten g t start l (write_end_of r) l'

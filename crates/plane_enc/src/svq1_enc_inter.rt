@@ -8,17 +8,17 @@ ghost use Rattle.plane_enc.specs.Stated.{PlaneStated};
 ghost use Rattle.plane_enc.specs.WriterNeeds.{write_end_of};
 ghost use Rattle.macroblock.specs.Slices.{slices_by, lent_by};
 
-use super::svq1_enc_inter::inner::{write_accepted, write_refusal};
+use super::svq1_enc_inter::inner::{check_write, write_accepted};
+use bits::refusal::Refusal;
 use canvas::svq1_plane::Svq1PlaneCanvas;
 use macroblock::svq1_enc_inter::Settings;
-use macroblock_enc::svq1_enc_inter::inner::limit::BitLimit;
 use plane::svq1_plane::inner::SliceLengths;
 
-// What writing a plane answers: the number of a refusal, or 0; the macroblocks done, which with 22 is the index of the one that does not fit;
+// What writing a plane answers: a refusal, if one is met; the macroblocks done, which with `NoRoom` is the index of the one that does not fit;
 // the next bit; and the bits and the squared error of the macroblocks done.
 #[derive(Clone, Copy)]
 pub struct WriteEnd {
-    pub refused: u8,
+    pub refused: Option<Refusal>,
     pub done: usize,
     pub next: usize,
     pub bits: u64,
@@ -72,7 +72,7 @@ pub fn encode_inter_plane_stated(
         vx: vx.len(),
         vy: vy.len(),
     };
-    let refused = write_refusal(
+    let checked = check_write(
         canvas,
         source.len(),
         reference,
@@ -82,28 +82,17 @@ pub fn encode_inter_plane_stated(
         start,
         slices,
     );
-    if refused != 0 {
-        return WriteEnd {
-            refused,
+    match checked {
+        Ok(()) => write_accepted(
+            canvas, source, reference, book, codebook, settings, None, out, start, recon, vx, vy,
+            stated,
+        ),
+        Err(refusal) => WriteEnd {
+            refused: Some(refusal),
             done: 0,
             next: 0,
             bits: 0,
             error: 0,
-        };
+        },
     }
-    write_accepted(
-        canvas,
-        source,
-        reference,
-        book,
-        codebook,
-        settings,
-        BitLimit::Unlimited,
-        out,
-        start,
-        recon,
-        vx,
-        vy,
-        stated,
-    )
 }

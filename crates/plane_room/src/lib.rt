@@ -1,43 +1,27 @@
 // The room that always suffices: a writer that is lent so many bytes behind its start bit never answers 22.
 #![tactic(auto)]
 
-ghost use Rattle.std.specs.Prelude.{◌≡◌, ◌+◌, ◌*◌, ◌≤◌, max};
+ghost use Rattle.std.specs.Prelude.{◌≡◌, ◌+◌, ◌*◌, ◌≤◌};
 ghost use Rattle.book.specs.Book.{book_refusal};
 ghost use Rattle.canvas.specs.Canvas.{largest_side, blocks_along};
 ghost use Rattle.plane_room.specs.Room.{longest, most_bits, book_bits, any_bits, room_bytes, OfSize, OfSizeUnder};
 ghost use Rattle.plane_room.specs.Calls.{room_answer, room_under_answer, RoomTold};
 
-use book::inner::{
-    inter_mean_table, inter_stage_family, intra_mean_table, intra_stage_family, mode_table,
-    vector_table,
-};
-use book_check::book_refusal;
-use canvas::svq1_plane::size_refusal;
+use bits::refusal::Refusal;
+use book::inner::{mean_table, mode_table, stage_family, vector_table};
+use book::svq1_vlc::Svq1Half;
+use book_check::check_book;
+use canvas::svq1_plane::check_size;
 use code_tables::inner::entry_len;
-
-// What a call answers: the number of a refusal and no bytes, or 0 and the bytes.
-#[derive(Clone, Copy)]
-pub struct Room {
-    pub refused: u8,
-    pub bytes: usize,
-}
-
-fn greater(a: u32, b: u32) -> u32
-    ensures { result ≡ max a b }
-{
-    if a < b { b } else { a }
-}
 
 // The length of a table's longest code.
 fn longest_code(table: &[u8]) -> u32
     ensures { result ≡ longest table.now }
 {
     let n = table.len() / 3;
-    let mut i = 0;
-    let mut most = 0;
-    while i < n {
-        most = greater(most, entry_len(table, i));
-        i += 1;
+    let mut most: u32 = 0;
+    for i in 0..n {
+        most = most.max(entry_len(table, i));
     }
     most
 }
@@ -57,12 +41,12 @@ fn book_bits(book: &[u8]) -> u32
 {
     let mode = longest_code(mode_table(book));
     let vector = longest_code(vector_table(book));
-    let intra_mean = longest_code(intra_mean_table(book));
-    let inter_mean = longest_code(inter_mean_table(book));
-    let intra_stage = longest_code(intra_stage_family(book));
-    let inter_stage = longest_code(inter_stage_family(book));
-    let mean = greater(intra_mean, inter_mean);
-    let stage = greater(intra_stage, inter_stage);
+    let intra_mean = longest_code(mean_table(book, Svq1Half::Intra));
+    let inter_mean = longest_code(mean_table(book, Svq1Half::Inter));
+    let intra_stage = longest_code(stage_family(book, Svq1Half::Intra));
+    let inter_stage = longest_code(stage_family(book, Svq1Half::Inter));
+    let mean = intra_mean.max(inter_mean);
+    let stage = intra_stage.max(inter_stage);
     most_bits(mode, vector, stage, mean)
 }
 
@@ -74,37 +58,19 @@ fn room_bytes(width: usize, height: usize, bits: u32) -> usize
     (bits as usize * ((height + 15) / 16 * ((width + 15) / 16)) + 7) / 8
 }
 
-// The bytes that a plane of this size takes at most, under any book that passes; 1 for a size that does not.
-pub fn plane_room(width: usize, height: usize) -> Room
+// The bytes that a plane of this size takes at most, under any book that passes; refused for a size that does not.
+pub fn plane_room(width: usize, height: usize) -> Result<usize, Refusal>
     ensures { RoomTold (OfSize width height) (room_answer width height) result }
 {
-    let refused = size_refusal(width, height);
-    if refused != 0 {
-        return Room { refused, bytes: 0 };
-    }
-    Room {
-        refused: 0,
-        bytes: room_bytes(width, height, 3135),
-    }
+    check_size(width, height)?;
+    Ok(room_bytes(width, height, 3135))
 }
 
-// The same under a given book, whose longest codes decide: 1, then 5, 6 or 7 of the book.
-pub fn plane_room_under(width: usize, height: usize, book: &[u8]) -> Room
+// The same under a given book, whose longest codes decide: the size is tested first, then the book.
+pub fn plane_room_under(width: usize, height: usize, book: &[u8]) -> Result<usize, Refusal>
     ensures { RoomTold (OfSizeUnder width height book.now) (room_under_answer width height book.now) result }
 {
-    let size = size_refusal(width, height);
-    if size != 0 {
-        return Room {
-            refused: size,
-            bytes: 0,
-        };
-    }
-    let refused = book_refusal(book);
-    if refused != 0 {
-        return Room { refused, bytes: 0 };
-    }
-    Room {
-        refused: 0,
-        bytes: room_bytes(width, height, book_bits(book)),
-    }
+    check_size(width, height)?;
+    check_book(book)?;
+    Ok(room_bytes(width, height, book_bits(book)))
 }

@@ -6,7 +6,6 @@ use std::io;
 
 fn main(rt: HostRuntime) -> io::Result<()> {
     let mut text = [0u8; HOUSE_TEXT_BYTES];
-    let written = write_house(&mut text);
-    let bytes = written.bytes;
+    let bytes = write_house(&mut text).unwrap_or(0);
     rt.write_all(&text[..bytes])
 }

@@ -1,5 +1,6 @@
 -- What a job's replay is held against: the original's answer as the fixed list has it (oracle/README.md, "A batch").
 use Rattle.std.specs.Prelude.{ℕ, zero, suc, ◌+◌, ◌*◌, ◌/◌, Bool, true, false, ◌&&◌, List, eqb, get_or}
+use Rattle.bits.specs.Refusals.{number_told}
 use Rattle.bits.specs.Basics.{pick}
 use Rattle.text.specs.Text.{same}
 use Rattle.plane_enc.specs.declared.svq1_enc_inter.WriteEnd.{WriteEnd}
@@ -58,8 +59,8 @@ coded_differ f size j out stated rest =
 -- of the writer's answer
 unfoldable pub written_differ : ℕ → ℕ → WriteEnd → Difference → Difference
 written_differ size n w rest =
-    pick (eqb w.refused 0) (pick (eqb w.done (size / 256)) (pick (eqb w.next n) (pick (eqb w.bits n) rest Count) Next) Done) Refusal
+    pick (eqb (number_told w.refused) 0) (pick (eqb w.done (size / 256)) (pick (eqb w.next n) (pick (eqb w.bits n) rest Count) Next) Done) Refusal
 
 -- of the reader's
 unfoldable pub read_differ : ℕ → ℕ → ReadEnd → Difference → Difference
-read_differ size n r rest = pick (eqb r.refused 0) (pick (eqb r.done (size / 256)) (pick (eqb r.next n) rest Next) Done) Refusal
+read_differ size n r rest = pick (eqb (number_told r.refused) 0) (pick (eqb r.done (size / 256)) (pick (eqb r.next n) rest Next) Done) Refusal

@@ -1,12 +1,15 @@
 -- Laws of the comparisons: a macroblock more, and a macroblock that differs.
 -- Assumes nothing.
-use Rattle.std.specs.Prelude.{◌≡◌, Bool, true, false, ◌&&◌, List, eqb, get_or}
+use Rattle.std.specs.Prelude.{◌≡◌, Bool, true, false, ◌&&◌, List, eqb, get_or, Option, Some, None, is_some, not}
 use Rattle.std.proofs.Math.Path.{refl}
-use Rattle.std.proofs.Common.{sym, subst, arith, add-one}
+use Rattle.std.proofs.Common.{sym, subst, arith, add-one, true≢false}
 use Prim.Native.Nat.{ℕ, zero, suc, ◌+◌, ◌*◌, ◌<◌}
 use Rattle.std.proofs.Math.Decide.{ℕ_discrete}
 use borrow.Author.Tests.{eq-eqb, ne_eqb}
 use Rattle.bits.specs.Basics.{pick}
+use Rattle.bits.specs.Refusals.{number_of, number_told}
+use Rattle.bits.specs.CallsLaws.{refusal_met}
+use Rattle.bits.specs.declared.refusal.Refusal.{Refusal}
 use Rattle.replay.specs.Layout.{part_in, number_in}
 use Rattle.replay.specs.Compare.{same_step, same_steps, modes_in}
 
@@ -60,3 +63,10 @@ module _ (t s : List ℕ) (k a b c x y z : ℕ) (mode : a ≡ number_in (part_in
     pub error_decides : b ≡ y → c ≡ number_in (part_in t (7 * k + 3) 4) → z ≡ get_or s (3 * k + 2) 0 → eqb c z ≡ same_step t s k
     unfolding same_step
     error_decides e error told-error = rw (← mode, ← told-mode, eq-eqb a x same-mode, ← bits, ← told-bits, eq-eqb b y e, error, told-error)
+
+-- no refusal has the number 0, and each refusal another
+pub none_told : (o : Option Refusal) (b : Bool) → is_some o ≡ not b → b ≡ eqb (number_told o) 0
+none_told (Some r) true e = absurd (true≢false e)
+none_told (Some r) false e = sym (ne_eqb (number_of r) 0 (refusal_met r (number_of r) refl))
+none_told None true e = refl
+none_told None false e = absurd (true≢false (sym e))

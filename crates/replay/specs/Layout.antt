@@ -1,13 +1,12 @@
 -- The fixed list of jobs and answers, byte by byte (oracle/README.md, "The fixed list").
-use Rattle.std.specs.Prelude.{ℕ, ◌+◌, ◌*◌, ◌/◌, ◌%◌, ◌≤◌, not, List, [], ◌∷◌, eqb, leb, ltb, length, take, drop, get_or}
+use Rattle.std.specs.Prelude.{ℕ, ◌+◌, ◌*◌, ◌/◌, ◌%◌, ◌≤◌, not, List, [], ◌∷◌, eqb, leb, ltb, length, take, drop, get_or, Option, Some, None, Result, Ok, Err}
 use Rattle.bits.specs.Basics.{pick}
 use Rattle.book.specs.Book.{book_bytes, codebook_bytes}
 use Rattle.canvas.specs.Canvas.{padded16}
 use Rattle.replay.specs.declared.inner.file.Scene.{Scene}
-use Rattle.replay.specs.declared.inner.file.SceneRead.{SceneRead}
-use Rattle.replay.specs.declared.inner.file.SceneRead.TheVariants as scene
-use Rattle.replay.specs.declared.inner.file.JobRead.{JobRead}
-use Rattle.replay.specs.declared.inner.file.JobRead.TheVariants as job
+use Rattle.replay.specs.declared.inner.file.Job.{Job}
+use Rattle.replay.specs.declared.inner.file.SceneError.{SceneError}
+use Rattle.replay.specs.declared.inner.file.SceneError.TheVariants as scene
 
 -- the n bytes at a place; none where they are not all there
 unfoldable pub part_in : List ℕ → ℕ → ℕ → List ℕ
@@ -56,15 +55,15 @@ scene_of t at w h = record {
   first = jobs_at at w h + 1;
 }
 
-unfoldable pub sized_in : List ℕ → ℕ → ℕ → ℕ → SceneRead
-sized_in t at w h = pick (ltb (jobs_at at w h) (length t)) (scene.Whole (scene_of t at w h)) scene.Ends
+unfoldable pub sized_in : List ℕ → ℕ → ℕ → ℕ → Result Scene SceneError
+sized_in t at w h = pick (ltb (jobs_at at w h) (length t)) (Ok (scene_of t at w h)) (Err scene.Ends)
 
 -- the scene at a place
-unfoldable pub scene_in : List ℕ → ℕ → SceneRead
+unfoldable pub scene_in : List ℕ → ℕ → Result Scene SceneError
 scene_in t at =
     let w = number_in (part_in t at 2) in
     let h = number_in (part_in t (at + 2) 2) in
-    pick (leb (at + 4) (length t)) (pick (leb w most_side) (pick (leb h most_side) (sized_in t at w h) scene.TooLarge) scene.TooLarge) scene.Ends
+    pick (leb (at + 4) (length t)) (pick (leb w most_side) (pick (leb h most_side) (sized_in t at w h) (Err scene.TooLarge)) (Err scene.TooLarge)) (Err scene.Ends)
 
 -- where a book and a codebook stand: the books behind the list's three numbers, the codebooks behind the books
 abbrev pub book_at : ℕ → ℕ
@@ -74,7 +73,7 @@ abbrev pub codebook_at : ℕ → ℕ → ℕ
 codebook_at books k = 4 + book_bytes * books + codebook_bytes * k
 
 -- a job with an answer of n bits: book, codebook, lambda, radius, flag, bit count, bits, macroblocks, reconstruction, x and y of the vectors
-unfoldable pub measured_in : List ℕ → ℕ → ℕ → ℕ → ℕ → JobRead
+unfoldable pub measured_in : List ℕ → ℕ → ℕ → ℕ → ℕ → Option Job
 measured_in t books size at n =
     let blocks = size / 256 in
     let steps = at + 16 + bytes_for n in
@@ -82,7 +81,7 @@ measured_in t books size at n =
     let vx = recon + size in
     let vy = vx + 4 * blocks in
     pick (leb (vy + 4 * blocks) (length t))
-    (job.Whole (record {
+    (Some (record {
       book = book_at (get_or t at 0);
       codebook = codebook_at books (get_or t (at + 1) 0);
       lambda = number_in (part_in t (at + 2) 8);
@@ -96,8 +95,8 @@ measured_in t books size at n =
       vy = vy;
       next = vy + 4 * blocks;
     }))
-    job.Ends
+    None
 
 -- the job at a place
-unfoldable pub job_of_list : List ℕ → ℕ → ℕ → ℕ → JobRead
-job_of_list t books size at = pick (leb (at + 16) (length t)) (measured_in t books size at (number_in (part_in t (at + 12) 4))) job.Ends
+unfoldable pub job_of_list : List ℕ → ℕ → ℕ → ℕ → Option Job
+job_of_list t books size at = pick (leb (at + 16) (length t)) (measured_in t books size at (number_in (part_in t (at + 12) 4))) None

@@ -1,6 +1,6 @@
 -- Laws of the fixed list's layout: parts and numbers, and a scene and a job by their tests.
 -- Assumes nothing.
-use Rattle.std.specs.Prelude.{◌≡◌, Bool, true, false, not, List, [], ◌∷◌, eqb, leb, ltb, take}
+use Rattle.std.specs.Prelude.{◌≡◌, Bool, true, false, not, List, [], ◌∷◌, eqb, leb, ltb, take, Option, Some, None, Result, Ok, Err}
 use Rattle.std.proofs.Math.Path.{refl, ap}
 use Rattle.std.proofs.Common.{◌∙◌, pow-suc, mul-le-mul, length-drop, get_or-drop}
 use Prim.Native.Nat.{ℕ, zero, suc, ◌+◌, ◌-◌, ◌*◌, ◌/◌, ◌%◌, ◌^◌, ◌≤◌, ◌<◌}
@@ -11,10 +11,9 @@ use borrow.Author.Tests.{eq-eqb, ne_eqb, le-leb, lt-leb, lt-ltb, le-ltb, leb-tru
 use Rattle.bits.specs.Basics.{pick, Bytes}
 use Rattle.canvas.specs.Canvas.{padded16}
 use Rattle.replay.specs.declared.inner.file.Scene.{Scene}
-use Rattle.replay.specs.declared.inner.file.SceneRead.{SceneRead}
-use Rattle.replay.specs.declared.inner.file.SceneRead.TheVariants as scene
-use Rattle.replay.specs.declared.inner.file.JobRead.{JobRead}
-use Rattle.replay.specs.declared.inner.file.JobRead.TheVariants as job
+use Rattle.replay.specs.declared.inner.file.Job.{Job}
+use Rattle.replay.specs.declared.inner.file.SceneError.{SceneError}
+use Rattle.replay.specs.declared.inner.file.SceneError.TheVariants as scene
 use Rattle.replay.specs.Layout.{part_in, little, number_in, bytes_for, most_side, most_size, jobs_at, scene_of, book_at, codebook_at, sized_in, scene_in, measured_in, job_of_list}
 
 -- ---- parts
@@ -78,7 +77,7 @@ bytes_more n e = rw (ne_eqb (n % 8) 0 e)
 
 -- ---- a scene
 module _ (t : List ℕ) (at w h s r : ℕ) (wide : s ≡ padded16 w) (high : r ≡ padded16 h) where
-  pub sized_ends : at ≤ length t → length t - at ≤ 4 + w * h + s * r → scene.Ends ≡ sized_in t at w h
+  pub sized_ends : at ≤ length t → length t - at ≤ 4 + w * h + s * r → (Err scene.Ends) ≡ sized_in t at w h
   unfolding sized_in
   sized_ends l m =
       let a : s * r ≡ padded16 w * padded16 h = rw (wide, high) in
@@ -86,7 +85,7 @@ module _ (t : List ℕ) (at w h s r : ℕ) (wide : s ≡ padded16 w) (high : r �
       rw (le-ltb (jobs_at at w h) (length t) n)
 
   pub sized_whole : (j : ℕ) → 4 + w * h + s * r < length t - at → j ≡ get_or t (at + 4 + w * h + s * r) 0
-      → scene.Whole (record { canvas = record { width = w; height = h; stride = s; rows = r }; samples = w * h; size = s * r; source = at + 4; reference = at + 4 + w * h; jobs = j; first = at + 4 + w * h + s * r + 1 })
+      → Ok (record { canvas = record { width = w; height = h; stride = s; rows = r }; samples = w * h; size = s * r; source = at + 4; reference = at + 4 + w * h; jobs = j; first = at + 4 + w * h + s * r + 1 })
       ≡ sized_in t at w h
   unfolding sized_in
   sized_whole j m e =
@@ -95,20 +94,20 @@ module _ (t : List ℕ) (at w h s r : ℕ) (wide : s ≡ padded16 w) (high : r �
       rw (lt-ltb (jobs_at at w h) (length t) n, e, wide, high)
 
 module _ (t : List ℕ) (at : ℕ) where
-  pub scene_short : length t < at + 4 → scene.Ends ≡ scene_in t at
+  pub scene_short : length t < at + 4 → (Err scene.Ends) ≡ scene_in t at
   unfolding scene_in
   scene_short h = rw (lt-leb (at + 4) (length t) h)
 
   module _ (begun : at + 4 ≤ length t) (w h : ℕ) (ew : w ≡ number_in (part_in t at 2)) (eh : h ≡ number_in (part_in t (at + 2) 2)) where
-    pub scene_wide : most_side < w → scene.TooLarge ≡ scene_in t at
+    pub scene_wide : most_side < w → (Err scene.TooLarge) ≡ scene_in t at
     unfolding scene_in
     scene_wide m = rw (le-leb (at + 4) (length t) begun, ← ew, lt-leb w most_side m)
 
-    pub scene_high : w ≤ most_side → most_side < h → scene.TooLarge ≡ scene_in t at
+    pub scene_high : w ≤ most_side → most_side < h → (Err scene.TooLarge) ≡ scene_in t at
     unfolding scene_in
     scene_high l m = rw (le-leb (at + 4) (length t) begun, ← ew, ← eh, le-leb w most_side l, lt-leb h most_side m)
 
-    pub scene_sized : (r : SceneRead) → w ≤ most_side → h ≤ most_side → r ≡ sized_in t at w h → r ≡ scene_in t at
+    pub scene_sized : (r : Result Scene SceneError) → w ≤ most_side → h ≤ most_side → r ≡ sized_in t at w h → r ≡ scene_in t at
     unfolding scene_in
     scene_sized r l m e = rw (le-leb (at + 4) (length t) begun, ← ew, ← eh, le-leb w most_side l, le-leb h most_side m) e
 
@@ -121,7 +120,7 @@ module _ (t : List ℕ) (books size at n bytes : ℕ) (e : bytes ≡ bytes_for n
   abbrev blocks : ℕ
   blocks = size / 256
 
-  pub measured_ends : at ≤ length t → length t - at < 16 + bytes + 7 * blocks + size + 4 * blocks + 4 * blocks → job.Ends ≡ measured_in t books size at n
+  pub measured_ends : at ≤ length t → length t - at < 16 + bytes + 7 * blocks + size + 4 * blocks + 4 * blocks → None ≡ measured_in t books size at n
   unfolding measured_in
   measured_ends l m =
       let s : length t < at + 16 + bytes_for n + 7 * blocks + size + 4 * blocks + 4 * blocks = omega arith in
@@ -129,7 +128,7 @@ module _ (t : List ℕ) (books size at n bytes : ℕ) (e : bytes ≡ bytes_for n
 
   module _ (b k l r f : ℕ) (book : b ≡ get_or t at 0) (codebook : k ≡ get_or t (at + 1) 0) (lambda : l ≡ number_in (part_in t (at + 2) 8)) (radius : r ≡ get_or t (at + 10) 0) (flag : f ≡ get_or t (at + 11) 0) where
     pub measured_whole : at ≤ length t → 16 + bytes + 7 * blocks + size + 4 * blocks + 4 * blocks ≤ length t - at
-        → job.Whole (record {
+        → Some (record {
           book = book_at b;
           codebook = codebook_at books k;
           lambda = l;
@@ -149,39 +148,39 @@ module _ (t : List ℕ) (books size at n bytes : ℕ) (e : bytes ≡ bytes_for n
         rw (le-leb (at + 16 + bytes_for n + 7 * blocks + size + 4 * blocks + 4 * blocks) (length t) s, book, codebook, lambda, radius, flag, e)
 
 module _ (t : List ℕ) (books size at : ℕ) where
-  pub job_short : length t < at + 16 → job.Ends ≡ job_of_list t books size at
+  pub job_short : length t < at + 16 → None ≡ job_of_list t books size at
   unfolding job_of_list
   job_short h = rw (lt-leb (at + 16) (length t) h)
 
-  pub job_measured : (n : ℕ) (r : JobRead) → at + 16 ≤ length t → n ≡ number_in (part_in t (at + 12) 4) → r ≡ measured_in t books size at n → r ≡ job_of_list t books size at
+  pub job_measured : (n : ℕ) (r : Option Job) → at + 16 ≤ length t → n ≡ number_in (part_in t (at + 12) 4) → r ≡ measured_in t books size at n → r ≡ job_of_list t books size at
   unfolding job_of_list
   job_measured n r h e q = rw (le-leb (at + 16) (length t) h, ← e) q
 
 -- ---- a scene that is read is not too large
-no_scene : (r : SceneRead) (s : Scene) → r ≡ scene.Whole s → r ≡ scene.Ends → ⊥
+no_scene : (r : Result Scene SceneError) (s : Scene) → r ≡ Ok s → r ≡ (Err scene.Ends) → ⊥
 no_scene r s e f = let z : ◌≡◌ {A = ℕ} 0 1 = cc in omega arith
 
-no_large : (r : SceneRead) (s : Scene) → r ≡ scene.Whole s → r ≡ scene.TooLarge → ⊥
+no_large : (r : Result Scene SceneError) (s : Scene) → r ≡ Ok s → r ≡ (Err scene.TooLarge) → ⊥
 no_large r s e f = let z : ◌≡◌ {A = ℕ} 0 1 = cc in omega arith
 
-picked : (q : Bool) (u s : Scene) → u.size ≤ most_size → pick q (scene.Whole u) scene.Ends ≡ scene.Whole s → s.size ≤ most_size
+picked : (q : Bool) (u s : Scene) → u.size ≤ most_size → pick q (Ok u) (Err scene.Ends) ≡ Ok s → s.size ≤ most_size
 picked true u s h e =
     let same : u ≡ s = cc in
     rw (← same) h
-picked false u s h e = absurd (no_scene scene.Ends s e refl)
+picked false u s h e = absurd (no_scene (Err scene.Ends) s e refl)
 
 module _ (t : List ℕ) (at : ℕ) (s : Scene) where
-  sized_small : (w h : ℕ) → w ≤ most_side → h ≤ most_side → sized_in t at w h ≡ scene.Whole s → s.size ≤ most_size
+  sized_small : (w h : ℕ) → w ≤ most_side → h ≤ most_side → sized_in t at w h ≡ Ok s → s.size ≤ most_size
   unfolding sized_in
   sized_small w h l m e = picked (ltb (jobs_at at w h) (length t)) (scene_of t at w h) s (small_area (padded16 w) (padded16 h) (omega arith) (omega arith)) e
 
   by_tests : (a b c : Bool) (w h : ℕ) → leb w most_side ≡ b → leb h most_side ≡ c
-      → pick a (pick b (pick c (sized_in t at w h) scene.TooLarge) scene.TooLarge) scene.Ends ≡ scene.Whole s → s.size ≤ most_size
-  by_tests false b c w h l m e = absurd (no_scene scene.Ends s e refl)
-  by_tests true false c w h l m e = absurd (no_large scene.TooLarge s e refl)
-  by_tests true true false w h l m e = absurd (no_large scene.TooLarge s e refl)
+      → pick a (pick b (pick c (sized_in t at w h) (Err scene.TooLarge)) (Err scene.TooLarge)) (Err scene.Ends) ≡ Ok s → s.size ≤ most_size
+  by_tests false b c w h l m e = absurd (no_scene (Err scene.Ends) s e refl)
+  by_tests true false c w h l m e = absurd (no_large (Err scene.TooLarge) s e refl)
+  by_tests true true false w h l m e = absurd (no_large (Err scene.TooLarge) s e refl)
   by_tests true true true w h l m e = sized_small w h (leb-true w most_side l) (leb-true h most_side m) e
 
-  pub scene_small : scene_in t at ≡ scene.Whole s → s.size ≤ most_size
+  pub scene_small : scene_in t at ≡ Ok s → s.size ≤ most_size
   unfolding scene_in
   scene_small e = by_tests (leb (at + 4) (length t)) _ _ (number_in (part_in t at 2)) (number_in (part_in t (at + 2) 2)) refl refl e

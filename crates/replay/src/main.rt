@@ -7,69 +7,42 @@ ghost use Rattle.replay.specs.Layout.{most_size};
 mod inner;
 
 use book::inner::{BOOK_BYTES, CODEBOOK_BYTES};
-use inner::file::{JobRead, Scene, SceneRead, byte, number_at, read_full, read_job, read_scene};
+use inner::file::{Scene, SceneError, byte, number_at, read_full, read_job, read_scene};
 use inner::run::replay_job;
 use inner::tally::{Tally, add, no_tally, put_count, put_tally, write_line};
 use std::{fs, io};
 use text::put_text;
 
-// How far a scene or the list was replayed: whether it was all there, the place behind it, and what was counted.
+// What was replayed: the place behind it, and what was counted.
 #[derive(Drop)]
 struct Replayed {
-    whole: bool,
     next: usize,
     tally: Tally,
 }
 
-// Not all there.
-fn stopped(at: usize) -> Replayed {
-    let tally = no_tally();
-    Replayed {
-        whole: false,
-        next: at,
-        tally,
-    }
-}
-
-fn replay_next(file: &[u8], books: u8, s: Scene, at: usize) -> Replayed
+// The job at a place; none where the file ends inside it.
+fn replay_next(file: &[u8], books: u8, s: Scene, at: usize) -> Option<Replayed>
     requires { s.size ≤ most_size }
 {
-    match read_job(file, books, s.size, at) {
-        JobRead::Whole(j) => {
-            let tally = replay_job(file, s, j);
-            Replayed {
-                whole: true,
-                next: j.next,
-                tally,
-            }
-        }
-        JobRead::Ends => stopped(at),
-    }
+    let j = read_job(file, books, s.size, at)?;
+    Some(Replayed {
+        next: j.next,
+        tally: replay_job(file, s, j),
+    })
 }
 
-// The jobs of a scene.
-fn replay_jobs(file: &[u8], books: u8, s: Scene) -> Replayed
+// The jobs of a scene; none where the file ends inside one.
+fn replay_jobs(file: &[u8], books: u8, s: Scene) -> Option<Replayed>
     requires { s.size ≤ most_size }
 {
     let mut tally = no_tally();
-    let mut at = s.first;
-    let mut left = s.jobs;
-    while 0 < left {
-        let r = replay_next(file, books, s, at);
-        if r.whole {
-            let more = r.tally;
-            tally = add(tally, more);
-            at = r.next;
-            left -= 1;
-        } else {
-            return stopped(at);
-        }
+    let mut next = s.first;
+    for _job in 0..s.jobs {
+        let r = replay_next(file, books, s, next)?;
+        tally = add(tally, r.tally);
+        next = r.next;
     }
-    Replayed {
-        whole: true,
-        next: at,
-        tally,
-    }
+    Some(Replayed { next, tally })
 }
 
 // A text, to standard output.
@@ -94,79 +67,70 @@ fn show_total(rt: &impl Print, scenes: u64, t: Tally) -> io::Result<()> {
     write_line(rt, &line, b)
 }
 
-// Why scene k cannot be replayed.
-fn show_stop(rt: &impl Print, k: u64, why: &[u8]) -> io::Result<()> {
+// Scene k cannot be replayed, and why.
+fn show_stop(rt: &impl Print, k: u64, why: &[u8]) -> io::Result<Option<Replayed>> {
     let mut line = [0u8; 512];
     let a = put_count(&mut line, 0, b"scene ", k);
     let b = put_text(&mut line, a, why);
-    write_line(rt, &line, b)
+    write_line(rt, &line, b)?;
+    Ok(None)
 }
 
-fn too_large(rt: &impl Print, k: u64, at: usize) -> io::Result<Replayed> {
-    show_stop(rt, k, b": larger than 64x64\n")?;
-    Ok(stopped(at))
-}
-
-fn too_short(rt: &impl Print, k: u64, at: usize) -> io::Result<Replayed> {
-    show_stop(rt, k, b": the file ends too early\n")?;
-    Ok(stopped(at))
+fn too_short(rt: &impl Print, k: u64) -> io::Result<Option<Replayed>> {
+    show_stop(rt, k, b": the file ends too early\n")
 }
 
 // A scene small enough, and its line.
-fn replay_whole(rt: &impl Print, file: &[u8], books: u8, k: u64, s: Scene) -> io::Result<Replayed>
+fn replay_whole(
+    rt: &impl Print,
+    file: &[u8],
+    books: u8,
+    k: u64,
+    s: Scene,
+) -> io::Result<Option<Replayed>>
     requires { s.size ≤ most_size }
 {
-    let r = replay_jobs(file, books, s);
-    if r.whole {
-        let tally = r.tally;
-        show_scene(rt, k, s, tally)?;
-        return Ok(r);
-    }
-    too_short(rt, k, r.next)
+    let Some(r) = replay_jobs(file, books, s) else {
+        return too_short(rt, k);
+    };
+    let tally = r.tally;
+    show_scene(rt, k, s, tally)?;
+    Ok(Some(r))
 }
 
-// Scene k, at a place.
+// Scene k, at a place; none where it cannot be replayed.
 fn replay_scene(
     rt: &impl Print,
     file: &[u8],
     books: u8,
     k: u64,
     at: usize,
-) -> io::Result<Replayed> {
+) -> io::Result<Option<Replayed>> {
     match read_scene(file, at) {
-        SceneRead::Whole(s) => replay_whole(rt, file, books, k, s),
-        SceneRead::TooLarge => too_large(rt, k, at),
-        SceneRead::Ends => too_short(rt, k, at),
+        Ok(s) => replay_whole(rt, file, books, k, s),
+        Err(SceneError::TooLarge) => show_stop(rt, k, b": larger than 64x64\n"),
+        Err(SceneError::Ends) => too_short(rt, k),
     }
 }
 
-// The scenes from a place on.
+// The scenes from a place on; none behind the first that cannot be replayed.
 fn replay_scenes(
     rt: &impl Print,
     file: &[u8],
     books: u8,
     scenes: u64,
     first: usize,
-) -> io::Result<Replayed> {
+) -> io::Result<Option<Replayed>> {
     let mut tally = no_tally();
-    let mut at = first;
-    let mut k = 0;
-    while k < scenes {
-        let r = replay_scene(rt, file, books, k, at)?;
-        if r.whole {
-            let more = r.tally;
-            tally = add(tally, more);
-            at = r.next;
-            k += 1;
-        } else {
-            return Ok(stopped(at));
-        }
+    let mut next = first;
+    for k in 0..scenes {
+        let Some(r) = replay_scene(rt, file, books, k, next)? else {
+            return Ok(None);
+        };
+        tally = add(tally, r.tally);
+        next = r.next;
     }
-    Ok(Replayed {
-        whole: true,
-        next: at,
-        tally,
-    })
+    Ok(Some(Replayed { next, tally }))
 }
 
 // The whole list.
@@ -178,15 +142,13 @@ fn replay(rt: &impl Print, file: &[u8]) -> io::Result<()> {
     let codebooks = byte(file, 1);
     let scenes = number_at(file, 2, 2);
     let first = 4 + BOOK_BYTES * (books as usize) + CODEBOOK_BYTES * (codebooks as usize);
-    let r = replay_scenes(rt, file, books, scenes, first)?;
-    if !r.whole {
+    let Some(all) = replay_scenes(rt, file, books, scenes, first)? else {
         return Ok(());
-    }
-    if r.next != file.len() {
+    };
+    if all.next != file.len() {
         return say(rt, b"the file does not end behind its last scene\n");
     }
-    let tally = r.tally;
-    show_total(rt, scenes, tally)
+    show_total(rt, scenes, all.tally)
 }
 
 // Room for the file, which has 248,205 bytes.

@@ -1,17 +1,14 @@
 -- The starred cards as one table, and what each says of the definitions (document 01, "Bench cards"; the house book throughout).
-use Rattle.std.specs.Prelude.{ℕ, ◌*◌, true, List, [], ◌∷◌, ◌≡◌, ℤ, pos, negsuc, length, replicate}
-use Rattle.std.proofs.Math.Option.{some}
+use Rattle.std.specs.Prelude.{ℕ, Option, Some, None, ◌*◌, true, List, [], ◌∷◌, ◌≡◌, ℤ, pos, negsuc, length, replicate}
 use Rattle.bits.specs.Bits.{bits_of}
 use Rattle.house.specs.House.{house_book, house_codebook}
 use Rattle.book.specs.declared.svq1_vlc.Svq1Half.TheVariants.{Inter}
 use Rattle.codebook.specs.Codebook.{raster_of}
 use Rattle.codebook.specs.Mean.{mean_of}
 use Rattle.vectors.specs.declared.svq1_motion_predictor.Svq1Mv.{Svq1Mv}
-use Rattle.vectors.specs.declared.svq1_motion_predictor.Neighbour.{Neighbour}
-use Rattle.vectors.specs.declared.svq1_motion_predictor.Neighbour.TheVariants.{Absent, Present}
 use Rattle.vectors.specs.Vectors.{predicted}
 use Rattle.compensation.specs.Compensation.{mean2, mean4}
-use Rattle.bits.specs.Calls.{done}
+use Rattle.bits.specs.Refusals.{done}
 use Rattle.motion.specs.Search.{Search, search_answer}
 use Rattle.canvas.specs.Canvas.{padded16}
 use Rattle.macroblock.specs.Macroblock.{Given}
@@ -58,7 +55,7 @@ pub data Card : Type 0 where
   -- a residual's sum over some samples, inter half: the mean
   mean : ℤ → ℕ → ℤ → Card
   -- left, top and top right: the predictor
-  predictor : Neighbour → Neighbour → Neighbour → Svq1Mv → Card
+  predictor : Option Svq1Mv → Option Svq1Mv → Option Svq1Mv → Svq1Mv → Card
   -- a level and a byte of a vector: its raster place
   raster : ℕ → ℕ → ℕ → Card
   -- two samples, and four: their mean
@@ -70,7 +67,7 @@ pub data Card : Type 0 where
 -- what a card says
 abbrev pub Holds : Card → Type 0
 Holds (plane line job source reference bytes text) =
-    (job_in line ≡ some job)
+    (job_in line ≡ Some job)
     × ((write_plane (flat_given job reference) (flat_task job source) (bits_of (replicate (length bytes) 0)) 0 (no_slices (flat_given job reference))).state.out ≡ bits_of bytes)
     × (plane_text (flat_given job reference) (flat_task job source) ≡ text)
 Holds (mean sum n m) = mean_of Inter sum n ≡ m
@@ -103,8 +100,8 @@ cards =
     ∷ mean (pos 3) 8 (pos 0)
     ∷ mean (negsuc 2) 8 (pos 0)
     ∷ mean (negsuc 3) 8 (negsuc 0)
-    ∷ predictor (Present (mv (pos 4) (pos 4))) (Present (mv (pos 6) (negsuc 0))) Absent (mv (pos 4) (pos 0))
-    ∷ predictor Absent (Present (mv (pos 7) (negsuc 1))) Absent (mv (pos 7) (negsuc 1))
+    ∷ predictor (Some (mv (pos 4) (pos 4))) (Some (mv (pos 6) (negsuc 0))) None (mv (pos 4) (pos 0))
+    ∷ predictor None (Some (mv (pos 7) (negsuc 1))) None (mv (pos 7) (negsuc 1))
     ∷ raster 3 37 41
     ∷ raster 2 20 12
     ∷ two 10 11 11

@@ -1,7 +1,6 @@
 -- Laws that a text has one form: a number that is read is written as it stood, and a text is its pieces with the separators between them. Assumes nothing.
-use Rattle.std.specs.Prelude.{ℕ, suc, ◌+◌, ◌-◌, ◌*◌, ◌/◌, ◌%◌, ◌^◌, ◌≤◌, ◌<◌, ◌≡◌, refl, Bool, true, false, not, ◌&&◌, List, [], ◌∷◌, ◌++◌, eqb, leb, ltb, length}
+use Rattle.std.specs.Prelude.{ℕ, suc, ◌+◌, ◌-◌, ◌*◌, ◌/◌, ◌%◌, ◌^◌, ◌≤◌, ◌<◌, ◌≡◌, refl, Bool, true, false, not, ◌&&◌, List, [], ◌∷◌, ◌++◌, eqb, leb, ltb, length, Option, None, Some}
 use Rattle.std.proofs.Common.{sym, ap, ◌∙◌, true≢false, mul-le-mul_right, mul_assoc, le_trans, arith, lit<, eqb-true, leb-true, lt-ltb, le-ltb, ltb-true, ltb-false}
-use Rattle.std.proofs.Math.Option.{Option, none, some}
 use Rattle.std.proofs.Math.Nat.{pow-succ', pow-le-pow_right}
 use Rattle.std.proofs.lemmas.Bool.{eqb-false, not-true}
 use Rattle.bits.specs.Basics.{pick, every}
@@ -92,11 +91,11 @@ is_decimal (c ∷ d ∷ t) q k =
     digits_decimal c (d ∷ t) one.0 (eqb-false c 48 (not-true (eqb c 48) one.1)) two.1 k
 
 -- a number that is read is its decimal form
-pub number_decimal : (most n : ℕ) (t : List ℕ) → number_up_to most t ≡ some n → n < 10 ^ 20 → t ≡ decimal n
+pub number_decimal : (most n : ℕ) (t : List ℕ) → number_up_to most t ≡ Some n → n < 10 ^ 20 → t ≡ decimal n
 unfolding number_up_to
 number_decimal most n t q k = go (is_number t) (leb (value_from 0 t) most) refl q
   where
-    go : (a b : Bool) → is_number t ≡ a → pick (a && b) (some (value_from 0 t)) none ≡ some n → t ≡ decimal n
+    go : (a b : Bool) → is_number t ≡ a → pick (a && b) (Some (value_from 0 t)) None ≡ Some n → t ≡ decimal n
     go true true e h = let v : value_from 0 t ≡ n = cc in is_decimal t e (rw v k) ∙ ap decimal v
     go true false e h = none_some h
     go false b e h = none_some h
@@ -136,20 +135,20 @@ unfoldable pub ended : List (List ℕ) → List ℕ
 ended [] = []
 ended (l ∷ ls) = l ++ (line_feed ∷ ended ls)
 
-ended-rejoined : (ps ts : List (List ℕ)) → all_ended ps ≡ some ts → rejoined line_feed ps ≡ ended ts
+ended-rejoined : (ps ts : List (List ℕ)) → all_ended ps ≡ Some ts → rejoined line_feed ps ≡ ended ts
 unfolding all_ended rejoined ended
 ended-rejoined [] ts q = none_some q
 ended-rejoined ([] ∷ []) ts q = let e : [] ≡ ts = cc in rw (← e)
 ended-rejoined ((c ∷ t) ∷ []) ts q = none_some q
 ended-rejoined (l ∷ (m ∷ ms)) ts q = go (all_ended (m ∷ ms)) (sym (ended-step l (m ∷ ms) (omega arith)) ∙ q) (ended-rejoined (m ∷ ms))
   where
-    go : (o : Option (List (List ℕ))) → line_before l o ≡ some ts → ((us : List (List ℕ)) → o ≡ some us → rejoined line_feed (m ∷ ms) ≡ ended us)
+    go : (o : Option (List (List ℕ))) → line_before l o ≡ Some ts → ((us : List (List ℕ)) → o ≡ Some us → rejoined line_feed (m ∷ ms) ≡ ended us)
         → l ++ (line_feed ∷ rejoined line_feed (m ∷ ms)) ≡ ended ts
-    go none h next = none_some h
-    go (some us) h next = let e : l ∷ us ≡ ts = cc in rw (← e, next us refl)
+    go None h next = none_some h
+    go (Some us) h next = let e : l ∷ us ≡ ts = cc in rw (← e, next us refl)
 
 -- a text is its lines, each with its line feed
-pub lines_ended : (t : List ℕ) (ts : List (List ℕ)) → lines_of t ≡ some ts → t ≡ ended ts
+pub lines_ended : (t : List ℕ) (ts : List (List ℕ)) → lines_of t ≡ Some ts → t ≡ ended ts
 unfolding lines_of
 lines_ended t ts q = sym (rejoin_pieces line_feed t) ∙ ended-rejoined (pieces line_feed t) ts q
 

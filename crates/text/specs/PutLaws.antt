@@ -1,16 +1,18 @@
 -- Laws of text put into a slice, byte after byte and digit after digit. Assumes nothing.
-use Rattle.std.specs.Prelude.{ℕ, zero, suc, ◌+◌, ◌-◌, ◌/◌, ◌%◌, ◌^◌, ◌≤◌, ◌<◌, ◌≡◌, refl, Bool, true, false, List, [], ◌∷◌, ◌++◌, leb, ltb, take, drop, set}
+use Rattle.std.specs.Prelude.{ℕ, zero, suc, ◌+◌, ◌-◌, ◌/◌, ◌%◌, ◌^◌, ◌≤◌, ◌<◌, ◌≡◌, refl, Bool, true, false, List, [], ◌∷◌, ◌++◌, Result, Ok, Err, eqb, leb, ltb, take, drop, set}
 use Rattle.std.proofs.Common.{sym, ap, ◌∙◌, append_assoc, append-nil, le_refl, arith, length-append, length-drop, length-set, take-append-drop, drop_of_length-le, length-take-le, take_at, drop-drop, take-take, drop-cons, drop-set-lt, get_or-set_same}
 use Rattle.std.proofs.Math.ListN.{length}
 use Rattle.std.proofs.lemmas.List.{drop-append-le, take-set-le, set_split}
 use Rattle.std.proofs.Math.Seq.{drop-append-add}
 use Rattle.std.proofs.lemmas.List.Edits.{sets, sets-eq}
-use borrow.Author.Tests.{ne_eqb, le-leb, lt-leb, leb-true, lt-ltb, le-ltb, ltb-true}
-use Rattle.bits.specs.Basics.{pick}
+use borrow.Author.Tests.{eqb-true, ne_eqb, le-leb, lt-leb, leb-true, lt-ltb, le-ltb, ltb-true}
+use Rattle.bits.specs.Basics.{pick, unless}
+use Rattle.bits.specs.declared.refusal.Refusal.{Refusal}
+use Rattle.bits.specs.Refusals.{done, refused, number_of, refused_by, answer_of}
+use Rattle.bits.specs.CallsLaws.{refusal_met, answer_met}
 use Rattle.text.specs.Text.{digits_before, decimal}
-use Rattle.text.specs.WritingForms.{put_text, TextPut, PutInRoom, text_refusal, TextWritten, digit_count, last_digits}
+use Rattle.text.specs.WritingForms.{put_text, TextPut, PutInRoom, text_refusal, text_answer, bytes_written, TextWritten, digit_count, last_digits}
 use Rattle.text.specs.WritingFormsLaws.{tenth_below}
-use Rattle.text.specs.declared.Written.{Written}
 
 -- ---- a text
 -- no room: nothing is written
@@ -127,27 +129,37 @@ put_behind {bytes} {at} {s} {x} {mid} {t} {r} {after} p q = record { next = λ h
         (omega (arith, q.next last, place, long), q.bytes_after last ∙ rw (bytes-then, place) (append_put bytes at s t first))
 
 -- ---- a call that writes a text to the front of a lent slice
-pub text_refused : (refusal n : ℕ) (t out : List ℕ) → n ≡ refusal → (n ≡ 0 → ⊥) → TextWritten refusal t out (record { refused = n; bytes = 0 }) out
-text_refused refusal n t out e h = let z = ne_eqb refusal 0 (λ q. h (e ∙ q)) in record { answer = rw (e, z); left = rw z }
+pub text_refused : (refusal : ℕ) (e : Refusal) (t out : List ℕ) → number_of e ≡ refusal → TextWritten refusal t out (Err e) out
+text_refused refusal e t out q =
+    let z = ne_eqb refusal 0 (refusal_met e refusal q) in record { answer = answer_met e refusal (done (length t)) q; left = rw z }
 
 pub text_written : {t out : List ℕ} {r : ℕ} {after : List ℕ} (refusal : ℕ) → refusal ≡ 0 → length t ≤ length out → PutInRoom out 0 t r after
-    → TextWritten refusal t out (record { refused = 0; bytes = r }) after
+    → TextWritten refusal t out (Ok r) after
 text_written {t} {out} {r} refusal e room p =
     let front : 0 + length t ≤ length out = omega arith in
     let size : r ≡ length t = omega (arith, p.next front) in
     record { answer = rw (e, size); left = rw e (p.bytes_after front) }
 
--- what it wrote lies in the slice
-pub written_inside : (t out : List ℕ) (r : Written) (left : List ℕ) → TextWritten (text_refusal t (length out)) t out r left → r.bytes ≤ length out
-written_inside t out r left w = go (leb (length t) (length out)) refl
+-- the number that is told of it, and how far it wrote
+pub written_told : (refusal : ℕ) (t out : List ℕ) (r : Result ℕ Refusal) (left : List ℕ) → TextWritten refusal t out r left
+    → (refused_by r ≡ refusal) × (bytes_written r ≡ pick (eqb refusal 0) (length t) 0)
+written_told refusal t out r left w = go (eqb refusal 0) refl r w.answer
   where
-    go : (b : Bool) → leb (length t) (length out) ≡ b → r.bytes ≤ length out
-    go true q =
-        let size : r.bytes ≡ length t = ap (λ (x : Written). x.bytes) w.answer ∙ rw q in
-        omega (arith, size, leb-true (length t) (length out) q)
-    go false q =
-        let none : r.bytes ≡ 0 = ap (λ (x : Written). x.bytes) w.answer ∙ rw q in
-        omega (arith, none)
+    go : (b : Bool) → eqb refusal 0 ≡ b → (r : Result ℕ Refusal) → answer_of r ≡ pick b (done (length t)) (refused refusal)
+        → (refused_by r ≡ refusal) × (bytes_written r ≡ pick b (length t) 0)
+    go true q (Ok n) e = (sym (eqb-true refusal 0 q), cc)
+    go true q (Err n) e = cc
+    go false q (Ok n) e = cc
+    go false q (Err n) e = (cc, refl)
+
+-- what it wrote lies in the slice
+pub written_inside : (t out : List ℕ) (r : Result ℕ Refusal) (left : List ℕ) → TextWritten (text_refusal t (length out)) t out r left → bytes_written r ≤ length out
+written_inside t out (Err e) left w = omega arith
+written_inside t out (Ok n) left w = go (leb (length t) (length out)) refl w.answer
+  where
+    go : (b : Bool) → leb (length t) (length out) ≡ b → done n ≡ text_answer (unless b 20) t → n ≤ length out
+    go true q e = let size : n ≡ length t = cc in omega (arith, leb-true (length t) (length out) q)
+    go false q e = cc
 
 -- ---- digits
 -- digits before a text are the digits and the text

@@ -1,9 +1,8 @@
 -- Laws of signed numbers as the code makes, reads and writes them. Assumes nothing.
-use Rattle.std.specs.Prelude.{ℕ, zero, suc, ◌-◌, ◌≤◌, ◌<◌, ◌≡◌, true, false, ℤ, pos, negsuc, ◌-ℤ◌, nat_abs, length, drop, get_or}
+use Rattle.std.specs.Prelude.{ℕ, zero, suc, ◌-◌, ◌≤◌, ◌<◌, ◌≡◌, true, false, ℤ, pos, negsuc, ◌-ℤ◌, nat_abs, length, drop, get_or, None, Some}
 use Rattle.std.proofs.Math.Path.{refl}
 use Rattle.std.proofs.Common.{sym, ap, true≢false, arith, SFits, to_z, of_z, eq-eqb, ne_eqb, leb-false, le-ltb}
 use mathlib.Core.List.{List, [], ◌∷◌}
-use Rattle.std.proofs.Math.Option.{none, some}
 use Rattle.std.specs.Int.Signed.{le_z, nat_abs-le}
 use Rattle.std.specs.Int.{w64}
 use Rattle.std.proofs.lemmas.Int.{to_z-of_z}
@@ -42,7 +41,7 @@ below_is (suc n) = ap negsuc (omega arith)
 pub record MadeBelow (n : ℕ) : Type 0 where
   pub fits : SFits w64 (pos (n - 1))
   pub whole : SFits w64 (negsuc 0 -ℤ to_z w64 (n - 1))
-  pub same : some (to_z w64 (of_z w64 (negsuc 0 -ℤ to_z w64 (n - 1)))) ≡ below_zero (some n)
+  pub same : Some (to_z w64 (of_z w64 (negsuc 0 -ℤ to_z w64 (n - 1)))) ≡ below_zero (Some n)
 
 pub made_below : (n : ℕ) → 0 < n → n ≤ 9223372036854775808 → MadeBelow n
 made_below zero k h = absurd (omega arith)
@@ -51,11 +50,11 @@ made_below (suc n) k h =
     let g : SFits w64 (negsuc n) = record { sfits = omega arith } in
     let e : negsuc 0 -ℤ to_z w64 n ≡ negsuc n = rw (to_z-of_z w64 (pos n) f) (below_is n) in
     let one : suc n - 1 ≡ n = omega arith in
-    record { fits = rw one f; whole = rw (one, e) g; same = rw (one, e) (ap some (to_z-of_z w64 (negsuc n) g)) }
+    record { fits = rw one f; whole = rw (one, e) g; same = rw (one, e) (ap Some (to_z-of_z w64 (negsuc n) g)) }
 
 -- ---- reading
 module _ (least most : ℕ) where
-  pub signed_empty : (t : List ℕ) → length t ≡ 0 → signed_in least most t ≡ none
+  pub signed_empty : (t : List ℕ) → length t ≡ 0 → signed_in least most t ≡ None
   unfolding signed_in
   signed_empty [] h = refl
   signed_empty (c ∷ t) h = absurd (omega arith)

@@ -1,10 +1,9 @@
 -- Laws of signed numbers as text: one that is written is read back, and no other text is read as it (document 02, §3). Assumes nothing.
-use Rattle.std.specs.Prelude.{ℕ, zero, suc, ◌^◌, ◌≤◌, ◌<◌, ◌≡◌, Bool, ℤ}
+use Rattle.std.specs.Prelude.{ℕ, zero, suc, ◌^◌, ◌≤◌, ◌<◌, ◌≡◌, Bool, ℤ, Option, None, Some}
 use Rattle.std.proofs.Math.Path.{refl, sym, ap}
 use Rattle.std.proofs.Common.{◌∙◌, true≢false, arith, eqb-true}
 use Rattle.std.proofs.Math.Bool.{true, false, not}
 use mathlib.Core.List.{List, [], ◌∷◌}
-use Rattle.std.proofs.Math.Option.{Option, none, some}
 use Rattle.std.proofs.Math.Dec.{eqb}
 use Rattle.std.proofs.Math.IntN.{pos, negsuc}
 use Rattle.std.specs.Int.Signed.{mag}
@@ -22,8 +21,8 @@ Between least most (negsuc n) = suc n ≤ least
 
 -- its text is read as it, and is the one that is
 pub record SignedText (least most : ℕ) (z : ℤ) : Type 0 where
-  pub back : signed_in least most (signed_decimal z) ≡ some z
-  pub one : (t : List ℕ) → signed_in least most t ≡ some z → t ≡ signed_decimal z
+  pub back : signed_in least most (signed_decimal z) ≡ Some z
+  pub one : (t : List ℕ) → signed_in least most t ≡ Some z → t ≡ signed_decimal z
 
 module _ (least most : ℕ) (l : least < 10 ^ 20) (m : most < 10 ^ 20) where
   -- a text with no minus is read as a number with no sign
@@ -37,31 +36,31 @@ module _ (least most : ℕ) (l : least < 10 ^ 20) (m : most < 10 ^ 20) where
       go true q = absurd (true≢false (sym q))
       go false q = refl
 
-  read_back : (z : ℤ) → Between least most z → signed_in least most (signed_decimal z) ≡ some z
+  read_back : (z : ℤ) → Between least most z → signed_in least most (signed_decimal z) ≡ Some z
   unfolding signed_in signed_decimal
   read_back (pos n) h = plain (decimal n) (digits_without minus (decimal n) refl (decimal_digits n)) ∙ ap above_zero (decimal_back most n (omega arith) h)
   read_back (negsuc n) h = ap below_zero (decimal_back least (suc n) (omega arith) h)
 
-  above_one : (o : Option ℕ) (t : List ℕ) (z : ℤ) → number_up_to most t ≡ o → above_zero o ≡ some z → t ≡ signed_decimal z
+  above_one : (o : Option ℕ) (t : List ℕ) (z : ℤ) → number_up_to most t ≡ o → above_zero o ≡ Some z → t ≡ signed_decimal z
   unfolding signed_decimal
-  above_one none t z q e = none_some e
-  above_one (some n) t z q e =
+  above_one None t z q e = none_some e
+  above_one (Some n) t z q e =
       let s : pos n ≡ z = cc in rw (← s) (number_decimal most n t q (omega (arith, number_le most n t q)))
 
-  below_one : (o : Option ℕ) (t : List ℕ) (z : ℤ) → number_up_to least t ≡ o → below_zero o ≡ some z → minus ∷ t ≡ signed_decimal z
+  below_one : (o : Option ℕ) (t : List ℕ) (z : ℤ) → number_up_to least t ≡ o → below_zero o ≡ Some z → minus ∷ t ≡ signed_decimal z
   unfolding signed_decimal
-  below_one none t z q e = none_some e
-  below_one (some zero) t z q e = none_some e
-  below_one (some (suc n)) t z q e =
+  below_one None t z q e = none_some e
+  below_one (Some zero) t z q e = none_some e
+  below_one (Some (suc n)) t z q e =
       let s : negsuc n ≡ z = cc in
       rw (← s) (ap (λ (u : List ℕ). minus ∷ u) (number_decimal least (suc n) t q (omega (arith, number_le least (suc n) t q))))
 
-  read_one : (z : ℤ) (t : List ℕ) → signed_in least most t ≡ some z → t ≡ signed_decimal z
+  read_one : (z : ℤ) (t : List ℕ) → signed_in least most t ≡ Some z → t ≡ signed_decimal z
   unfolding signed_in
   read_one z [] q = none_some q
   read_one z (c ∷ t) q = go (eqb c minus) refl q
     where
-      go : (b : Bool) → eqb c minus ≡ b → pick b (below_zero (number_up_to least t)) (above_zero (number_up_to most (c ∷ t))) ≡ some z
+      go : (b : Bool) → eqb c minus ≡ b → pick b (below_zero (number_up_to least t)) (above_zero (number_up_to most (c ∷ t))) ≡ Some z
           → c ∷ t ≡ signed_decimal z
       go true e h = rw (eqb-true c minus e) (below_one (number_up_to least t) t z refl h)
       go false e h = above_one (number_up_to most (c ∷ t)) (c ∷ t) z refl h
@@ -70,21 +69,21 @@ module _ (least most : ℕ) (l : least < 10 ^ 20) (m : most < 10 ^ 20) where
   signed_text z h = record { back = read_back z h; one = read_one z }
 
 -- what is read lies between the bounds
-pub signed_within : (least most : ℕ) (t : List ℕ) (z : ℤ) → signed_in least most t ≡ some z → Between least most z
+pub signed_within : (least most : ℕ) (t : List ℕ) (z : ℤ) → signed_in least most t ≡ Some z → Between least most z
 unfolding signed_in
 signed_within least most [] z q = none_some q
 signed_within least most (c ∷ t) z q = go (eqb c minus) q
   where
-    above : (o : Option ℕ) → number_up_to most (c ∷ t) ≡ o → above_zero o ≡ some z → Between least most z
-    above none p e = none_some e
-    above (some n) p e = let s : pos n ≡ z = cc in rw (← s) (number_le most n (c ∷ t) p)
+    above : (o : Option ℕ) → number_up_to most (c ∷ t) ≡ o → above_zero o ≡ Some z → Between least most z
+    above None p e = none_some e
+    above (Some n) p e = let s : pos n ≡ z = cc in rw (← s) (number_le most n (c ∷ t) p)
 
-    below : (o : Option ℕ) → number_up_to least t ≡ o → below_zero o ≡ some z → Between least most z
-    below none p e = none_some e
-    below (some zero) p e = none_some e
-    below (some (suc n)) p e = let s : negsuc n ≡ z = cc in rw (← s) (number_le least (suc n) t p)
+    below : (o : Option ℕ) → number_up_to least t ≡ o → below_zero o ≡ Some z → Between least most z
+    below None p e = none_some e
+    below (Some zero) p e = none_some e
+    below (Some (suc n)) p e = let s : negsuc n ≡ z = cc in rw (← s) (number_le least (suc n) t p)
 
-    go : (b : Bool) → pick b (below_zero (number_up_to least t)) (above_zero (number_up_to most (c ∷ t))) ≡ some z → Between least most z
+    go : (b : Bool) → pick b (below_zero (number_up_to least t)) (above_zero (number_up_to most (c ∷ t))) ≡ Some z → Between least most z
     go true e = below (number_up_to least t) refl e
     go false e = above (number_up_to most (c ∷ t)) refl e
 

@@ -1,9 +1,8 @@
 -- Text as a list of bytes: decimal numbers, fields between commas, lines (document 01, "The book", the book file; "Refused for the state met", the listing;
 -- document 02, §3, signed numbers).
-use Rattle.std.specs.Prelude.{ℕ, zero, suc, ◌+◌, ◌-◌, ◌*◌, ◌/◌, ◌%◌, Bool, true, false, not, ◌&&◌, List, [], ◌∷◌, ◌++◌, eqb, leb, ltb, ℤ, pos, negsuc}
+use Rattle.std.specs.Prelude.{ℕ, zero, suc, ◌+◌, ◌-◌, ◌*◌, ◌/◌, ◌%◌, Bool, true, false, not, ◌&&◌, List, [], ◌∷◌, ◌++◌, eqb, leb, ltb, ℤ, pos, negsuc, Option, None, Some}
 use Prim.Native.Char.{code}
 use Prim.Native.String.{String, [] as no_text, ◌∷◌ as ◌then◌}
-use Rattle.std.proofs.Math.Option.{Option, none, some}
 use Rattle.bits.specs.Basics.{pick, every}
 
 -- the bytes of a text of ASCII characters: the code of each
@@ -38,21 +37,21 @@ value_from n (c ∷ t) = value_from (10 * n + (c - 48)) t
 
 -- a field that is a number of at most `most`; none where it has another form
 unfoldable pub number_up_to : ℕ → List ℕ → Option ℕ
-number_up_to most t = pick (is_number t && leb (value_from 0 t) most) (some (value_from 0 t)) none
+number_up_to most t = pick (is_number t && leb (value_from 0 t) most) (Some (value_from 0 t)) None
 
 -- a number as a signed one, and behind a minus, where 0 is none: it has one form
 abbrev pub above_zero : Option ℕ → Option ℤ
-above_zero none = none
-above_zero (some n) = some (pos n)
+above_zero None = None
+above_zero (Some n) = Some (pos n)
 
 abbrev pub below_zero : Option ℕ → Option ℤ
-below_zero none = none
-below_zero (some zero) = none
-below_zero (some (suc n)) = some (negsuc n)
+below_zero None = None
+below_zero (Some zero) = None
+below_zero (Some (suc n)) = Some (negsuc n)
 
 -- a field that is a signed number from -least to most, negative ones with a minus; none where it has another form
 unfoldable pub signed_in : ℕ → ℕ → List ℕ → Option ℤ
-signed_in least most [] = none
+signed_in least most [] = None
 signed_in least most (c ∷ t) = pick (eqb c minus) (below_zero (number_up_to least t)) (above_zero (number_up_to most (c ∷ t)))
 
 -- those that 64 bits hold
@@ -70,10 +69,10 @@ pieces s (c ∷ t) = pick (eqb c s) ([] ∷ pieces s t) (onto c (pieces s t))
 
 -- the pieces as lines: behind the last line feed nothing stands
 unfoldable pub all_ended : List (List ℕ) → Option (List (List ℕ))
-all_ended [] = none
-all_ended ([] ∷ []) = some []
-all_ended ((c ∷ t) ∷ []) = none
-all_ended (l ∷ (m ∷ ms)) = elim (all_ended (m ∷ ms)) [ none ↦ none | some ls ↦ some (l ∷ ls) ]
+all_ended [] = None
+all_ended ([] ∷ []) = Some []
+all_ended ((c ∷ t) ∷ []) = None
+all_ended (l ∷ (m ∷ ms)) = elim (all_ended (m ∷ ms)) [ None ↦ None | Some ls ↦ Some (l ∷ ls) ]
 
 -- the lines of a text, each ended by a line feed; none where the last is not ended
 unfoldable pub lines_of : List ℕ → Option (List (List ℕ))

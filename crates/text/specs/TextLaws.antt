@@ -1,22 +1,28 @@
 -- Laws of text: pieces and lines from the front, numbers byte after byte. Assumes nothing.
-use Rattle.std.specs.Prelude.{ℕ, suc, ◌+◌, ◌-◌, ◌*◌, ◌≤◌, ◌<◌, ◌≡◌, refl, Bool, true, false, not, ◌&&◌, List, [], ◌∷◌, ◌++◌, eqb, leb, length, take, drop, get_or}
-use Rattle.std.proofs.Common.{sym, ap, ◌∙◌, true≢false, add-one, arith, drop_of_length-le, length-append, drop-cons, eq-eqb, ne_eqb, leb-true, leb-false, le-leb}
-use Rattle.std.proofs.Math.Option.{Option, none, some}
+use Rattle.std.specs.Prelude.{ℕ, suc, ◌+◌, ◌-◌, ◌*◌, ◌≤◌, ◌<◌, ◌≡◌, refl, Bool, true, false, not, ◌&&◌, List, [], ◌∷◌, ◌++◌, eqb, leb, length, take, drop, get_or, Option, None, Some}
+use Rattle.std.proofs.Common.{sym, ap, ◌∙◌, true≢false, add-one, arith, drop_of_length-le, length-append, drop-cons, eq-eqb, ne_eqb, leb-true, leb-false, ltb-true, ltb-false, le-leb}
 use Rattle.std.proofs.Math.Seq.{take-append_seam, drop-append-add}
 use Rattle.std.proofs.lemmas.Bool.{lt-leb}
+use Rattle.std.proofs.lemmas.List.Recursion.{is_position_or_len}
+use Rattle.std.specs.List.{position, position_or_len}
+use Rattle.std.specs.Prelude.{cond, ltb, nat_eq}
+use Rattle.std.specs.Cmp.Lexicographic.{pointwise}
 use Rattle.bits.specs.Basics.{pick, every}
-use Rattle.bits.specs.BasicsLaws.{both_true}
 use Rattle.text.specs.Text.{line_feed, is_digit, is_number, value_from, number_up_to, onto, pieces, all_ended, lines_of, same}
-use Rattle.text.specs.ReadingForms.{count_before, digit_of, digits_from, line_before, without}
+use Rattle.text.specs.ReadingForms.{count_before, TextFound, digit_of, digits_from, line_before, without}
 
 -- ---- tests
 -- nothing is not something
-pub none_some : {A B : Type 0} {x : A} → none ≡ some x → B
+pub none_some : {A B : Type 0} {x : A} → None ≡ Some x → B
 none_some q = let z : ◌≡◌ {A = ℕ} 0 1 = cc in absurd (omega arith)
 
 and_off : (a b : Bool) → b ≡ false → (a && b) ≡ false
 and_off true b e = e
 and_off false b e = refl
+
+pick_cond : (a : Bool) (m n : ℕ) → pick a m (suc n) ≡ cond a m (1 + n)
+pick_cond true m n = refl
+pick_cond false m n = omega arith
 
 pick_self : (a : Bool) → pick a true false ≡ a
 pick_self true = refl
@@ -51,7 +57,29 @@ pub count_end : (b : ℕ) (t : List ℕ) (i : ℕ) → length t ≤ i → count_
 unfolding count_before
 count_end b t i h = rw (drop_of_length-le t h)
 
+place-in : (n m : ℕ) (b : ℕ) (t : List ℕ) → n ≡ count_before b t → m ≡ length t → n ≤ m → TextFound b t (cond (ltb n m) (Some n) None)
+place-in n m b t e f h = go (ltb n m) refl
+  where
+    go : (q : Bool) → ltb n m ≡ q → TextFound b t (cond q (Some n) None)
+    go true q = record { count = e; within = rw f at (ltb-true n m q) }
+    go false q = omega (arith, ltb-false n m q)
+
+-- the place of the first, as std's `position` has it
+pub text_found : (b : ℕ) (t : List ℕ) (r : Option ℕ) → r ≡ position (λ c. eqb c b) t → TextFound b t r
+unfolding count_before
+text_found b t r e =
+    let is : count_before b t ≡ position_or_len (λ c. eqb c b) t = is_position_or_len (count_before b) (λ c. eqb c b) refl (λ c cs. pick_cond (eqb c b) _ _) t in
+    rw e (place-in _ _ b t (sym is) refl (omega (arith, is, count_le b t)))
+
 -- ---- two texts
+-- std's `==` of two slices
+pub same_pointwise : (t u : List ℕ) → pointwise nat_eq t u ≡ same t u
+unfolding same
+same_pointwise [] [] = refl
+same_pointwise [] (d ∷ u) = refl
+same_pointwise (c ∷ t) [] = refl
+same_pointwise (c ∷ t) (d ∷ u) = rw (same_pointwise t u)
+
 -- texts of other lengths differ
 pub same_length : (t u : List ℕ) → (length t ≡ length u → ⊥) → same t u ≡ false
 unfolding same
@@ -73,45 +101,42 @@ unfolding same
 same_end t u i h k = rw (drop_of_length-le t h, drop_of_length-le u k)
 
 -- ---- digits byte after byte
-digit_told : (c d : ℕ) → d ≡ digit_of c → d ≤ 9 → (is_digit c ≡ true) × (c - 48 ≡ d)
+digit_told : (c d : ℕ) → digit_of c ≡ Some d → (is_digit c ≡ true) × (c - 48 ≡ d)
 digit_told c d = go (is_digit c)
   where
-    go : (b : Bool) → d ≡ pick b (c - 48) 10 → d ≤ 9 → (b ≡ true) × (c - 48 ≡ d)
-    go true e h = (refl, sym e)
-    go false e h = absurd (omega arith)
+    go : (b : Bool) → pick b (Some (c - 48)) None ≡ Some d → (b ≡ true) × (c - 48 ≡ d)
+    go true e = (refl, cc)
+    go false e = none_some e
 
-digit_other : (c d : ℕ) → d ≡ digit_of c → 9 < d → is_digit c ≡ false
-digit_other c d e h = go (is_digit c) refl
+digit_other : (c : ℕ) → digit_of c ≡ None → is_digit c ≡ false
+digit_other c = go (is_digit c)
   where
-    go : (b : Bool) → is_digit c ≡ b → b ≡ false
-    go true q =
-        let x : leb c 57 ≡ true = (both_true (leb 48 c) (leb c 57) q).1 in
-        let y : d ≡ c - 48 = e ∙ rw q in
-        absurd (omega (arith, leb-true c 57 x))
-    go false q = refl
+    go : (b : Bool) → pick b (Some (c - 48)) None ≡ None → b ≡ false
+    go true e = none_some (sym e)
+    go false e = refl
 
 -- a digit more, and the number stays within its bound
-pub digits_step : (most n d : ℕ) (t : List ℕ) (i : ℕ) → i < length t → d ≡ digit_of (get_or t i 0) → d ≤ 9 → 10 * n + d ≤ most
+pub digits_step : (most n d : ℕ) (t : List ℕ) (i : ℕ) → i < length t → digit_of (get_or t i 0) ≡ Some d → 10 * n + d ≤ most
     → digits_from most n (drop i t) ≡ digits_from most (10 * n + d) (drop (i + 1) t)
 unfolding digits_from
-digits_step most n d t i h e nine fits =
-    let told = digit_told (get_or t i 0) d e nine in
+digits_step most n d t i h e fits =
+    let told = digit_told (get_or t i 0) d e in
     rw (add-one, drop-cons t i 0 h, told.0, told.1, le-leb (10 * n + d) most fits)
 
 -- a byte that is no digit
-pub digits_other : (most n d : ℕ) (t : List ℕ) (i : ℕ) → i < length t → d ≡ digit_of (get_or t i 0) → 9 < d → digits_from most n (drop i t) ≡ none
+pub digits_other : (most n : ℕ) (t : List ℕ) (i : ℕ) → i < length t → digit_of (get_or t i 0) ≡ None → digits_from most n (drop i t) ≡ None
 unfolding digits_from
-digits_other most n d t i h e nine = rw (drop-cons t i 0 h, digit_other (get_or t i 0) d e nine)
+digits_other most n t i h e = rw (drop-cons t i 0 h, digit_other (get_or t i 0) e)
 
 -- a digit that passes the bound
-pub digits_past : (most n d : ℕ) (t : List ℕ) (i : ℕ) → i < length t → d ≡ digit_of (get_or t i 0) → d ≤ 9 → most < 10 * n + d
-    → digits_from most n (drop i t) ≡ none
+pub digits_past : (most n d : ℕ) (t : List ℕ) (i : ℕ) → i < length t → digit_of (get_or t i 0) ≡ Some d → most < 10 * n + d
+    → digits_from most n (drop i t) ≡ None
 unfolding digits_from
-digits_past most n d t i h e nine past =
-    let told = digit_told (get_or t i 0) d e nine in
+digits_past most n d t i h e past =
+    let told = digit_told (get_or t i 0) d e in
     rw (drop-cons t i 0 h, told.0, told.1, lt-leb (10 * n + d) most past)
 
-pub digits_end : (most n : ℕ) (t : List ℕ) (i : ℕ) → length t ≤ i → digits_from most n (drop i t) ≡ some n
+pub digits_end : (most n : ℕ) (t : List ℕ) (i : ℕ) → length t ≤ i → digits_from most n (drop i t) ≡ Some n
 unfolding digits_from
 digits_end most n t i h = rw (drop_of_length-le t h)
 
@@ -120,12 +145,12 @@ unfolding value_from
 value_grows n [] = omega arith
 value_grows n (c ∷ t) = omega (arith, value_grows (10 * n + (c - 48)) t)
 
-pick-none : (a b : Bool) (v : Option ℕ) → b ≡ false → pick (a && b) v none ≡ none
+pick-none : (a b : Bool) (v : Option ℕ) → b ≡ false → pick (a && b) v None ≡ None
 pick-none true b v e = rw e
 pick-none false b v e = refl
 
 -- digits read byte after byte: all of them digits, and the number within its bound
-pub digits_are : (most n : ℕ) (t : List ℕ) → n ≤ most → digits_from most n t ≡ pick (every is_digit t && leb (value_from n t) most) (some (value_from n t)) none
+pub digits_are : (most n : ℕ) (t : List ℕ) → n ≤ most → digits_from most n t ≡ pick (every is_digit t && leb (value_from n t) most) (Some (value_from n t)) None
 unfolding digits_from value_from every
 digits_are most n [] h = rw (le-leb n most h)
 digits_are most n (c ∷ t) h = go (is_digit c) (leb m most) refl (λ k. digits_are most m t k)
@@ -134,21 +159,21 @@ digits_are most n (c ∷ t) h = go (is_digit c) (leb m most) refl (λ k. digits_
     m = 10 * n + (c - 48)
 
     go : (a b : Bool) → leb m most ≡ b
-        → (m ≤ most → digits_from most m t ≡ pick (every is_digit t && leb (value_from m t) most) (some (value_from m t)) none)
-        → pick (a && b) (digits_from most m t) none ≡ pick (pick a (every is_digit t) false && leb (value_from m t) most) (some (value_from m t)) none
+        → (m ≤ most → digits_from most m t ≡ pick (every is_digit t && leb (value_from m t) most) (Some (value_from m t)) None)
+        → pick (a && b) (digits_from most m t) None ≡ pick (pick a (every is_digit t) false && leb (value_from m t) most) (Some (value_from m t)) None
     go true true e next = next (leb-true m most e)
     go true false e next =
-        sym (pick-none (every is_digit t) (leb (value_from m t) most) (some (value_from m t))
+        sym (pick-none (every is_digit t) (leb (value_from m t) most) (Some (value_from m t))
         (lt-leb (value_from m t) most (omega (arith, leb-false m most e, value_grows m t))))
     go false b e next = refl
 
 -- ---- numbers
-pub number_empty : (most : ℕ) (t : List ℕ) → length t ≡ 0 → number_up_to most t ≡ none
+pub number_empty : (most : ℕ) (t : List ℕ) → length t ≡ 0 → number_up_to most t ≡ None
 unfolding number_up_to is_number
 number_empty most [] h = refl
 number_empty most (c ∷ t) h = absurd (omega arith)
 
-pub number_zeros : (most : ℕ) (t : List ℕ) → 1 < length t → get_or t 0 0 ≡ 48 → number_up_to most t ≡ none
+pub number_zeros : (most : ℕ) (t : List ℕ) → 1 < length t → get_or t 0 0 ≡ 48 → number_up_to most t ≡ None
 unfolding number_up_to is_number
 number_zeros most [] h e = absurd (omega arith)
 number_zeros most (c ∷ []) h e = absurd (omega arith)
@@ -171,11 +196,11 @@ number_more most (c ∷ d ∷ t) h n =
     sym (digits_are most 0 (c ∷ d ∷ t) (omega arith) ∙ rw (← and_pick (is_digit c) (not (eqb c 48)) (pick (is_digit d) (every is_digit t) false) (rw (ne_eqb c 48 n))))
 
 -- a number that was read is within its bound
-pub number_le : (most n : ℕ) (t : List ℕ) → number_up_to most t ≡ some n → n ≤ most
+pub number_le : (most n : ℕ) (t : List ℕ) → number_up_to most t ≡ Some n → n ≤ most
 unfolding number_up_to
 number_le most n t = go (is_number t) (leb (value_from 0 t) most) refl
   where
-    go : (a b : Bool) → leb (value_from 0 t) most ≡ b → pick (a && b) (some (value_from 0 t)) none ≡ some n → n ≤ most
+    go : (a b : Bool) → leb (value_from 0 t) most ≡ b → pick (a && b) (Some (value_from 0 t)) None ≡ Some n → n ≤ most
     go true true e q = let v : value_from 0 t ≡ n = cc in omega (arith, leb-true (value_from 0 t) most e)
     go true false e q = none_some q
     go false b e q = none_some q
@@ -260,22 +285,22 @@ unfolding all_ended
 ended-step l [] h = absurd (omega arith)
 ended-step [] (m ∷ ms) h = go (all_ended (m ∷ ms))
   where
-    go : (o : Option (List (List ℕ))) → (elim o [ none ↦ none | some ls ↦ some ([] ∷ ls) ]) ≡ line_before [] o
-    go none = refl
-    go (some ls) = refl
+    go : (o : Option (List (List ℕ))) → (elim o [ None ↦ None | Some ls ↦ Some ([] ∷ ls) ]) ≡ line_before [] o
+    go None = refl
+    go (Some ls) = refl
 ended-step (c ∷ l) (m ∷ ms) h = go (all_ended (m ∷ ms))
   where
-    go : (o : Option (List (List ℕ))) → (elim o [ none ↦ none | some ls ↦ some ((c ∷ l) ∷ ls) ]) ≡ line_before (c ∷ l) o
-    go none = refl
-    go (some ls) = refl
+    go : (o : Option (List (List ℕ))) → (elim o [ None ↦ None | Some ls ↦ Some ((c ∷ l) ∷ ls) ]) ≡ line_before (c ∷ l) o
+    go None = refl
+    go (Some ls) = refl
 
-pub lines_none : (t : List ℕ) → length t ≡ 0 → lines_of t ≡ some []
+pub lines_none : (t : List ℕ) → length t ≡ 0 → lines_of t ≡ Some []
 unfolding lines_of pieces all_ended
 lines_none [] h = refl
 lines_none (c ∷ t) h = absurd (omega arith)
 
 -- a last line that is not ended
-pub lines_open : (t : List ℕ) → 0 < length t → count_before line_feed t ≡ length t → lines_of t ≡ none
+pub lines_open : (t : List ℕ) → 0 < length t → count_before line_feed t ≡ length t → lines_of t ≡ None
 unfolding lines_of all_ended
 lines_open [] h e = absurd (omega arith)
 lines_open (c ∷ t) h e = rw (pieces_last line_feed (c ∷ t) e)

@@ -1,9 +1,11 @@
 -- Text put into a lent slice, and forms of the definitions of Text that writing digit after digit follows (document 01, "Refused for the state met", the listing;
 -- document 02, §2, refusal 20; §3, signed numbers).
-use Rattle.std.specs.Prelude.{ℕ, zero, suc, ◌+◌, ◌/◌, ◌%◌, ◌≤◌, ◌≡◌, Bool, List, [], ◌∷◌, ◌++◌, eqb, leb, ℤ, length, take, drop}
+use Rattle.std.specs.Prelude.{ℕ, zero, suc, ◌+◌, ◌/◌, ◌%◌, ◌≤◌, ◌≡◌, Bool, List, [], ◌∷◌, ◌++◌, eqb, leb, ℤ, Result, Ok, Err, length, take, drop}
 use Rattle.bits.specs.Basics.{pick, unless}
+use Rattle.bits.specs.declared.refusal.Refusal.{Refusal}
+use Rattle.bits.specs.Refusals.{Answer, done, answer_of}
+use Rattle.bits.specs.Calls.{unless_refused}
 use Rattle.text.specs.Text.{digits_before, decimal, signed_decimal}
-use Rattle.text.specs.declared.Written.{Written}
 
 -- a text put at a place: the bytes before it and behind it stay
 unfoldable pub put_text : List ℕ → ℕ → List ℕ → List ℕ
@@ -28,13 +30,18 @@ pub record PutInRoom (bytes : List ℕ) (at : ℕ) (t : List ℕ) (r : ℕ) (aft
 abbrev pub text_refusal : List ℕ → ℕ → ℕ
 text_refusal t room = unless (leb (length t) room) 20
 
--- the number of a refusal and nothing written, or 0 and how far it wrote
-abbrev pub text_answer : ℕ → List ℕ → Written
-text_answer refusal t = record { refused = refusal; bytes = pick (eqb refusal 0) (length t) 0 }
+-- the refusal, or how far it wrote
+abbrev pub text_answer : ℕ → List ℕ → Answer ℕ
+text_answer refusal t = unless_refused refusal (done (length t))
+
+-- how far that is, nothing where it is refused
+abbrev pub bytes_written : Result ℕ Refusal → ℕ
+bytes_written (Ok n) = n
+bytes_written (Err e) = 0
 
 -- r is the answer, and every byte of the slice: the text and behind it what was there, or where the call is refused all as it was
-pub record TextWritten (refusal : ℕ) (t out : List ℕ) (r : Written) (after : List ℕ) : Type 0 where
-  pub answer : r ≡ text_answer refusal t
+pub record TextWritten (refusal : ℕ) (t out : List ℕ) (r : Result ℕ Refusal) (after : List ℕ) : Type 0 where
+  pub answer : answer_of r ≡ text_answer refusal t
   pub left : after ≡ pick (eqb refusal 0) (put_text out 0 t) out
 
 -- ---- digits

@@ -1,13 +1,13 @@
 -- Laws of written text: a decimal number, a line and its fields are read back. Assumes nothing.
-use Rattle.std.specs.Prelude.{ℕ, zero, suc, ◌+◌, ◌-◌, ◌*◌, ◌/◌, ◌%◌, ◌^◌, ◌≤◌, ◌<◌, ◌≡◌, refl, Bool, true, false, not, List, [], ◌∷◌, ◌++◌, eqb, ltb, length, get_or}
+use Rattle.std.specs.Prelude.{ℕ, zero, suc, ◌+◌, ◌-◌, ◌*◌, ◌/◌, ◌%◌, ◌^◌, ◌≤◌, ◌<◌, ◌≡◌, refl, Bool, true, false, not, List, [], ◌∷◌, ◌++◌, ◌&&◌, eqb, leb, ltb, length, get_or, None, Some}
 use Rattle.std.proofs.Common.{sym, ap, ◌∙◌, true≢false, arith, length-append, eqb-true, le-leb, ltb-true, ltb-false}
-use Rattle.std.proofs.Math.Option.{some}
 use Rattle.std.proofs.Math.Nat.{pow-succ'}
 use Rattle.std.proofs.Math.Seq.{take-append_seam, drop-append-add}
 use Rattle.bits.specs.Basics.{pick, every, All}
-use Rattle.text.specs.Text.{comma, line_feed, is_digit, value_from, number_up_to, lines_of, fields_of, digits_before, decimal, joined}
+use Rattle.bits.specs.BasicsLaws.{both_true}
+use Rattle.text.specs.Text.{comma, line_feed, is_digit, is_number, value_from, number_up_to, lines_of, fields_of, digits_before, decimal, joined}
 use Rattle.text.specs.ReadingForms.{count_before, digits_from, line_before, without}
-use Rattle.text.specs.TextLaws.{digits_are, number_one, number_more, count-without, pieces-joined, pieces_whole, lines_next}
+use Rattle.text.specs.TextLaws.{count_all, digits_are, number_one, number_more, count-without, pieces-joined, pieces_whole, lines_next}
 
 -- ---- a number
 digit_is : (d : ℕ) → d < 10 → is_digit (48 + d) ≡ true
@@ -75,14 +75,14 @@ pub decimal_digits : (n : ℕ) → every is_digit (decimal n) ≡ true
 unfolding decimal every
 decimal_digits n = digits_before_lem 20 n []
 
-decimal_read : (most n : ℕ) → n < 10 ^ 20 → n ≤ most → digits_from most 0 (decimal n) ≡ some n
+decimal_read : (most n : ℕ) → n < 10 ^ 20 → n ≤ most → digits_from most 0 (decimal n) ≡ Some n
 unfolding decimal value_from
 decimal_read most n h k =
     let v : value_from 0 (digits_before 20 n []) ≡ n = value_before 20 n [] h in
     digits_are most 0 (digits_before 20 n []) (omega arith) ∙ rw (decimal_digits n, v, le-leb n most k)
 
 -- a written number is read back
-pub decimal_back : (most n : ℕ) → n < 10 ^ 20 → n ≤ most → number_up_to most (decimal n) ≡ some n
+pub decimal_back : (most n : ℕ) → n < 10 ^ 20 → n ≤ most → number_up_to most (decimal n) ≡ Some n
 unfolding decimal
 decimal_back most n h k = go (ltb n 10) refl ∙ decimal_read most n h k
   where
@@ -132,3 +132,20 @@ lines_joined l r h =
     let n = count-without line_feed l r h in
     let long : count_before line_feed (l ++ (line_feed ∷ r)) < length (l ++ (line_feed ∷ r)) = omega (arith, n, length-append l (line_feed ∷ r)) in
     lines_next (l ++ (line_feed ∷ r)) long ∙ rw (n, take-append_seam, drop-append-add)
+
+-- a number holds no comma
+digits_number : (t : List ℕ) → is_number t ≡ true → every is_digit t ≡ true
+unfolding is_number every
+digits_number [] q = absurd (true≢false (sym q))
+digits_number (c ∷ []) q = rw q
+digits_number (c ∷ d ∷ t) q =
+    let two = both_true (is_digit c && not (eqb c 48)) (pick (is_digit d) (every is_digit t) false) q in
+    rw (both_true (is_digit c) (not (eqb c 48)) two.0).0 two.1
+
+pub number_comma : (most : ℕ) (t : List ℕ) → count_before comma t < length t → number_up_to most t ≡ None
+unfolding number_up_to
+number_comma most t h = go (is_number t) refl
+  where
+    go : (b : Bool) → is_number t ≡ b → pick (b && leb (value_from 0 t) most) (Some (value_from 0 t)) None ≡ None
+    go true q = absurd (omega (arith, count_all comma t (digits_without comma t refl (digits_number t q))))
+    go false q = refl

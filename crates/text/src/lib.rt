@@ -1,171 +1,104 @@
 // Text in lent byte slices: decimal numbers, fields and lines.
 #![tactic(auto)]
 
-ghost use Rattle.std.specs.Prelude.{◌≡◌, [], ◌∷◌, ◌++◌, nat_abs};
-ghost use Rattle.text.specs.Text.{number_up_to, above_zero, below_zero, decimal, signed64, signed_decimal, same as same_text};
-ghost use Rattle.text.specs.ReadingForms.{TextFound, digit_of, digits_from, number_of, NumberWithin, signed_number_of};
+ghost use Rattle.std.specs.Prelude.{◌≡◌, ◌≤◌, Some, [], ◌∷◌, ◌++◌};
+ghost use Rattle.text.specs.Text.{number_up_to, below_zero, decimal, signed64, signed_decimal, same as same_text};
+ghost use Rattle.text.specs.ReadingForms.{TextFound, digit_of, digits_from};
 ghost use Rattle.text.specs.WritingForms.{TextPut, DigitsCounted, SignedCounted};
 
 use bits::inner::put_row;
 
-// What reading a field as a number finds.
-#[derive(Drop)]
-pub enum NumberRead {
-    Number(u64),
-    NoNumber,
-}
-
-// The same of a signed number.
-#[derive(Drop)]
-pub enum SignedRead {
-    Signed(i64),
-    NoSigned,
-}
-
-// What a call that writes a text to the front of a lent slice answers: the number of a refusal and no bytes, or 0 and how many it wrote.
-#[derive(Drop)]
-pub struct Written {
-    pub refused: u8,
-    pub bytes: usize,
-}
-
-// How many bytes stand before the first b; all of them where there is none.
-pub fn find(t: &[u8], b: u8) -> usize
+// The place of the first b, where there is one.
+pub fn find(t: &[u8], b: u8) -> Option<usize>
     ensures { TextFound b t.now result }
 {
-    let mut i = 0;
-    while i < t.len() {
-        if t[i] == b {
-            return i;
-        }
-        i += 1;
-    }
-    i
+    t.iter().position(|c| *c == b)
 }
 
 // Whether two texts are the same.
+#[tactic(auto, using(crate::specs::TextLaws::same_pointwise))]
 pub fn same(t: &[u8], u: &[u8]) -> bool
     ensures { result ≡ same_text t.now u.now }
 {
-    if t.len() != u.len() {
-        return false;
-    }
-    let mut i = 0;
-    while i < t.len() {
-        if t[i] != u[i] {
-            return false;
-        }
-        i += 1;
-    }
-    true
+    t == u
 }
 
-// A digit's number, and 10 for any other byte.
-fn digit(c: u8) -> u64
+// A digit's number.
+fn digit(c: u8) -> Option<u64>
     ensures { result ≡ digit_of c }
 {
-    if c < b'0' {
-        return 10;
+    if !c.is_ascii_digit() {
+        return None;
     }
-    if b'9' < c {
-        return 10;
-    }
-    (c - b'0') as u64
+    Some(u64::from(c - b'0'))
 }
 
 // The number that a run of digits stands for, where it is at most `most`. The value passes no bound on the way.
-fn read_digits(t: &[u8], most: u64) -> NumberRead
-    ensures { number_of result ≡ digits_from most 0 t.now }
+fn read_digits(t: &[u8], most: u64) -> Option<u64>
+    ensures { result ≡ digits_from most 0 t.now }
 {
     let mut n = 0;
-    let mut i = 0;
-    while i < t.len() {
-        let d = digit(t[i]);
-        if 9 < d {
-            return NumberRead::NoNumber;
-        }
-        if most < d {
-            return NumberRead::NoNumber;
-        }
-        if (most - d) / 10 < n {
-            return NumberRead::NoNumber;
+    for c in t {
+        let d = digit(*c)?;
+        if most < d || (most - d) / 10 < n {
+            return None;
         }
         n = 10 * n + d;
-        i += 1;
     }
-    NumberRead::Number(n)
+    Some(n)
 }
 
 // A decimal number of at most `most` with no leading zeros.
 #[tactic(auto, using(crate::specs::TextLaws::number_zeros))]
-pub fn read_number(t: &[u8], most: u64) -> NumberRead
-    ensures { number_of result ≡ number_up_to most t.now }
+pub fn read_number(t: &[u8], most: u64) -> Option<u64>
+    ensures { result ≡ number_up_to most t.now }
 {
-    if t.len() == 0 {
-        return NumberRead::NoNumber;
+    if t.is_empty() {
+        return None;
     }
-    if t.len() == 1 {
-        return read_digits(t, most);
-    }
-    if t[0] == b'0' {
-        return NumberRead::NoNumber;
+    if 1 < t.len() && t[0] == b'0' {
+        return None;
     }
     read_digits(t, most)
 }
 
-// A number that was read, as a signed one.
-fn above_zero(n: NumberRead) -> SignedRead
-    requires { NumberWithin 9223372036854775807 n }
-    ensures { signed_number_of result ≡ above_zero (number_of n) }
+// A number that was read behind a minus: any but 0.
+fn below_zero(size: u64) -> Option<i64>
+    requires { size ≤ 9223372036854775808 }
+    ensures { result ≡ below_zero (Some size) }
 {
-    match n {
-        NumberRead::Number(size) => SignedRead::Signed(size as i64),
-        NumberRead::NoNumber => SignedRead::NoSigned,
-    }
-}
-
-// One that was read behind a minus.
-fn below_zero(n: NumberRead) -> SignedRead
-    requires { NumberWithin 9223372036854775808 n }
-    ensures { signed_number_of result ≡ below_zero (number_of n) }
-{
-    let NumberRead::Number(size) = n else {
-        return SignedRead::NoSigned;
-    };
     if 0 < size {
-        return SignedRead::Signed(-1 - (size - 1) as i64);
+        return Some(-1 - (size - 1) as i64);
     }
-    SignedRead::NoSigned
+    None
 }
 
 // A signed decimal number that 64 bits hold, negative ones with a minus, none with leading zeros.
-pub fn read_signed(t: &[u8]) -> SignedRead
-    ensures { signed_number_of result ≡ signed64 t.now }
+pub fn read_signed(t: &[u8]) -> Option<i64>
+    ensures { result ≡ signed64 t.now }
 {
-    if t.len() == 0 {
-        return SignedRead::NoSigned;
+    if t.is_empty() {
+        return None;
     }
     if t[0] == b'-' {
-        return below_zero(read_number(&t[1..], 9223372036854775808));
+        return below_zero(read_number(&t[1..], 9223372036854775808)?);
     }
-    above_zero(read_number(t, 9223372036854775807))
+    let size = read_number(t, 9223372036854775807)?;
+    Some(size as i64)
 }
 
 // A text written at a place. The answer is the place behind it; where there is no room it is the place itself, and nothing is written.
 pub fn put_text(out: &mut [u8], at: usize, t: &[u8]) -> usize
     ensures { TextPut out.old at t.now result out.new }
 {
-    if out.len() < at {
-        return at;
-    }
-    if out.len() - at < t.len() {
+    if out.len() < at || out.len() - at < t.len() {
         return at;
     }
     put_row(out, at, t);
     at + t.len()
 }
 
-// How many decimal digits a number has.
+// How many decimal digits a number has. Each turn leaves a tenth, so that a `for` is no plainer.
 pub fn digit_count(n: u64) -> usize
     ensures { DigitsCounted n result }
 {
@@ -183,16 +116,11 @@ pub fn put_decimal(out: &mut [u8], at: usize, n: u64) -> usize
     ensures { TextPut out.old at (decimal n) result out.new }
 {
     let k = digit_count(n);
-    if out.len() < at {
+    if out.len() < at || out.len() - at < k {
         return at;
     }
-    if out.len() - at < k {
-        return at;
-    }
-    let mut i = at + k;
     let mut m = n;
-    while at < i {
-        i -= 1;
+    for i in (at..at + k).rev() {
         out[i] = b'0' + (m % 10) as u8;
         m /= 10;
     }
@@ -204,10 +132,7 @@ pub fn put_field(out: &mut [u8], at: usize, n: u64, behind: u8) -> usize
     ensures { TextPut out.old at (decimal n ++ (behind ∷ [])) result out.new }
 {
     let size = digit_count(n) + 1;
-    if out.len() < at {
-        return at;
-    }
-    if out.len() - at < size {
+    if out.len() < at || out.len() - at < size {
         return at;
     }
     let next = put_decimal(out, at, n);
@@ -215,21 +140,11 @@ pub fn put_field(out: &mut [u8], at: usize, n: u64, behind: u8) -> usize
     next + 1
 }
 
-// The size of a signed number: the number without its sign.
-fn size_of(z: i64) -> u64
-    ensures { result ≡ nat_abs z }
-{
-    if 0 <= z {
-        return z as u64;
-    }
-    (-1 - z) as u64 + 1
-}
-
 // How many bytes a signed number takes in decimal.
 pub fn signed_count(z: i64) -> usize
     ensures { SignedCounted z result }
 {
-    let digits = digit_count(size_of(z));
+    let digits = digit_count(z.unsigned_abs());
     if 0 <= z {
         return digits;
     }
@@ -241,15 +156,12 @@ pub fn put_signed(out: &mut [u8], at: usize, z: i64) -> usize
     ensures { TextPut out.old at (signed_decimal z) result out.new }
 {
     if 0 <= z {
-        return put_decimal(out, at, size_of(z));
+        return put_decimal(out, at, z.unsigned_abs());
     }
     let bytes = signed_count(z);
-    if out.len() < at {
-        return at;
-    }
-    if out.len() - at < bytes {
+    if out.len() < at || out.len() - at < bytes {
         return at;
     }
     out[at] = b'-';
-    put_decimal(out, at + 1, size_of(z))
+    put_decimal(out, at + 1, z.unsigned_abs())
 }

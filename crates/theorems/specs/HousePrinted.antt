@@ -1,7 +1,6 @@
 -- What document 02, §3, asks of the printed house book and codebook, sentence by sentence, of the definitions. Assumes nothing.
-use Rattle.std.specs.Prelude.{ℕ, zero, suc, ◌<◌, ◌≡◌, refl, Bool, true, false, List, [], ◌∷◌, ◌++◌, ltb, length, get_or}
+use Rattle.std.specs.Prelude.{ℕ, zero, suc, ◌<◌, ◌≡◌, refl, Bool, true, false, List, [], ◌∷◌, ◌++◌, ltb, length, get_or, Some}
 use Rattle.std.proofs.Common.{sym, ap, ◌∙◌, true≢false, append_assoc, arith, length-append, ltb-true}
-use Rattle.std.proofs.Math.Option.{some}
 use Rattle.bits.specs.Basics.{pick, Bytes, every, values_from, sum, signed_byte}
 use Rattle.bits.specs.SignedLaws.{byte_back}
 use Rattle.text.specs.Text.{line_feed, lines_of, signed64, decimal, digits_before, signed_decimal}
@@ -54,7 +53,7 @@ file_read =
 
 -- ---- the codebook's part
 -- line i is the rule's number of place i
-lines_from : (n j : ℕ) → lines_of (number_lines (values_from (λ i. signed_byte (house_sample i)) n j)) ≡ some (values_from (λ i. signed_decimal (house_sample i)) n j)
+lines_from : (n j : ℕ) → lines_of (number_lines (values_from (λ i. signed_byte (house_sample i)) n j)) ≡ Some (values_from (λ i. signed_decimal (house_sample i)) n j)
 unfolding values_from number_lines number_line
 lines_from zero j = lines_none [] refl
 lines_from (suc n) j =
@@ -63,12 +62,12 @@ lines_from (suc n) j =
     rw (byte_back z (sample_small j), append_assoc (signed_decimal z) (line_feed ∷ []) rest)
     (lines_joined (signed_decimal z) rest (signed_without line_feed refl refl z) ∙ ap (line_before (signed_decimal z)) (lines_from n (suc j)))
 
-number_lines_lem : lines_of (number_lines house_codebook) ≡ some (values_from (λ i. signed_decimal (house_sample i)) codebook_bytes 0)
+number_lines_lem : lines_of (number_lines house_codebook) ≡ Some (values_from (λ i. signed_decimal (house_sample i)) codebook_bytes 0)
 unfolding house_codebook
 number_lines_lem = lines_from codebook_bytes 0
 
 -- and is read as it
-number_read : (i : ℕ) → signed64 (signed_decimal (house_sample i)) ≡ some (house_sample i)
+number_read : (i : ℕ) → signed64 (signed_decimal (house_sample i)) ≡ Some (house_sample i)
 number_read i = (signed_text 9223372036854775808 9223372036854775807 (omega arith) (omega arith) (house_sample i) (small_between 9223372036854775808 9223372036854775807 (house_sample i) (omega (arith, sample_small i)) (omega (arith, sample_small i)))).back
 
 pub record HousePrinted : Type 0 where
@@ -78,8 +77,8 @@ pub record HousePrinted : Type 0 where
   -- the file is read as the built-in book
   pub book : (file_refusal (book_file house_book) ≡ 0) × (file_book (book_file house_book) ≡ house_book)
   -- the lines are 23,040 numbers: at each place the rule's, which is read from its line
-  pub numbers : lines_of (number_lines house_codebook) ≡ some (values_from (λ i. signed_decimal (house_sample i)) codebook_bytes 0)
-  pub number : (i : ℕ) → signed64 (signed_decimal (house_sample i)) ≡ some (house_sample i)
+  pub numbers : lines_of (number_lines house_codebook) ≡ Some (values_from (λ i. signed_decimal (house_sample i)) codebook_bytes 0)
+  pub number : (i : ℕ) → signed64 (signed_decimal (house_sample i)) ≡ Some (house_sample i)
 
 pub house_printed_lem : HousePrinted
 unfolding house_printed tables_printed

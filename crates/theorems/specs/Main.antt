@@ -1,11 +1,11 @@
 -- The main theorems of this repository, of the definitions, each stated by name and proved by one citation. What the functions promise of memory stands in their
 -- contracts; those that hand a theorem on are named beside it. Nothing is assumed: no axiom, no hole.
-use Rattle.std.specs.Prelude.{ℕ, ◌+◌, ◌*◌, ◌%◌, ◌^◌, ◌≤◌, ◌<◌, ◌≡◌, true, List, ℤ, length, get_or}
-use Rattle.std.proofs.Math.Option.{some}
+use Rattle.std.specs.Prelude.{ℕ, ◌+◌, ◌*◌, ◌%◌, ◌^◌, ◌≤◌, ◌<◌, ◌≡◌, true, List, ℤ, length, get_or, Some, Result}
 use Rattle.bits.specs.Basics.{All, Bytes, sum, signed_of}
 use Rattle.bits.specs.Bits.{bits_of}
-use Rattle.bits.specs.Calls.{done, Put}
-use Rattle.bits.specs.declared.svq1_enc.Pushed.{Pushed}
+use Rattle.bits.specs.Refusals.{done}
+use Rattle.bits.specs.Calls.{Put}
+use Rattle.bits.specs.declared.refusal.Refusal.{Refusal}
 use Rattle.code_tables.specs.Codes.{code, codes_of}
 use Rattle.code_tables.specs.Calls.{code_refusal, code_at}
 use Rattle.code_tables.specs.CallsLaws.{pushed_read}
@@ -96,16 +96,16 @@ pub the_raster_order : (t : List ℕ) → raster_test t ≡ true → RasterOrder
 the_raster_order = raster_by_test
 
 -- What is read as a signed number is in range, and one in range has one text, which is read as it. Of memory: `put_signed`, `read_signed`.
-pub a_signed_number_read : (least most : ℕ) (t : List ℕ) (z : ℤ) → signed_in least most t ≡ some z → Between least most z
+pub a_signed_number_read : (least most : ℕ) (t : List ℕ) (z : ℤ) → signed_in least most t ≡ Some z → Between least most z
 a_signed_number_read = signed_within
 
 pub a_signed_number_written_and_read : (least most : ℕ) → least < 10 ^ 20 → most < 10 ^ 20 → (z : ℤ) → Between least most z → SignedText least most z
 a_signed_number_written_and_read = signed_text
 
 -- What `push_code` writes with any table that it takes, `read_code` reads.
-pub a_code_written_and_read : (s : List ℕ) (at : ℕ) (t : List ℕ) (k : ℕ) (r : Pushed) (left : List ℕ)
+pub a_code_written_and_read : (s : List ℕ) (at : ℕ) (t : List ℕ) (k : ℕ) (r : Result ℕ Refusal) (left : List ℕ)
     → Put (code_refusal (length s) at t k) s at (code (codes_of t) k) r left → code_refusal (length s) at t k ≡ 0
-    → code_at left at t ≡ done (record { value = k; next = at + length (code (codes_of t) k) })
+    → code_at left at t ≡ done (record { position = k; next = at + length (code (codes_of t) k) })
 a_code_written_and_read = pushed_read
 
 -- Document 02, §2: a book has one file, which is refused and read as the book is; the sentences are the fields of `BookFiles` (theorems/BookFiles).
@@ -154,5 +154,5 @@ pub never_above_the_stated : (g : Given) (t : Task) (out : List ℕ) (start : �
     → (write_plane g t (bits_of out) start a).refusal ≡ 0 → visible_total (left_plane g t out start a) ≤ stated_total g t out start a
 never_above_the_stated = total_at_most
 
-pub whole_macroblocks_as_before : (f : Files) → Bytes f.source → Bytes f.reference → ((j : Job) → job_in f.job ≡ some j → (j.width % 16 ≡ 0) × (j.height % 16 ≡ 0)) → listing f ≡ stated_listing f
+pub whole_macroblocks_as_before : (f : Files) → Bytes f.source → Bytes f.reference → ((j : Job) → job_in f.job ≡ Some j → (j.width % 16 ≡ 0) × (j.height % 16 ≡ 0)) → listing f ≡ stated_listing f
 whole_macroblocks_as_before = listing_as_before

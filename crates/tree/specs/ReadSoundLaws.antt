@@ -13,9 +13,7 @@ use Rattle.bits.specs.Basics.{natural}
 use Rattle.bits.specs.Bits.{bits_of, val_of}
 use Rattle.bits.specs.BitsLaws.{length_bits_of}
 use Rattle.bits.specs.ReadLaws.{run_lt}
-use Rattle.code_tables.specs.Codes.{Got, got, bad, then, code_got, read_code, take_code, take_bits}
-use Rattle.code_tables.specs.declared.svq1_vlc.CodeRead.{CodeRead}
-use Rattle.code_tables.specs.declared.svq1_vlc.CodeRead.TheVariants as code
+use Rattle.code_tables.specs.Codes.{CodeRead, Code, NoCode, Ends as Cut, Got, got, bad, then, code_got, read_code, take_code, take_bits}
 use Rattle.book.specs.Book.{Tables, tables_of, book_refusal}
 use Rattle.book.specs.BookLaws.{GoodTables, good_tables}
 use Rattle.book.specs.declared.svq1_vlc.Svq1Half.{Svq1Half}
@@ -61,13 +59,13 @@ unfolding take_code
 code_read cs s bits k r f e = go (read_code cs bits 0) refl e
   where
     go : (c : CodeRead) → read_code cs bits 0 ≡ c → code_got bits c ≡ got k r → (k < length cs) × From s r
-    go (code.Code j next) q g =
+    go (Code j next) q g =
         let i = code_in cs bits 0 j next (omega arith) q in
         let same : j ≡ k = cc in
         let left : drop next bits ≡ r = cc in
         (rw same at i.there, from_same s (drop next bits) r left (from_drop s bits next f))
-    go code.NoCode q g = never 10 k r g
-    go code.Ends q g = never 24 k r g
+    go NoCode q g = never 10 k r g
+    go Cut q g = never 24 k r g
 
 -- four bits are below 16
 nibble : (s bits : List ℕ) (j : ℕ) (r : List ℕ) → From s bits → take_bits 4 bits ≡ got j r → (j < 16) × From s r

@@ -1,8 +1,9 @@
 -- What the functions of `walk` ask, write and find (document 01, `svq1_enc_tree.rs`, "Reading", over the definitions of TreeBits).
-use Rattle.std.specs.Prelude.{◌≡◌, List, [], ◌∷◌, ℕ, zero, suc, ◌*◌, ◌≤◌, eqb, length, get_or, drop}
-use Rattle.bits.specs.Basics.{pick}
+use Rattle.std.specs.Prelude.{◌≡◌, List, [], ◌∷◌, ℕ, zero, suc, ◌*◌, ◌≤◌, length, get_or, drop, Result, Ok, Err, IfOk}
 use Rattle.bits.specs.Bits.{bits_of}
 use Rattle.bits.specs.BitNeeds.{Fits}
+use Rattle.bits.specs.Refusals.{number_of}
+use Rattle.bits.specs.declared.refusal.Refusal.{Refusal}
 use Rattle.code_tables.specs.Codes.{Got, got, bad}
 use Rattle.book.specs.Book.{Tables, tables_of, book_refusal}
 use Rattle.book.specs.declared.svq1_vlc.Svq1Half.{Svq1Half}
@@ -65,21 +66,23 @@ pub record Reads (book : List ℕ) (d bytes at : ℕ) : Type 0 where
   pub from : Fits bytes at 0
 
 -- what an answer means: a refusal's number, or what was read and the bits left
-abbrev pub node_got : List ℕ → ReadNode → Got Node
-node_got bits r = pick (eqb r.refused 0) (got (node_of r.block) (drop r.next bits)) (bad r.refused)
+abbrev pub node_got : List ℕ → Result ReadNode Refusal → Got Node
+node_got bits (Ok r) = got (node_of r.block) (drop r.next bits)
+node_got bits (Err e) = bad (number_of e)
 
-abbrev pub tree_got : List ℕ → ReadTree → Got (List Node)
-tree_got bits r = pick (eqb r.refused 0) (got (tree_of r.blocks) (drop r.next bits)) (bad r.refused)
+abbrev pub tree_got : List ℕ → Result ReadTree Refusal → Got (List Node)
+tree_got bits (Ok r) = got (tree_of r.blocks) (drop r.next bits)
+tree_got bits (Err e) = bad (number_of e)
 
 -- what stands at bit `at` of the bytes s, as a leaf, as a reached block and as a tree
-pub record LeafHere (T : Tables) (d : ℕ) (s : List ℕ) (at : ℕ) (r : ReadNode) : Type 0 where
+pub record LeafHere (T : Tables) (d : ℕ) (s : List ℕ) (at : ℕ) (r : Result ReadNode Refusal) : Type 0 where
   pub is : node_got (bits_of s) r ≡ as_node (read_leaf T d (drop at (bits_of s)))
-  pub within : r.next ≤ 8 * length s
+  pub within : IfOk r (λ x. x.next ≤ 8 * length s)
 
-pub record NodeHere (T : Tables) (d : ℕ) (s : List ℕ) (at : ℕ) (r : ReadNode) : Type 0 where
+pub record NodeHere (T : Tables) (d : ℕ) (s : List ℕ) (at : ℕ) (r : Result ReadNode Refusal) : Type 0 where
   pub is : node_got (bits_of s) r ≡ read_node T d (drop at (bits_of s))
-  pub within : r.next ≤ 8 * length s
+  pub within : IfOk r (λ x. x.next ≤ 8 * length s)
 
-pub record TreeHere (T : Tables) (d : ℕ) (s : List ℕ) (at : ℕ) (r : ReadTree) : Type 0 where
+pub record TreeHere (T : Tables) (d : ℕ) (s : List ℕ) (at : ℕ) (r : Result ReadTree Refusal) : Type 0 where
   pub is : tree_got (bits_of s) r ≡ read_tree T d (drop at (bits_of s))
-  pub within : r.next ≤ 8 * length s
+  pub within : IfOk r (λ x. x.next ≤ 8 * length s)

@@ -1,28 +1,27 @@
 -- Laws of reading a tree block by block into an array.
 -- Assumes nothing.
-use Rattle.std.specs.Prelude.{◌≡◌, Bool, true, false, eqb, length, get_or, set, take}
+use Rattle.std.specs.Prelude.{◌≡◌, Bool, true, false, length, get_or, set, take, Result, Ok, Err}
 use Rattle.std.proofs.Math.Path.{refl, sym, ap}
-use Rattle.std.proofs.Common.{◌∙◌, add-one, eq-eqb, ne_eqb, length-append, drop_of_length-le}
+use Rattle.std.proofs.Common.{◌∙◌, add-one, length-append, drop_of_length-le}
 use mathlib.Core.List.{List, [], ◌∷◌, ◌++◌, append-nil}
 use Prim.Native.Nat.{ℕ, zero, suc, ◌+◌, ◌-◌, ◌*◌, ◌≤◌, ◌<◌}
 use native.Mathlib.Omega.{arith}
 use Rattle.std.proofs.Math.ListN.{drop, replicate}
 use Rattle.std.proofs.Math.Seq.{append_snoc, drop-cons}
 use Rattle.std.proofs.lemmas.List.{set_at}
-use Rattle.bits.specs.Basics.{pick}
 use Rattle.bits.specs.Bits.{bits_of, val_of}
 use Rattle.bits.specs.BitsLaws.{length_bits_of}
+use Rattle.bits.specs.Refusals.{number_of}
+use Rattle.bits.specs.declared.refusal.Refusal.{Refusal}
 use Rattle.code_tables.specs.Codes.{Got, got, bad, then}
 use Rattle.book.specs.Book.{Tables, tables_of, mean_table, stage_family, stage_table}
 use Rattle.book.specs.declared.svq1_vlc.Svq1Half.{Svq1Half}
-use Rattle.leaf.specs.Leaf.{Leaf}
 use Rattle.leaf.specs.LentNeeds.{lent_tables, LeafRead}
 use Rattle.leaf.specs.LentReadLaws.{book_read_lem}
-use Rattle.leaf.specs.LeafForms.{leaf_of}
 use Rattle.leaf.specs.declared.svq1_plane.inner.ReadLeaf.{ReadLeaf}
 use Rattle.leaf.specs.LeafBits.{read_leaf}
 use Rattle.tree.specs.Blocks.{block_count, level, first}
-use Rattle.tree.specs.TreeBits.{Node, Off, Split, Ends, reached, as_node, read_node, read_if, read_from, read_tree}
+use Rattle.tree.specs.TreeBits.{Node, Off, Split, reached, as_node, read_node, read_if, read_from, read_tree}
 use Rattle.tree.specs.NodeForms.{node_of, tree_of}
 use Rattle.tree.specs.WalkNeeds.{node_got, LeafHere, NodeHere, TreeHere}
 use Rattle.tree.specs.WalkNeedsLaws.{tree_set, reached_front}
@@ -31,28 +30,21 @@ use Rattle.tree.specs.declared.svq1_enc_tree.Block.{Block}
 use Rattle.tree.specs.declared.svq1_enc_tree.inner.walk.ReadNode.{ReadNode}
 
 -- ---- one block
-node_done : (bits : List ℕ) (g : ReadNode) → g.refused ≡ 0 → got (node_of g.block) (drop g.next bits) ≡ node_got bits g
-node_done bits g z = sym (rw (eq-eqb g.refused 0 z))
-
-node_bad : (bits : List ℕ) (g : ReadNode) → (g.refused ≡ 0 → ⊥) → bad g.refused ≡ node_got bits g
-node_bad bits g z = sym (rw (ne_eqb g.refused 0 z))
-
 -- a leaf by the tables of a book
-as_node_lem : (b : Bool) (l : Leaf) (rest : List ℕ) (n : ℕ) → pick b (got (Ends l) rest) (bad n) ≡ as_node (pick b (got l rest) (bad n))
-as_node_lem true l rest n = refl
-as_node_lem false l rest n = refl
+by_book : (book : List ℕ) (half : Svq1Half) (d : ℕ) (stage mean bits : List ℕ) → stage ≡ stage_table d (stage_family half book) → mean ≡ mean_table half book
+    → read_leaf (lent_tables half stage mean) d bits ≡ read_leaf (tables_of book half) d bits
+by_book book half d stage mean bits is-stage is-mean = rw (is-stage, is-mean) (book_read_lem book half d bits)
 
 pub leaf_here : (book : List ℕ) (half : Svq1Half) (d : ℕ) (stage mean s : List ℕ) (at : ℕ) (g : ReadLeaf) → stage ≡ stage_table d (stage_family half book) → mean ≡ mean_table half book
-    → LeafRead (bits_of s) (read_leaf (lent_tables half stage mean) d (drop at (bits_of s))) g
-    → LeafHere (tables_of book half) d s at (record { refused = g.refused; next = g.next; block = record { node = node.Leaf g.code; stages = g.stages } })
+    → LeafRead (bits_of s) (read_leaf (lent_tables half stage mean) d (drop at (bits_of s))) (Ok g)
+    → LeafHere (tables_of book half) d s at (Ok (record { next = g.next; block = record { node = node.Leaf g.code; stages = g.stages } }))
 leaf_here book half d stage mean s at g is-stage is-mean l =
-    let e : read_leaf (lent_tables half stage mean) d (drop at (bits_of s)) ≡ read_leaf (tables_of book half) d (drop at (bits_of s)) =
-    rw (is-stage, is-mean) (book_read_lem book half d (drop at (bits_of s))) in
-    record {
-      is = as_node_lem (eqb g.refused 0) (leaf_of g.code g.stages) (drop g.next (bits_of s)) g.refused
-          ∙ ap as_node (l.leaf ∙ e);
-      within = rw length_bits_of at l.within;
-    }
+    record { is = ap as_node (l.leaf ∙ by_book book half d stage mean (drop at (bits_of s)) is-stage is-mean); within = rw length_bits_of at l.within }
+
+pub leaf_refused : (book : List ℕ) (half : Svq1Half) (d : ℕ) (stage mean s : List ℕ) (at : ℕ) (r : Refusal) → stage ≡ stage_table d (stage_family half book) → mean ≡ mean_table half book
+    → LeafRead (bits_of s) (read_leaf (lent_tables half stage mean) d (drop at (bits_of s))) (Err r) → LeafHere (tables_of book half) d s at (Err r)
+leaf_refused book half d stage mean s at r is-stage is-mean l =
+    record { is = ap as_node (l.leaf ∙ by_book book half d stage mean (drop at (bits_of s)) is-stage is-mean); within = tt }
 
 -- a flag stands before a block above L0
 module _ (T : Tables) (d k : ℕ) (bits : List ℕ) where
@@ -135,12 +127,12 @@ module _ (T : Tables) (r : ℕ) (s : List ℕ) (whole : Got (List Node)) (t : Li
         within = g.within;
       }
 
-  module _ (d : ℕ) (deep : d ≡ level i) (n : ReadNode) (f : reached r (tree_of t) i ≡ true) (e : NodeHere T d s k n) where
-    on_from : then (node_got (bits_of s) n) more ≡ whole
-    on_from = ap (λ (x : Got Node). then x more) (e.is ∙ ap (λ (y : ℕ). read_node T y (drop k (bits_of s))) deep) ∙ rw f at one_on
+  module _ (d : ℕ) (deep : d ≡ level i) (f : reached r (tree_of t) i ≡ true) where
+    on_from : (n : Result ReadNode Refusal) → NodeHere T d s k n → then (node_got (bits_of s) n) more ≡ whole
+    on_from n e = ap (λ (x : Got Node). then x more) (e.is ∙ ap (λ (y : ℕ). read_node T y (drop k (bits_of s))) deep) ∙ rw f at one_on
 
-    pub taken : n.refused ≡ 0 → Reading T r s whole (set t i n.block) n.next (i + 1)
-    taken z =
+    pub taken : (n : ReadNode) → NodeHere T d s k (Ok n) → Reading T r s whole (set t i n.block) n.next (i + 1)
+    taken n e =
         let x = node_of n.block in
         record {
           read = g.read ++ (x ∷ []);
@@ -148,12 +140,12 @@ module _ (T : Tables) (r : ℕ) (s : List ℕ) (whole : Got (List Node)) (t : Li
           count = longer x;
           front = tree_set t i n.block ∙ rw (g.front, one_less)
               (set_at g.read Off (replicate (block_count - (i + 1)) Off) x i g.count ∙ sym (append_snoc g.read x (replicate (block_count - (i + 1)) Off)));
-          on = ap (λ (y : Got Node). then y more) (node_done (bits_of s) n z) ∙ on_from;
+          on = on_from (Ok n) e;
           within = e.within;
         }
 
-    pub refused : (n.refused ≡ 0 → ⊥) → bad n.refused ≡ whole
-    refused z = ap (λ (y : Got Node). then y more) (node_bad (bits_of s) n z) ∙ on_from
+    pub refused : (n : Refusal) → NodeHere T d s k (Err n) → bad (number_of n) ≡ whole
+    refused n e = on_from (Err n) e
 
 pub moved : (T : Tables) (r : ℕ) (s : List ℕ) (whole : Got (List Node)) (t t' : List Block) (k k' i : ℕ) → t' ≡ t → k' ≡ k
     → Reading T r s whole t k i → Reading T r s whole t' k' i
@@ -175,7 +167,7 @@ module _ (T : Tables) (d : ℕ) (s : List ℕ) (at : ℕ) (r : ℕ) (root : r �
         within = h;
       }
 
-  pub read_ends : (t : List Block) (k i : ℕ) → Reading T r s whole t k i → block_count ≤ i → TreeHere T d s at (record { refused = 0; next = k; blocks = t })
+  pub read_ends : (t : List Block) (k i : ℕ) → Reading T r s whole t k i → block_count ≤ i → TreeHere T d s at (Ok (record { next = k; blocks = t }))
   unfolding read_from
   read_ends t k i g h =
       let z : block_count - i ≡ 0 = omega arith in
@@ -184,5 +176,5 @@ module _ (T : Tables) (d : ℕ) (s : List ℕ) (at : ℕ) (r : ℕ) (root : r �
         within = g.within;
       }
 
-  pub read_refused : (t : List Block) (k n : ℕ) → (n ≡ 0 → ⊥) → k ≤ 8 * length s → bad n ≡ whole → TreeHere T d s at (record { refused = n; next = k; blocks = t })
-  read_refused t k n z h e = record { is = rw (ne_eqb n 0 z) e; within = h }
+  pub read_refused : (n : Refusal) → bad (number_of n) ≡ whole → TreeHere T d s at (Err n)
+  read_refused n e = record { is = e; within = tt }

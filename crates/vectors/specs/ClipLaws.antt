@@ -1,4 +1,4 @@
--- Laws of clipping a component to -32..31, by the tests that the code makes.
+-- Laws of clipping a component to -32..31: what lies under, over and between; and the magnitude of a sum.
 -- Assumes nothing.
 use Rattle.std.specs.Prelude.{◌≡◌, ℕ, suc, ◌+◌, ◌≤◌, ◌<◌, true, false, ℤ, pos, negsuc, ◌+ℤ◌}
 use Rattle.std.proofs.Common.{sym, ap, true≢false, arith, ltb-true, ltb-false, lt-ltb, le-ltb}

@@ -1,11 +1,9 @@
 -- Motion vectors in half samples: predictor, difference, final vector (document 01, `svq1_motion_predictor.rs`, "The book", "Reading").
-use Rattle.std.specs.Prelude.{ℕ, min, Bool, ◌&&◌, ℤ, pos, negsuc, ◌+ℤ◌, ◌-ℤ◌}
+use Rattle.std.specs.Prelude.{ℕ, min, Option, Some, None, Bool, ◌&&◌, ℤ, pos, negsuc, ◌+ℤ◌, ◌-ℤ◌}
 use Rattle.std.proofs.Math.IntN.{sub_ℕ}
 use Rattle.std.specs.Int.Signed.{lt_z, le_z}
 use Rattle.bits.specs.Basics.{pick, natural}
 use Rattle.vectors.specs.declared.svq1_motion_predictor.Svq1Mv.{Svq1Mv}
-use Rattle.vectors.specs.declared.svq1_motion_predictor.Neighbour.{Neighbour}
-use Rattle.vectors.specs.declared.svq1_motion_predictor.Neighbour.TheVariants.{Absent, Present}
 
 abbrev pub zero_mv : Svq1Mv
 zero_mv = record { x = pos 0; y = pos 0 }
@@ -24,15 +22,15 @@ abbrev pub median_mv : Svq1Mv → Svq1Mv → Svq1Mv → Svq1Mv
 median_mv a b c = record { x = median a.x b.x c.x; y = median a.y b.y c.y }
 
 -- from left, top and top right. No neighbour: zero. One: that vector. Else the median by component, zero for a missing one
-unfoldable pub predicted : Neighbour → Neighbour → Neighbour → Svq1Mv
-predicted Absent Absent Absent = zero_mv
-predicted (Present a) Absent Absent = a
-predicted Absent (Present b) Absent = b
-predicted Absent Absent (Present c) = c
-predicted (Present a) (Present b) Absent = median_mv a b zero_mv
-predicted (Present a) Absent (Present c) = median_mv a zero_mv c
-predicted Absent (Present b) (Present c) = median_mv zero_mv b c
-predicted (Present a) (Present b) (Present c) = median_mv a b c
+unfoldable pub predicted : Option Svq1Mv → Option Svq1Mv → Option Svq1Mv → Svq1Mv
+predicted None None None = zero_mv
+predicted (Some a) None None = a
+predicted None (Some b) None = b
+predicted None None (Some c) = c
+predicted (Some a) (Some b) None = median_mv a b zero_mv
+predicted (Some a) None (Some c) = median_mv a zero_mv c
+predicted None (Some b) (Some c) = median_mv zero_mv b c
+predicted (Some a) (Some b) (Some c) = median_mv a b c
 
 -- clipped to -32..31
 abbrev pub clipped : ℤ → ℤ

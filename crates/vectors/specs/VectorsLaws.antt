@@ -1,14 +1,12 @@
 -- Laws of vectors: a codable vector's difference has a code and gives the vector back; predictions stay in -32..31.
 -- Assumes nothing.
-use Rattle.std.specs.Prelude.{◌≡◌, refl, Bool, true, false, ℕ, suc, ◌+◌, ◌-◌, ◌≤◌, ◌<◌, leb, ℤ, pos, negsuc, ◌+ℤ◌, ◌-ℤ◌}
+use Rattle.std.specs.Prelude.{◌≡◌, refl, Option, Some, None, Bool, true, false, ℕ, suc, ◌+◌, ◌-◌, ◌≤◌, ◌<◌, leb, ℤ, pos, negsuc, ◌+ℤ◌, ◌-ℤ◌}
 use Rattle.std.proofs.Common.{ap, ◌∙◌, arith, leb-true, le-leb, lt-ltb, le-ltb}
 use Rattle.std.proofs.Math.IntN.{+ℤ_comm, -ℤ-+ℤ_cancel}
 use Rattle.std.specs.Int.Signed.{mag, lt_z}
 use Rattle.bits.specs.Basics.{pick}
 use Rattle.bits.specs.BasicsLaws.{both_true}
 use Rattle.vectors.specs.declared.svq1_motion_predictor.Svq1Mv.{Svq1Mv}
-use Rattle.vectors.specs.declared.svq1_motion_predictor.Neighbour.{Neighbour}
-use Rattle.vectors.specs.declared.svq1_motion_predictor.Neighbour.TheVariants.{Absent, Present}
 use Rattle.vectors.specs.Vectors.{zero_mv, min_z, max_z, median, median_mv, predicted, clipped, final_mv, difference_mv, in_range, codable, place_of, difference_at}
 
 -- ---- in -32..31
@@ -83,9 +81,9 @@ zero_inside = record { x_in = refl; y_in = refl }
 
 -- ---- a prediction from vectors in -32..31 is in -32..31
 -- an absent neighbour too
-abbrev pub InsideIf : Neighbour → Type 0
-InsideIf Absent = Unit
-InsideIf (Present v) = Inside v
+abbrev pub InsideIf : Option Svq1Mv → Type 0
+InsideIf None = Unit
+InsideIf (Some v) = Inside v
 
 pick_in : (f : Bool) (a b : ℤ) → InRange a → InRange b → InRange (pick f a b)
 pick_in true a b h k = h
@@ -105,16 +103,16 @@ median_mv_in : (a b c : Svq1Mv) → Inside a → Inside b → Inside c → Insid
 median_mv_in a b c h k l =
     record { x_in = median_in a.x b.x c.x h.x_in k.x_in l.x_in; y_in = median_in a.y b.y c.y h.y_in k.y_in l.y_in }
 
-pub predicted_in : (a b c : Neighbour) → InsideIf a → InsideIf b → InsideIf c → Inside (predicted a b c)
+pub predicted_in : (a b c : Option Svq1Mv) → InsideIf a → InsideIf b → InsideIf c → Inside (predicted a b c)
 unfolding predicted
-predicted_in Absent Absent Absent h k l = zero_inside
-predicted_in (Present a) Absent Absent h k l = h
-predicted_in Absent (Present b) Absent h k l = k
-predicted_in Absent Absent (Present c) h k l = l
-predicted_in (Present a) (Present b) Absent h k l = median_mv_in a b zero_mv h k zero_inside
-predicted_in (Present a) Absent (Present c) h k l = median_mv_in a zero_mv c h zero_inside l
-predicted_in Absent (Present b) (Present c) h k l = median_mv_in zero_mv b c zero_inside k l
-predicted_in (Present a) (Present b) (Present c) h k l = median_mv_in a b c h k l
+predicted_in None None None h k l = zero_inside
+predicted_in (Some a) None None h k l = h
+predicted_in None (Some b) None h k l = k
+predicted_in None None (Some c) h k l = l
+predicted_in (Some a) (Some b) None h k l = median_mv_in a b zero_mv h k zero_inside
+predicted_in (Some a) None (Some c) h k l = median_mv_in a zero_mv c h zero_inside l
+predicted_in None (Some b) (Some c) h k l = median_mv_in zero_mv b c zero_inside k l
+predicted_in (Some a) (Some b) (Some c) h k l = median_mv_in a b c h k l
 
 -- it fits in 32 bits
 pub difference_small : (d : ℤ) → InRange d → mag d < 2147483648

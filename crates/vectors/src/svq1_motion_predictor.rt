@@ -2,16 +2,17 @@
 pub mod inner;
 
 ghost use Rattle.std.specs.Prelude.{◌≡◌, ◌+ℤ◌};
-ghost use Rattle.vectors.specs.Vectors.{zero_mv, min_z, max_z, median, median_mv, predicted, clipped, final_mv};
+ghost use Rattle.vectors.specs.Vectors.{median, median_mv, predicted, clipped, final_mv};
 
 // A motion vector, in half samples.
-#[derive(Clone, Copy)]
+#[derive(Clone, Copy, Debug, PartialEq, Eq)]
 pub struct Svq1Mv {
     pub x: i32,
     pub y: i32,
 }
 
 impl Svq1Mv {
+    // The vector that SKIP and INTRA macroblocks store.
     pub const ZERO: Svq1Mv = Svq1Mv { x: 0, y: 0 };
 
     pub fn new(x: i32, y: i32) -> Self
@@ -21,37 +22,11 @@ impl Svq1Mv {
     }
 }
 
-// A neighbouring block's vector; off the plane there is none.
-#[derive(Clone, Copy)]
-pub enum Neighbour {
-    Absent,
-    Present(Svq1Mv),
-}
-
-// The vector that SKIP and INTRA macroblocks store.
-pub fn zero_vector() -> Svq1Mv
-    ensures { result ≡ zero_mv }
-{
-    Svq1Mv::ZERO
-}
-
-fn lesser(a: i32, b: i32) -> i32
-    ensures { result ≡ min_z a b }
-{
-    if a < b { a } else { b }
-}
-
-fn greater(a: i32, b: i32) -> i32
-    ensures { result ≡ max_z a b }
-{
-    if a < b { b } else { a }
-}
-
 // The middle one of three numbers.
 pub fn median3(a: i32, b: i32, c: i32) -> i32
     ensures { result ≡ median a b c }
 {
-    greater(lesser(a, b), lesser(greater(a, b), c))
+    a.min(b).max(a.max(b).min(c))
 }
 
 fn median_vector(a: Svq1Mv, b: Svq1Mv, c: Svq1Mv) -> Svq1Mv
@@ -63,58 +38,41 @@ fn median_vector(a: Svq1Mv, b: Svq1Mv, c: Svq1Mv) -> Svq1Mv
     }
 }
 
-// The predicted vector. A lone neighbour is taken as it is, and not put into a median with zeros.
-pub fn predict(left: Neighbour, top: Neighbour, top_right: Neighbour) -> Svq1Mv
+// The predicted vector from the neighbouring blocks' vectors; off the plane there is none. A lone neighbour is taken as it is, and not
+// put into a median with zeros.
+#[tactic(auto, unfolding(crate::specs::Vectors::predicted))]
+pub fn predict(left: Option<Svq1Mv>, top: Option<Svq1Mv>, top_right: Option<Svq1Mv>) -> Svq1Mv
     ensures { result ≡ predicted left top top_right }
 {
-    match left {
-        Neighbour::Present(a) => match top {
-            Neighbour::Present(b) => match top_right {
-                Neighbour::Present(c) => median_vector(a, b, c),
-                Neighbour::Absent => median_vector(a, b, Svq1Mv::ZERO),
-            },
-            Neighbour::Absent => match top_right {
-                Neighbour::Present(c) => median_vector(a, Svq1Mv::ZERO, c),
-                Neighbour::Absent => a,
-            },
-        },
-        Neighbour::Absent => match top {
-            Neighbour::Present(b) => match top_right {
-                Neighbour::Present(c) => median_vector(Svq1Mv::ZERO, b, c),
-                Neighbour::Absent => b,
-            },
-            Neighbour::Absent => match top_right {
-                Neighbour::Present(c) => c,
-                Neighbour::Absent => Svq1Mv::ZERO,
-            },
-        },
+    match (left, top, top_right) {
+        (None, None, None) => Svq1Mv::ZERO,
+        (Some(v), None, None) | (None, Some(v), None) | (None, None, Some(v)) => v,
+        _ => median_vector(
+            left.unwrap_or(Svq1Mv::ZERO),
+            top.unwrap_or(Svq1Mv::ZERO),
+            top_right.unwrap_or(Svq1Mv::ZERO),
+        ),
     }
 }
 
 fn clip_wide(v: i64) -> i32
     ensures { result ≡ clipped v }
 {
-    if v < -32 {
-        return -32;
-    }
-    if v > 31 {
-        return 31;
-    }
-    v as i32
+    v.clamp(-32, 31) as i32
 }
 
 // A component clipped to -32..31.
 pub fn clip_component(value: i32) -> i32
     ensures { result ≡ clipped value }
 {
-    clip_wide(value as i64)
+    clip_wide(i64::from(value))
 }
 
 // The sum of two components, clipped; it is made in 64 bits, where it always fits.
 fn clip_sum(a: i32, b: i32) -> i32
     ensures { result ≡ clipped (a +ℤ b) }
 {
-    clip_wide(a as i64 + b as i64)
+    clip_wide(i64::from(a) + i64::from(b))
 }
 
 // The vector of a predictor and a difference.

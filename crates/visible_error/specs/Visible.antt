@@ -1,8 +1,9 @@
 -- The error over the samples that the panel shows (document 02, §1): reconstruction against source as lent, without the columns and rows that are repeated beyond the picture.
-use Rattle.std.specs.Prelude.{ℕ, ◌+◌, ◌-◌, ◌*◌, ◌/◌, ◌%◌, min, List, eqb, length, get_or}
-use Rattle.bits.specs.Basics.{pick, first_of, gap, sum}
+use Rattle.std.specs.Prelude.{ℕ, ◌+◌, ◌-◌, ◌*◌, ◌/◌, ◌%◌, min, List, length, get_or}
+use Rattle.bits.specs.Basics.{first_of, gap, sum}
+use Rattle.bits.specs.Refusals.{Answer, done}
+use Rattle.bits.specs.Calls.{unless_refused}
 use Rattle.canvas.specs.Canvas.{Canvas, blocks_along, source_links}
-use Rattle.visible_error.specs.declared.VisibleError.{VisibleError}
 
 -- a plane of a size: its source, width × height samples, and the canvas that holds its reconstruction
 pub record ShownPlane : Type 0 where
@@ -36,5 +37,5 @@ visible_total s = sum (visible_error s) (blocks_along s.height * blocks_along s.
 abbrev pub visible_refusal : ShownPlane → ℕ
 visible_refusal s = first_of (source_links s.width s.height (length s.source) s.recon)
 
-unfoldable pub visible_answer : ShownPlane → VisibleError
-visible_answer s = record { refused = visible_refusal s; error = pick (eqb (visible_refusal s) 0) (visible_total s) 0 }
+unfoldable pub visible_answer : ShownPlane → Answer ℕ
+visible_answer s = unless_refused (visible_refusal s) (done (visible_total s))

@@ -6,6 +6,7 @@ use Rattle.std.proofs.Math.Path.{sym, ap}
 use Rattle.std.proofs.Common.{◌∙◌, mod-lt, div-lt_iff_lt-mul, mul-le-mul, mul-le-mul_right, suc-mul, mul_comm, eqb-true, ne_eqb}
 use native.Mathlib.Omega.{arith}
 use Rattle.bits.specs.Basics.{Bytes, sum}
+use Rattle.bits.specs.Refusals.{done, refused}
 use Rattle.bits.specs.BasicsLaws.{or_next, unless-none, first-none}
 use Rattle.bits.specs.FillLaws.{run_of, length_run, run_at}
 use Rattle.bits.specs.SumLaws.{sum_same}
@@ -14,7 +15,6 @@ use Rattle.canvas.specs.CanvasLaws.{plane_passes}
 use Rattle.leaf.specs.Leaf.{sse}
 use Rattle.leaf.specs.DistanceLaws.{square_of, sse-sum, gap_most}
 use Rattle.visible_error.specs.Visible.{ShownPlane, square_at, visible_total, visible_refusal, visible_answer}
-use Rattle.visible_error.specs.declared.VisibleError.{VisibleError}
 use Rattle.visible_error.specs.VisibleNeeds.{shown_blocks, Showable}
 
 -- a run of a row ends inside the rows
@@ -88,10 +88,10 @@ passes s e =
     }
 
 -- ---- the answer
-pub answer_refused : (s : ShownPlane) (r : ℕ) → r ≡ visible_refusal s → (r ≡ 0 → ⊥) → ◌≡◌ {A = VisibleError} (record { refused = r; error = 0 }) (visible_answer s)
+pub answer_refused : (s : ShownPlane) (r : ℕ) → r ≡ visible_refusal s → (r ≡ 0 → ⊥) → refused r ≡ visible_answer s
 unfolding visible_answer
 answer_refused s r e h = rw (← e, ne_eqb r 0 h)
 
-pub answer_shown : (s : ShownPlane) (n : ℕ) → visible_refusal s ≡ 0 → n ≡ visible_total s → ◌≡◌ {A = VisibleError} (record { refused = 0; error = n }) (visible_answer s)
+pub answer_shown : (s : ShownPlane) (n : ℕ) → visible_refusal s ≡ 0 → n ≡ visible_total s → done n ≡ visible_answer s
 unfolding visible_answer
 answer_shown s n z e = rw (z, e)

@@ -13,8 +13,7 @@ fn cut(side: usize, from: usize) -> usize
     requires { from ≤ side }
     ensures { result ≡ inside_from side from }
 {
-    let left = side - from;
-    if left < MB_DIM { left } else { MB_DIM }
+    (side - from).min(MB_DIM)
 }
 
 // The squared error of n samples of row y from column x on.
@@ -48,10 +47,8 @@ fn rows_error(
     ensures { (result ≡ sum (λ j. sum (λ i. square_at (shown_by canvas source.now recon.now) (x + i) (y + j)) n) m) × (result ≤ 16646400) }
 {
     let mut sum: u32 = 0;
-    let mut j = 0;
-    while j < m {
+    for j in 0..m {
         sum += row_error(canvas, source, recon, x, y + j, n);
-        j += 1;
     }
     sum
 }
@@ -74,12 +71,9 @@ pub fn visible_total(canvas: Svq1PlaneCanvas, source: &[u8], recon: &[u8]) -> u6
     requires { Showable (shown_by canvas source.now recon.now) }
     ensures { result ≡ visible_total (shown_by canvas source.now recon.now) }
 {
-    let count = blocks_along(canvas.height) * blocks_along(canvas.width);
     let mut sum: u64 = 0;
-    let mut k = 0;
-    while k < count {
-        sum += visible_block(canvas, source, recon, k) as u64;
-        k += 1;
+    for k in 0..blocks_along(canvas.height) * blocks_along(canvas.width) {
+        sum += u64::from(visible_block(canvas, source, recon, k));
     }
     sum
 }

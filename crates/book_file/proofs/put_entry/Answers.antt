@@ -8,4 +8,4 @@ use Rattle.book_file.proofs.put_entry.Goals as goal
 pub returns : goal.returns
 returns c =
     c.put_text.ensures.bytes_after
-    ∙ rw (le-leb (3 * c.args.e + 3) (length c.args.book.now) c.requires.0, c.length_byte.ensures)
+    ∙ rw (le-leb (3 * c.args.e + 3) (length c.args.book.now) c.requires.0, c.min.ensures)

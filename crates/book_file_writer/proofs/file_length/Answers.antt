@@ -10,7 +10,7 @@ use Rattle.book_file_writer.proofs.file_length.Goals as goal
 
 pub loop-e-init : goal.loop-e-init
 unfolding sum
-loop-e-init c = (omega arith, omega arith, refl)
+loop-e-init c = (omega arith, refl)
 
 pub loop-e-preserved : goal.loop-e-preserved
 loop-e-preserved c =
@@ -18,11 +18,11 @@ loop-e-preserved c =
     let of-long = rw c.entry_len.ensures at c.digit_count-n.ensures.count in
     let of-value = rw c.entry_val.ensures at c.digit_count-n-in-loop-e.ensures.count in
     let more = sum_more (digits_at book) c.loop-e.e (sum (digits_at book) c.loop-e.e) (digits_at book c.loop-e.e) refl refl in
-    (omega arith, omega arith, omega (arith, c.loop-e.invariant.2, of-long, of-value, more))
+    (omega arith, omega (arith, c.loop-e.invariant.1, of-long, of-value, more))
 
 pub returns : goal.returns
 unfolding file_length
 returns c =
     let book = c.args.book.now in
     let e : c.loop-e.e ≡ book_entries = omega arith in
-    omega (arith, c.loop-e.invariant.2, ap (sum (digits_at book)) e, file_length_lem book)
+    omega (arith, c.loop-e.invariant.1, ap (sum (digits_at book)) e, file_length_lem book)

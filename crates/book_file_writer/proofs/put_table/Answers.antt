@@ -8,18 +8,17 @@ use Rattle.book_file_writer.proofs.put_table.Goals as goal
 
 pub loop-p-init : goal.loop-p-init
 unfolding table_lines
-loop-p-init c = (omega arith, refl, put_nothing _ _)
+loop-p-init c = (refl, put_nothing _ _)
 
 pub loop-p-preserved : goal.loop-p-preserved
 unfolding table_line table_lines
 loop-p-preserved c =
     let u = c in (
-      omega arith,
-      c.put_line-next.auto.out ∙ u.loop-p.invariant.1,
-      rw add-one (put_behind u.loop-p.invariant.2 (rw (c.entry_len-long.ensures, c.entry_val-value.ensures) at c.put_line-next.ensures)),
+      c.put_line-next.auto.out ∙ u.loop-p.invariant.0,
+      rw add-one (put_behind u.loop-p.invariant.1 (rw (c.entry_len-long.ensures, c.entry_val-value.ensures) at c.put_line-next.ensures)),
     )
 
 pub returns : goal.returns
 returns c =
     let e : c.loop-p.p ≡ c.args.size = omega arith in
-    rw e at c.loop-p.invariant.2
+    rw e at c.loop-p.invariant.1

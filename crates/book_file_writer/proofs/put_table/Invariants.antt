@@ -1,4 +1,3 @@
-use Prim.Native.Nat.{◌-◌, ◌≤◌}
 use mathlib.Core.Path.{◌≡◌}
 use lib.ListN.{length}
 use Rattle.text.specs.WritingForms.{PutInRoom}
@@ -7,7 +6,4 @@ use Rattle.book_file_writer.proofs.put_table.Given as goal
 
 abbrev pub invariant-loop-p : goal.invariant-loop-p
 invariant-loop-p l =
-    (l.p ≤ l.size) × (length l.out ≡ length l.initial.out) × PutInRoom l.initial.out l.at (table_lines l.book (record { name = l.name; from = l.from; size = l.size }) l.p) l.next l.out
-
-abbrev pub decreases-loop-p : goal.decreases-loop-p
-decreases-loop-p l = l.size - l.p
+    (length l.out ≡ length l.initial.out) × PutInRoom l.initial.out l.at (table_lines l.book (record { name = l.name; from = l.from; size = l.size }) l.p) l.next l.out

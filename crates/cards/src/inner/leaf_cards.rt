@@ -3,18 +3,19 @@ ghost use Rattle.std.specs.Prelude.{◌≤◌};
 
 use super::super::inner::line::{print_line, put_number, put_short, wide};
 use super::super::inner::sums::residual_sum;
+use bits::refusal::Refusal;
 use leaf::svq1_enc_leaf::LeafCode;
-use leaf_call::svq1_enc_leaf::search_leaf;
+use leaf_call::svq1_enc_leaf::{LeafAnswer, search_leaf};
 use text::{put_signed, put_text};
 
 // What the search answered: a refusal, skip, or the mean.
-fn put_mean(line: &mut [u8], at: usize, refused: u8, code: LeafCode) -> usize {
-    if refused != 0 {
-        return put_number(line, at, b"refused ", refused as u64);
-    }
-    match code {
-        LeafCode::Skip => put_text(line, at, b"skip"),
-        LeafCode::Coded { mean, count: _ } => put_short(line, at, b"mean ", mean),
+fn put_mean(line: &mut [u8], at: usize, found: Result<LeafAnswer, Refusal>) -> usize {
+    match found {
+        Ok(leaf) => match leaf.code {
+            LeafCode::Skip => put_text(line, at, b"skip"),
+            LeafCode::Coded { mean, count: _ } => put_short(line, at, b"mean ", mean),
+        },
+        Err(refusal) => put_number(line, at, b"refused ", refusal.number() as u64),
     }
 }
 
@@ -37,8 +38,7 @@ fn print_mean(
 {
     let asked = put_residual(line, residual_sum(&target, &predictor));
     let found = search_leaf(book, codebook, 0, 1, &target, &predictor, 0, false, 0);
-    let code = found.code;
-    let all = put_mean(line, asked, found.refused, code);
+    let all = put_mean(line, asked, found);
     print_line(rt, line, all)
 }
 

@@ -2,23 +2,23 @@
 ghost use Rattle.std.specs.Prelude.{◌≤◌};
 
 use super::super::inner::line::{print_line, put_number, put_short};
-use book::svq1_blocktree::{Subdivision, Svq1Level};
+use book::svq1_blocktree::Svq1Level;
 use book::svq1_vlc::Svq1Half;
-use codebook::svq1_codebook::{Place, half_byte_offset_in_payload};
+use codebook::svq1_codebook::half_byte_offset_in_payload;
 use codebook::svq1_mean::saturate_u8;
 use text::put_text;
 
-fn put_parts(line: &mut [u8], at: usize, parts: Subdivision) -> usize {
+fn put_parts(line: &mut [u8], at: usize, parts: Option<Svq1Level>) -> usize {
     match parts {
-        Subdivision::Parts(level) => put_number(line, at, b", parts L", level.number() as u64),
-        Subdivision::Whole => put_text(line, at, b", parts none"),
+        Some(level) => put_number(line, at, b", parts L", level.number() as u64),
+        None => put_text(line, at, b", parts none"),
     }
 }
 
-fn put_page(line: &mut [u8], at: usize, name: &[u8], page: Place) -> usize {
+fn put_page(line: &mut [u8], at: usize, name: &[u8], page: Option<usize>) -> usize {
     match page {
-        Place::At(p) => put_number(line, at, name, p as u64),
-        Place::Nowhere => {
+        Some(p) => put_number(line, at, name, p as u64),
+        None => {
             let none = put_text(line, at, name);
             put_text(line, none, b"none")
         }

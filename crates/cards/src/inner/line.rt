@@ -58,11 +58,9 @@ fn put_hex(line: &mut [u8], at: usize, b: u8) -> usize
 // Every byte of a slice, each behind a space.
 pub fn put_bytes(line: &mut [u8], at: usize, bytes: &[u8]) -> usize {
     let mut end = at;
-    let mut i = 0;
-    while i < bytes.len() {
+    for i in 0..bytes.len() {
         let digits = put_text(line, end, b" ");
         end = put_hex(line, digits, bytes[i]);
-        i += 1;
     }
     end
 }
@@ -75,10 +73,8 @@ fn put_byte(line: &mut [u8], at: usize, b: u8) -> usize {
 // Every byte of a slice so.
 pub fn put_numbers(line: &mut [u8], at: usize, bytes: &[u8]) -> usize {
     let mut end = at;
-    let mut i = 0;
-    while i < bytes.len() {
+    for i in 0..bytes.len() {
         end = put_byte(line, end, bytes[i]);
-        i += 1;
     }
     end
 }

@@ -6,9 +6,10 @@ ghost use Rattle.book.specs.Book.{codebook_bytes};
 
 use super::super::inner::line::{print_line, put_number, put_numbers};
 use bits::inner::put_row;
+use bits::refusal::Refusal;
 use book::inner::CODEBOOK_BYTES;
 use leaf::svq1_enc_leaf::LeafCode;
-use leaf_call::svq1_enc_leaf::search_leaf;
+use leaf_call::svq1_enc_leaf::{LeafAnswer, search_leaf};
 use text::put_text;
 
 // In L0's inter page, which begins at 22,272 and has sixteen vectors of eight bytes a stage: vector 3 of stage 0, and vectors 5 and 9 of stage 1.
@@ -35,11 +36,8 @@ fn put_stages(line: &mut [u8], at: usize, count: usize, stages: &[u8]) -> usize 
     put_numbers(line, end, &stages[..count])
 }
 
-// What the search answered: a refusal, skip, or the stages.
-fn put_leaf(line: &mut [u8], at: usize, refused: u8, code: LeafCode, stages: [u8; 6]) -> usize {
-    if refused != 0 {
-        return put_number(line, at, b"refused ", refused as u64);
-    }
+// A leaf: skip, or the stages.
+fn put_leaf(line: &mut [u8], at: usize, code: LeafCode, stages: [u8; 6]) -> usize {
     match code {
         LeafCode::Skip => put_text(line, at, b"skip"),
         LeafCode::Coded { mean: _, count } => put_stages(line, at, count as usize, &stages),
@@ -49,6 +47,20 @@ fn put_leaf(line: &mut [u8], at: usize, refused: u8, code: LeafCode, stages: [u8
 fn put_weight(line: &mut [u8], at: usize, error: u32, bits: u32) -> usize {
     let end = put_number(line, at, b", error ", error as u64);
     put_number(line, end, b", bits ", bits as u64)
+}
+
+// What the search answered: a refusal, or the leaf, its error and its bits.
+fn put_found(line: &mut [u8], at: usize, found: Result<LeafAnswer, Refusal>) -> usize {
+    match found {
+        Ok(f) => {
+            let leaf = put_leaf(line, at, f.code, f.stages);
+            put_weight(line, leaf, f.error, f.bits)
+        }
+        Err(refusal) => {
+            let told = put_number(line, at, b"refused ", refusal.number() as u64);
+            put_weight(line, told, 0, 0)
+        }
+    }
 }
 
 // What was asked.
@@ -77,10 +89,7 @@ fn print_leaf(
     let flat = [100u8; 8];
     let asked = put_asked(line, target, skip, margin);
     let found = search_leaf(book, codebook, 0, 1, &target, &flat, 6, skip, margin);
-    let code = found.code;
-    let stages = found.stages;
-    let leaf = put_leaf(line, asked, found.refused, code, stages);
-    let all = put_weight(line, leaf, found.error, found.bits);
+    let all = put_found(line, asked, found);
     print_line(rt, line, all)
 }
 

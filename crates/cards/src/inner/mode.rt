@@ -2,7 +2,7 @@
 ghost use Rattle.std.specs.Prelude.{◌≡◌};
 ghost use Rattle.cards.specs.Numbers.{mode_read};
 
-use code_tables::svq1_vlc::{CodeAnswer, read_code};
+use code_tables::svq1_vlc::read_code;
 use text::put_text;
 
 // The position in the book's first table, that of the modes, of the code that stands at a bit; 4 where there is none.
@@ -13,8 +13,8 @@ fn mode_position(book: &[u8], out: &[u8], at: usize) -> usize
         return 4;
     }
     match read_code(out, at, &book[..12]) {
-        CodeAnswer::Code(k, _) => k,
-        CodeAnswer::Refused(_) => 4,
+        Ok(found) => found.position,
+        Err(_) => 4,
     }
 }
 

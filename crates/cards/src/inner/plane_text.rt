@@ -1,5 +1,6 @@
 // The lines of plane cards: what was asked of the writer, what it and the reader answered.
 use super::super::inner::line::{put_bytes, put_number};
+use bits::refusal::{Refusal, number_told};
 use plane_enc::svq1_enc_inter::WriteEnd;
 use text::put_text;
 
@@ -25,8 +26,14 @@ pub fn put_asked(line: &mut [u8], at: usize, lambda: u64, bytes: usize, start: u
 }
 
 // Refusal, macroblocks done and next bit, of either call.
-pub fn put_end(line: &mut [u8], at: usize, refused: u8, done: usize, next: usize) -> usize {
-    let number = put_number(line, at, b": refused ", refused as u64);
+pub fn put_end(
+    line: &mut [u8],
+    at: usize,
+    refused: Option<Refusal>,
+    done: usize,
+    next: usize,
+) -> usize {
+    let number = put_number(line, at, b": refused ", number_told(refused) as u64);
     let count = put_number(line, number, b", macroblocks ", done as u64);
     put_number(line, count, b", next bit ", next as u64)
 }

@@ -3,14 +3,14 @@ ghost use Rattle.std.specs.Prelude.{◌≤◌};
 
 use super::super::inner::line::{print_line, put_number};
 use book::svq1_blocktree::Svq1Level;
-use codebook::svq1_codebook::{Place, vector_byte_to_raster};
+use codebook::svq1_codebook::vector_byte_to_raster;
 use compensation::svq1_enc_inter::inner::{mean2, mean4};
 use text::put_text;
 
-fn put_place(line: &mut [u8], at: usize, place: Place) -> usize {
+fn put_place(line: &mut [u8], at: usize, place: Option<usize>) -> usize {
     match place {
-        Place::At(p) => put_number(line, at, b": raster ", p as u64),
-        Place::Nowhere => put_text(line, at, b": nowhere"),
+        Some(p) => put_number(line, at, b": raster ", p as u64),
+        None => put_text(line, at, b": nowhere"),
     }
 }
 

@@ -2,12 +2,12 @@
 ghost use Rattle.std.specs.Prelude.{◌≤◌};
 
 use super::super::inner::line::print_line;
-use text::{SignedRead, put_signed, put_text, read_signed};
+use text::{put_signed, put_text, read_signed};
 
-fn put_read(line: &mut [u8], at: usize, read: SignedRead) -> usize {
+fn put_read(line: &mut [u8], at: usize, read: Option<i64>) -> usize {
     match read {
-        SignedRead::Signed(z) => put_signed(line, at, z),
-        SignedRead::NoSigned => put_text(line, at, b"none"),
+        Some(z) => put_signed(line, at, z),
+        None => put_text(line, at, b"none"),
     }
 }
 

@@ -60,7 +60,7 @@ fn put_plane(
     let asked = put_asked(line, flat, lambda, out.len(), start);
     let end = write_plane(book, codebook, lambda, out, start);
     let told = put_written(line, asked, end, out);
-    if end.refused != 0 {
+    if end.refused.is_some() {
         return told;
     }
     put_mode(line, told, book, out, start)

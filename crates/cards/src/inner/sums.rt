@@ -16,10 +16,8 @@ pub fn count_of(s: &[u8], v: u8) -> usize
     ensures { result ≡ count_in v s.now }
 {
     let mut n = 0;
-    let mut i = 0;
-    while i < s.len() {
+    for i in 0..s.len() {
         n += one_if(s[i], v);
-        i += 1;
     }
     n
 }

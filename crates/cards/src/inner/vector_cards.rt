@@ -1,19 +1,20 @@
 // The cards of motion vectors: predictors and searches.
 ghost use Rattle.std.specs.Prelude.{◌≡◌, ◌≤◌};
 ghost use Rattle.motion.specs.Search.{search_answer};
-ghost use Rattle.motion.specs.SearchCall.{searched_answer};
+ghost use Rattle.bits.specs.Refusals.{answer_of};
 ghost use Rattle.cards.specs.Planes.{card_search};
 
 use super::super::inner::line::{print_line, put_number, put_vector};
-use motion::svq1_enc_inter::{Searched, search_motion_vector};
+use bits::refusal::Refusal;
+use motion::svq1_enc_inter::search_motion_vector;
 use text::put_text;
-use vectors::svq1_motion_predictor::{Neighbour, Svq1Mv, predict};
+use vectors::svq1_motion_predictor::{Svq1Mv, predict};
 
 // A neighbour's name and its vector, or none.
-fn put_neighbour(line: &mut [u8], at: usize, name: &[u8], n: Neighbour) -> usize {
+fn put_neighbour(line: &mut [u8], at: usize, name: &[u8], n: Option<Svq1Mv>) -> usize {
     match n {
-        Neighbour::Present(v) => put_vector(line, at, name, v),
-        Neighbour::Absent => {
+        Some(v) => put_vector(line, at, name, v),
+        None => {
             let none = put_text(line, at, name);
             put_text(line, none, b"none")
         }
@@ -23,9 +24,9 @@ fn put_neighbour(line: &mut [u8], at: usize, name: &[u8], n: Neighbour) -> usize
 fn print_predictor(
     rt: &impl Print,
     line: &mut [u8],
-    left: Neighbour,
-    top: Neighbour,
-    top_right: Neighbour,
+    left: Option<Svq1Mv>,
+    top: Option<Svq1Mv>,
+    top_right: Option<Svq1Mv>,
 ) -> usize
     ensures { result ≤ 1 }
 {
@@ -43,30 +44,24 @@ pub fn print_predictors(rt: &impl Print, line: &mut [u8]) -> usize
     let two = print_predictor(
         rt,
         line,
-        Neighbour::Present(Svq1Mv { x: 4, y: 4 }),
-        Neighbour::Present(Svq1Mv { x: 6, y: -1 }),
-        Neighbour::Absent,
+        Some(Svq1Mv { x: 4, y: 4 }),
+        Some(Svq1Mv { x: 6, y: -1 }),
+        None,
     );
-    let one = print_predictor(
-        rt,
-        line,
-        Neighbour::Absent,
-        Neighbour::Present(Svq1Mv { x: 7, y: -2 }),
-        Neighbour::Absent,
-    );
+    let one = print_predictor(rt, line, None, Some(Svq1Mv { x: 7, y: -2 }), None);
     two + one
 }
 
-fn put_searched(line: &mut [u8], at: usize, found: Searched) -> usize {
+fn put_searched(line: &mut [u8], at: usize, found: Result<Svq1Mv, Refusal>) -> usize {
     match found {
-        Searched::Vector(v) => put_vector(line, at, b"vector ", v),
-        Searched::Refused(n) => put_number(line, at, b"refused ", n as u64),
+        Ok(v) => put_vector(line, at, b"vector ", v),
+        Err(refusal) => put_number(line, at, b"refused ", refusal.number() as u64),
     }
 }
 
 // The search of a block of 16 x 16 samples in a plane of 32 x 32, all 100.
-fn search_flat(x: usize, y: usize, predictor: Svq1Mv) -> Searched
-    ensures { searched_answer result ≡ search_answer (card_search x y predictor) }
+fn search_flat(x: usize, y: usize, predictor: Svq1Mv) -> Result<Svq1Mv, Refusal>
+    ensures { answer_of result ≡ search_answer (card_search x y predictor) }
 {
     let reference = [100u8; 1024];
     let target = [100u8; 256];

@@ -16,68 +16,60 @@ pub struct VectorSum {
 fn signed_gap(a: u8, b: u8) -> u32
     ensures { (result ≡ gap_of a b) × (result < 256) }
 {
-    let d = a as i32 - b as i32;
-    if d < 0 { (-d) as u32 } else { d as u32 }
+    (i32::from(a) - i32::from(b)).unsigned_abs()
 }
 
 fn gap(a: u8, b: u8) -> u16
     ensures { (result ≡ gap_of a b) × (result < 256) }
 {
-    if a < b {
-        (b - a) as u16
-    } else {
-        (a - b) as u16
-    }
+    u16::from(a.abs_diff(b))
 }
 
 pub fn mean2(a: u8, b: u8) -> u8
     ensures { result ≡ meanOf2 a b }
 {
-    ((a as u16 + b as u16 + 1) / 2) as u8
+    ((u16::from(a) + u16::from(b) + 1) / 2) as u8
 }
 
 pub fn mean4(a: u8, b: u8, c: u8, d: u8) -> u8
     ensures { result ≡ meanOf4 a b c d }
 {
-    ((a as u16 + b as u16 + c as u16 + d as u16 + 2) / 4) as u8
+    ((u16::from(a) + u16::from(b) + u16::from(c) + u16::from(d) + 2) / 4) as u8
 }
 
 // The absolute error of n samples against a row, against the means of two rows, and of four.
+#[tactic(auto, using(bits::specs::SumLaws::sum_more), unfolding(bits::specs::Basics::sum))]
 fn sad(t: &[u8], a: &[u8], n: usize) -> u32
     requires { (n ≤ 16) × (length t.now ≡ n) × (length a.now ≡ n) }
     ensures { (result ≡ against t.now a.now n) × (result ≤ 255 * n) }
 {
     let mut sum: u32 = 0;
-    let mut i = 0;
-    while i < n {
+    for i in 0..n {
         sum += signed_gap(t[i], a[i]);
-        i += 1;
     }
     sum
 }
 
+#[tactic(auto, using(bits::specs::SumLaws::sum_more), unfolding(bits::specs::Basics::sum))]
 fn sum_two(t: &[u8], a: &[u8], b: &[u8], n: usize) -> u16
     requires { (n ≤ 16) × (length t.now ≡ n) × (length a.now ≡ n) × (length b.now ≡ n) }
     ensures { (result ≡ against_two t.now a.now b.now n) × (result ≤ 255 * n) }
 {
     let mut sum: u16 = 0;
-    let mut i = 0;
-    while i < n {
+    for i in 0..n {
         sum += gap(t[i], mean2(a[i], b[i]));
-        i += 1;
     }
     sum
 }
 
+#[tactic(auto, using(bits::specs::SumLaws::sum_more), unfolding(bits::specs::Basics::sum))]
 fn sum_four(t: &[u8], a: &[u8], b: &[u8], c: &[u8], d: &[u8], n: usize) -> u16
     requires { (n ≤ 16) × (length t.now ≡ n) × (length a.now ≡ n) × (length b.now ≡ n) × (length c.now ≡ n) × (length d.now ≡ n) }
     ensures { (result ≡ against_four t.now a.now b.now c.now d.now n) × (result ≤ 255 * n) }
 {
     let mut sum: u16 = 0;
-    let mut i = 0;
-    while i < n {
+    for i in 0..n {
         sum += gap(t[i], mean4(a[i], b[i], c[i], d[i]));
-        i += 1;
     }
     sum
 }
@@ -119,6 +111,7 @@ fn row_between(
 }
 
 // The row of n samples of t from ti on against those read at p, at a full sample or between samples.
+#[tactic(auto, using(crate::specs::RowFormsLaws::row_full))]
 fn row_error(
     t: &[u8],
     reference: &[u8],
@@ -134,7 +127,7 @@ fn row_error(
     ensures { (result ≡ cells t.now (record { samples = reference.now; stride = stride; rows = rows }) n ox oy ti p) × (result ≤ 255 * n) }
 {
     if 0 < ox + oy {
-        return row_between(t, reference, ti, p, stride, rows, n, ox, oy) as u32;
+        return u32::from(row_between(t, reference, ti, p, stride, rows, n, ox, oy));
     }
     sad(&t[ti..ti + n], &reference[p..p + n], n)
 }
@@ -156,8 +149,7 @@ fn sum_rows(
     ensures { Summed t.now (record { samples = reference.now; stride = stride; rows = rows }) n ox oy x0 y0 best result }
 {
     let mut sum: u64 = 0;
-    let mut i = 0;
-    while i < n {
+    for i in 0..n {
         let row = row_error(
             t,
             reference,
@@ -169,18 +161,12 @@ fn sum_rows(
             ox,
             oy,
         );
-        let more = sum + row as u64;
-        let taken = i + 1;
-        if best <= more {
-            return VectorSum {
-                sum: more,
-                rows: taken,
-            };
+        sum += u64::from(row);
+        if best <= sum {
+            return VectorSum { sum, rows: i + 1 };
         }
-        sum = more;
-        i = taken;
     }
-    VectorSum { sum: sum, rows: i }
+    VectorSum { sum, rows: n }
 }
 
 // The same at a full sample and between samples, with numbers for the side and the place between samples, so that every loop has a known length and no
@@ -199,9 +185,10 @@ pub fn sum_full(
     ensures { Summed t.now (record { samples = reference.now; stride = stride; rows = rows }) n 0 0 x0 y0 best result }
 {
     if n == 16 {
-        return sum_rows(t, reference, x0, y0, stride, rows, 16, 0, 0, best);
+        sum_rows(t, reference, x0, y0, stride, rows, 16, 0, 0, best)
+    } else {
+        sum_rows(t, reference, x0, y0, stride, rows, 8, 0, 0, best)
     }
-    sum_rows(t, reference, x0, y0, stride, rows, 8, 0, 0, best)
 }
 
 fn sum_half(
@@ -219,22 +206,14 @@ fn sum_half(
     requires { ReadIn t.now (record { samples = reference.now; stride = stride; rows = rows }) n ox oy x0 y0 × (1 ≤ ox + oy) }
     ensures { Summed t.now (record { samples = reference.now; stride = stride; rows = rows }) n ox oy x0 y0 best result }
 {
-    if n == 16 {
-        if ox == 0 {
-            return sum_rows(t, reference, x0, y0, stride, rows, 16, 0, 1, best);
-        }
-        if oy == 0 {
-            return sum_rows(t, reference, x0, y0, stride, rows, 16, 1, 0, best);
-        }
-        return sum_rows(t, reference, x0, y0, stride, rows, 16, 1, 1, best);
+    match (n, ox, oy) {
+        (16, 0, _) => sum_rows(t, reference, x0, y0, stride, rows, 16, 0, 1, best),
+        (16, _, 0) => sum_rows(t, reference, x0, y0, stride, rows, 16, 1, 0, best),
+        (16, _, _) => sum_rows(t, reference, x0, y0, stride, rows, 16, 1, 1, best),
+        (_, 0, _) => sum_rows(t, reference, x0, y0, stride, rows, 8, 0, 1, best),
+        (_, _, 0) => sum_rows(t, reference, x0, y0, stride, rows, 8, 1, 0, best),
+        _ => sum_rows(t, reference, x0, y0, stride, rows, 8, 1, 1, best),
     }
-    if ox == 0 {
-        return sum_rows(t, reference, x0, y0, stride, rows, 8, 0, 1, best);
-    }
-    if oy == 0 {
-        return sum_rows(t, reference, x0, y0, stride, rows, 8, 1, 0, best);
-    }
-    sum_rows(t, reference, x0, y0, stride, rows, 8, 1, 1, best)
 }
 
 // The absolute error of the block of n by n samples read from x0, y0, all inside the canvas, against the best found so far, 65536 or more for none

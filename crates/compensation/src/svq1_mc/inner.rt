@@ -14,16 +14,11 @@ fn clamped(n: usize, size: usize) -> usize
     requires { 0 < size }
     ensures { (result ≡ clamp_to size (down_half n)) × (result < size) }
 {
-    if n < 2147483648 {
-        return 0;
-    }
-    if n - 2147483648 < size {
-        return n - 2147483648;
-    }
-    size - 1
+    n.saturating_sub(2147483648).min(size - 1)
 }
 
 // The sample at a place, both numbers raised by 2^31; reads clamp to the canvas.
+#[tactic(auto, unfolding(crate::specs::Compensation::sample_at))]
 fn sample_clamped(reference: &[u8], stride: usize, rows: usize, x: usize, y: usize) -> u8
     requires { (0 < stride) × (0 < rows) × (length reference.now ≡ stride * rows) }
     ensures { result ≡ sample_at (record { samples = reference.now; stride = stride; rows = rows }) (down_half x) (down_half y) }
@@ -34,6 +29,7 @@ fn sample_clamped(reference: &[u8], stride: usize, rows: usize, x: usize, y: usi
 }
 
 // The sample at a place in half samples, both numbers raised by 2^32.
+#[tactic(auto, using(crate::specs::MovedFormsLaws::half_is))]
 pub fn sample_halfpel(reference: &[u8], stride: usize, rows: usize, hx: usize, hy: usize) -> u8
     requires { (0 < stride) × (0 < rows) × (length reference.now ≡ stride * rows) × (hx < up_end) × (hy < up_end) }
     ensures { result ≡ half_sample (record { samples = reference.now; stride = stride; rows = rows }) (down hx) (down hy) }
@@ -60,7 +56,7 @@ pub fn sample_halfpel(reference: &[u8], stride: usize, rows: usize, hx: usize, h
 fn lift(z: i32) -> usize
     ensures { Lifted z result }
 {
-    (z as i64 + 4294967296) as usize
+    (i64::from(z) + 4294967296) as usize
 }
 
 // Part q of a macroblock's samples, each read by itself.
@@ -80,9 +76,7 @@ fn part_clamped(
     requires { Placed (record { samples = reference.now; stride = stride; rows = rows }) x y × Parts s cols q × (ux ≤ 6442450944) × (uy ≤ 6442450944) }
     ensures { out.new ≡ moved_part (record { samples = reference.now; stride = stride; rows = rows }) x y (down_mv ux uy) s cols q out.old }
 {
-    let n = s * s;
-    let mut j = 0;
-    while j < n {
+    for j in 0..s * s {
         let i = (q / cols * s + j / s) * (s * cols) + (q % cols * s + j % s);
         out[i] = sample_halfpel(
             reference,
@@ -91,39 +85,37 @@ fn part_clamped(
             2 * (x + i % 16) + ux,
             2 * (y + i / 16) + uy,
         );
-        j += 1;
     }
 }
 
 // n samples from place o on: the means of those from a and from b on, and of those from a, b and from one place further on each.
+#[tactic(auto, using(mv_cache::specs::PutLaws::row_none, mv_cache::specs::PutLaws::row_more))]
 fn mean_row(out: &mut [u8; 256], reference: &[u8], o: usize, a: usize, b: usize, n: usize)
     requires { (o + n ≤ 256) × (a + n ≤ length reference.now) × (b + n ≤ length reference.now) }
     ensures { out.new ≡ row_set o (λ k. meanOf2 (get_or reference.now (a + k) 0) (get_or reference.now (b + k) 0)) n out.old }
 {
-    let mut i = 0;
-    while i < n {
+    for i in 0..n {
         out[o + i] = mean2(reference[a + i], reference[b + i]);
-        i += 1;
     }
 }
 
+#[tactic(auto, using(mv_cache::specs::PutLaws::row_none, mv_cache::specs::PutLaws::row_more))]
 fn mean4_row(out: &mut [u8; 256], reference: &[u8], o: usize, a: usize, b: usize, n: usize)
     requires { (o + n ≤ 256) × (a + 1 + n ≤ length reference.now) × (b + 1 + n ≤ length reference.now) }
     ensures { out.new ≡ row_set o (λ k. meanOf4 (get_or reference.now (a + k) 0) (get_or reference.now (a + 1 + k) 0) (get_or reference.now (b + k) 0) (get_or reference.now (b + 1 + k) 0)) n out.old }
 {
-    let mut i = 0;
-    while i < n {
+    for i in 0..n {
         out[o + i] = mean4(
             reference[a + i],
             reference[a + 1 + i],
             reference[b + i],
             reference[b + 1 + i],
         );
-        i += 1;
     }
 }
 
 // One row of a part, read at p between columns and rows as ox and oy say.
+#[tactic(auto, unfolding(crate::specs::RowForms::cell))]
 fn part_row(
     out: &mut [u8; 256],
     reference: &[u8],
@@ -138,19 +130,12 @@ fn part_row(
     requires { (o + n ≤ 256) × (ox < 2) × (oy < 2) × (p + oy * stride + ox + n ≤ length reference.now) }
     ensures { out.new ≡ row_set o (λ k. cell (record { samples = reference.now; stride = stride; rows = rows }) ox oy (p + k)) n out.old }
 {
-    if oy == 0 {
-        if ox == 0 {
-            copy_row(out, reference, o, p, n);
-            return;
-        }
-        mean_row(out, reference, o, p, p + 1, n);
-        return;
+    match (ox, oy) {
+        (0, 0) => copy_row(out, reference, o, p, n),
+        (_, 0) => mean_row(out, reference, o, p, p + 1, n),
+        (0, _) => mean_row(out, reference, o, p, p + stride, n),
+        _ => mean4_row(out, reference, o, p, p + stride, n),
     }
-    if ox == 0 {
-        mean_row(out, reference, o, p, p + stride, n);
-        return;
-    }
-    mean4_row(out, reference, o, p, p + stride, n);
 }
 
 // Part q of a macroblock's samples, row by row, where every read lies in the canvas: its corner is read at x0, y0.
@@ -170,12 +155,10 @@ fn part_inside(
     requires { InCanvas (record { samples = reference.now; stride = stride; rows = rows }) s ox oy x0 y0 × Parts s cols q }
     ensures { out.new ≡ cell_part (record { samples = reference.now; stride = stride; rows = rows }) ox oy x0 y0 s cols q out.old }
 {
-    let mut i = 0;
-    while i < s {
+    for i in 0..s {
         let o = (q / cols * s + i) * (s * cols) + q % cols * s;
         let p = (y0 + i) * stride + x0;
         part_row(out, reference, o, p, stride, rows, s, ox, oy);
-        i += 1;
     }
 }
 
@@ -184,10 +167,7 @@ fn inside(h: usize, s: usize, size: usize) -> bool
     requires { (h < up_end) × (s ≤ 16) }
     ensures { result ≡ inside_up h s size }
 {
-    if h < 4294967296 {
-        return false;
-    }
-    h / 2 - 2147483648 + h % 2 + s <= size
+    4294967296 <= h && h / 2 - 2147483648 + h % 2 + s <= size
 }
 
 // Part q of the macroblock at (x, y), moved by a vector; the other samples stay.
@@ -210,25 +190,23 @@ fn mc_part(
     let uy = lift(v.y);
     let hx = 2 * (x + q % cols * s) + ux;
     let hy = 2 * (y + q / cols * s) + uy;
-    if inside(hx, s, stride) {
-        if inside(hy, s, rows) {
-            part_inside(
-                out,
-                reference,
-                stride,
-                rows,
-                hx / 2 - 2147483648,
-                hy / 2 - 2147483648,
-                hx % 2,
-                hy % 2,
-                s,
-                cols,
-                q,
-            );
-            return;
-        }
+    if inside(hx, s, stride) && inside(hy, s, rows) {
+        part_inside(
+            out,
+            reference,
+            stride,
+            rows,
+            hx / 2 - 2147483648,
+            hy / 2 - 2147483648,
+            hx % 2,
+            hy % 2,
+            s,
+            cols,
+            q,
+        );
+    } else {
+        part_clamped(out, reference, stride, rows, x, y, ux, uy, s, cols, q);
     }
-    part_clamped(out, reference, stride, rows, x, y, ux, uy, s, cols, q);
 }
 
 // The macroblock at (x, y), moved by a vector.

@@ -1,12 +1,7 @@
-use Prim.Native.Nat.{◌-◌, ◌≤◌}
 use mathlib.Core.Path.{◌≡◌}
 use lib.ListN.{length, take}
-use Rattle.book.specs.Book.{codebook_bytes}
 use Rattle.house.specs.House.{house_codebook}
 use Rattle.house.proofs.fill_house_codebook.Given as goal
 
 abbrev pub invariant-loop-i : goal.invariant-loop-i
-invariant-loop-i l = (l.i ≤ codebook_bytes) × (length l.out ≡ length l.initial.out) × (take l.i l.out ≡ take l.i house_codebook)
-
-abbrev pub decreases-loop-i : goal.decreases-loop-i
-decreases-loop-i l = codebook_bytes - l.i
+invariant-loop-i l = (length l.out ≡ length l.initial.out) × (take l.i l.out ≡ take l.i house_codebook)

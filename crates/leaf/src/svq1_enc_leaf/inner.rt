@@ -27,10 +27,7 @@ pub fn signed_mean(m: u16) -> i16
 fn not_negative(z: i32) -> usize
     ensures { result ≡ natural z }
 {
-    if z < 0 {
-        return 0;
-    }
-    z as usize
+    z.max(0) as usize
 }
 
 // The position of a mean in its half's table.
@@ -48,7 +45,7 @@ pub fn mean_position(half: Svq1Half, mean: i16) -> usize
 pub fn stage_count(count: u8) -> usize
     ensures { result ≡ min count 6 }
 {
-    if count < 6 { count as usize } else { 6 }
+    count.min(6) as usize
 }
 
 // The first `count` stage indices, four bits each.
@@ -57,10 +54,8 @@ fn put_stages(out: &mut [u8], at: usize, count: usize, stages: [u8; 6]) -> usize
     ensures { Wrote out.old at (stage_bits (take count stages)) result out.new }
 {
     let mut p = at;
-    let mut i = 0;
-    while i < count {
+    for i in 0..count {
         p = bits::inner::put_bits(out, p, 4, stages[i] as u32);
-        i += 1;
     }
     p
 }

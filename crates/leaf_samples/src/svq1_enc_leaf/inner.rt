@@ -7,7 +7,6 @@ ghost use Rattle.leaf.specs.Leaf.{coded, sse, plus, samples, seeded, staged, lea
 ghost use Rattle.leaf.specs.LeafForms.{less, Below, plus_n, sqd, vectors_in, leaf_of};
 ghost use Rattle.leaf_samples.specs.ShowNeeds.{MeanKnown, SizedSums, Staging, CodeShows, Adding};
 
-use bits::inner::put_row;
 use book::svq1_vlc::Svq1Half;
 use leaf::svq1_enc_leaf::LeafCode;
 use leaf::svq1_enc_leaf::inner::{mean_position, stage_count};
@@ -56,10 +55,8 @@ fn add_vector(a: &mut [u16], w: &[u8])
     ensures a_after { a.new ≡ plus_n a.old w.now }
     ensures by_index { (i : ℕ) → get_or a.new i 0 ≤ get_or a.old i 0 + 255 }
 {
-    let mut i = 0;
-    while i < a.len() {
+    for i in 0..a.len() {
         a[i] = a[i] + wide(w[i]);
-        i += 1;
     }
 }
 
@@ -81,10 +78,8 @@ pub fn seed(a: &mut [u16], p: &[u8], mean: u16)
     ensures a_after { less 256 a.new ≡ seeded (sub_ℕ mean 256) p.now }
     ensures below { Below 1000 a.new }
 {
-    let mut i = 0;
-    while i < a.len() {
+    for i in 0..a.len() {
         a[i] = wide(p[i]) + mean;
-        i += 1;
     }
 }
 
@@ -104,12 +99,10 @@ pub fn vector_sse(t: &[u8], a: &[u16], w: &[u8], bias: u16) -> u32
 {
     let mut low: u16 = 0;
     let mut high: u16 = 0;
-    let mut i = 0;
-    while i < t.len() {
+    for i in 0..t.len() {
         let e = error_at(t[i], a[i] + wide(w[i]), bias);
         low += e % 256;
         high += e / 256;
-        i += 1;
     }
     (low as u32) + (high as u32) * 256
 }
@@ -143,10 +136,8 @@ pub fn show(a: &[u16], bias: u16, out: &mut [u8])
     requires { length out.old ≡ length a.now }
     ensures { out.new ≡ samples (less bias a.now) }
 {
-    let mut i = 0;
-    while i < out.len() {
+    for i in 0..out.len() {
         out[i] = narrow(shown(a[i], bias));
-        i += 1;
     }
 }
 
@@ -155,14 +146,6 @@ fn narrow(x: u16) -> u8
     ensures { result ≡ x }
 {
     x as u8
-}
-
-// The block `p` into `out`.
-pub fn copy(p: &[u8], out: &mut [u8])
-    requires { length out.old ≡ length p.now }
-    ensures { out.new ≡ p.now }
-{
-    put_row(out, 0, p)
 }
 
 // The bias of sums with this many stages added.
@@ -192,12 +175,10 @@ fn add_stages(a: &mut [u16], book: &[u8], base: usize, count: usize, stages: [u8
 {
     let n = a.len();
     let mut at = base;
-    let mut k = 0;
-    while k < count {
+    for k in 0..count {
         let j = stages[k] as usize;
         add_stage(a, book, at, j);
         at += n * 16;
-        k += 1;
     }
 }
 
@@ -235,7 +216,7 @@ pub fn show_leaf(
     ensures { out.new ≡ leaf_shown (vectors_in book.now base (length p.now)) p.now (leaf_of code stages) }
 {
     match code {
-        LeafCode::Skip => copy(p, out),
+        LeafCode::Skip => out.copy_from_slice(p),
         LeafCode::Coded { mean, count } => {
             let m = raised_mean(half, mean);
             let n = stage_count(count);

@@ -17,7 +17,7 @@ use codebook::svq1_codebook::inner::page_start;
 use leaf::svq1_enc_leaf::inner::signed_mean;
 use leaf::svq1_enc_leaf::{LeafCode, LeafTerms};
 use leaf_samples::svq1_enc_leaf::inner::{
-    add_stage, bias_of, copy, distance_of, seed, show, sums_error, vector_sse, wide,
+    add_stage, bias_of, distance_of, seed, show, sums_error, vector_sse, wide,
 };
 
 #[derive(Clone, Copy)]
@@ -47,14 +47,12 @@ fn best_vector(t: &[u8], a: &[u16], book: &[u8], base: usize, bias: u16) -> Best
 {
     let mut error = vector_error(t, a, book, base, bias, 0);
     let mut index = 0;
-    let mut j = 1;
-    while j < 16 {
+    for j in 1..16 {
         let e = vector_error(t, a, book, base, bias, j);
         if e < error {
             error = e;
             index = j;
         }
-        j += 1;
     }
     Best { index, error }
 }
@@ -66,10 +64,8 @@ pub fn sum_of(t: &[u8]) -> u32
     ensures upper_bound { result ≤ 65280 }
 {
     let mut sum: u32 = 0;
-    let mut i = 0;
-    while i < t.len() {
+    for i in 0..t.len() {
         sum += wide(t[i]) as u32;
-        i += 1;
     }
     sum
 }
@@ -134,11 +130,10 @@ fn search_stages(
 {
     let n = t.len();
     let mut index = [0u8; 6];
-    let mut count = 0;
     let mut at = base;
     let mut plus = bias;
     let mut current = error;
-    while count < terms.cap {
+    for count in 0..terms.cap {
         let best = best_vector(t, a, book, at, plus);
         let e = best.error;
         let j = best.index;
@@ -151,13 +146,12 @@ fn search_stages(
         }
         add_stage(a, book, at, j);
         index[count] = j as u8;
-        count += 1;
         at += n * 16;
         plus += 128;
         current = e;
     }
     Stages {
-        count,
+        count: terms.cap,
         error: current,
         index,
     }
@@ -211,7 +205,7 @@ pub fn choose_leaf(
     if terms.skip {
         let e = distance_of(t, p);
         if e <= coded.error {
-            copy(p, out);
+            out.copy_from_slice(p);
             return LeafChoice {
                 code: LeafCode::Skip,
                 stages: [0u8; 6],
@@ -222,18 +216,21 @@ pub fn choose_leaf(
     coded
 }
 
-// The stages open at level d: none at L4 and L5.
-fn cap_at(d: usize, cap: usize) -> usize
-    ensures { result ≡ cap_at d cap }
+// The stages open at a level: none at L4 and L5.
+fn cap_at(level: Svq1Level, cap: usize) -> usize
+    ensures { result ≡ cap_at (level_number level) cap }
 {
-    if d < 4 { cap } else { 0 }
+    match level {
+        Svq1Level::L0 | Svq1Level::L1 | Svq1Level::L2 | Svq1Level::L3 => cap,
+        Svq1Level::L4 | Svq1Level::L5 => 0,
+    }
 }
 
-// The terms at level d: their cap as far as stages are open there.
-fn terms_at(d: usize, mut terms: LeafTerms) -> LeafTerms
-    ensures { result ≡ terms_at d terms }
+// The terms at a level: their cap as far as stages are open there.
+fn terms_at(level: Svq1Level, mut terms: LeafTerms) -> LeafTerms
+    ensures { result ≡ terms_at (level_number level) terms }
 {
-    terms.cap = cap_at(d, terms.cap);
+    terms.cap = cap_at(level, terms.cap);
     terms
 }
 
@@ -251,9 +248,8 @@ pub fn level_leaf(
     ensures { LevelChosen terms (level_number level) t.now p.now raised.now result out.old out.new }
 {
     let n = t.len();
-    let d = level.number();
     let half = terms.half;
-    let base = page_start(half, d);
-    let open = terms_at(d, terms);
+    let base = page_start(half, level);
+    let open = terms_at(level, terms);
     choose_leaf(open, t, p, &mut a[..n], &mut out[..n], raised, base)
 }

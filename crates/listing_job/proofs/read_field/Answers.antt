@@ -1,26 +1,21 @@
--- The comma found parts the field from what stands behind it. Assumes nothing.
+-- The comma found parts the field from what stands behind it.
 use native.Mathlib.Omega.{arith}
 use mathlib.Core.Path.{sym}
-use lib.Seq.{length-take-le}
+use Rattle.std.proofs.Common.{rules, length}
 use Rattle.listing_job.specs.JobLaws.{field_last, field_bad, field_read}
 use Rattle.listing_job.proofs.read_field.Goals as goal
 
-pub returns-then-n-t : goal.returns-then-n-t
-returns-then-n-t c =
+pub returns-in_err-n : goal.returns-in_err-n
+returns-in_err-n c =
     let a = c.args in
-    field_last a.most a.t.now c.find-n.result c.find-n.ensures.count (omega arith)
+    search (rules, field_last a.most a.t.now (length a.t.now) (sym c.in_err-n.ensures) (omega arith))
 
-pub slice_bounds-read_number-end : goal.slice_bounds-read_number-end
-slice_bounds-read_number-end c = let f = c in sym (length-take-le f.find-n.result f.args.t.now f.find-n.ensures.within)
-
-pub returns-in_default : goal.returns-in_default
-returns-in_default c =
-    let f = c in
-    let a = f.args in
-    field_bad a.most a.t.now f.find-n.result f.find-n.ensures.count (omega arith) (rw (← c.read_number.ensures, c.in_default.is))
+pub returns-in_err-value : goal.returns-in_err-value
+returns-in_err-value c =
+    let a = c.args in
+    search (rules, field_bad a.most a.t.now c.in_ok-n.n c.in_ok-n.ensures.count c.in_ok-n.ensures.within (sym c.in_err-value.ensures))
 
 pub returns : goal.returns
 returns c =
-    let f = c in
-    let a = f.args in
-    field_read a.most a.t.now f.find-n.result f.find-n.ensures.count (omega arith) c.in-Number.value (rw (← c.read_number.ensures, c.in-Number.is))
+    let a = c.args in
+    field_read a.most a.t.now c.in_ok-n.n c.in_ok-n.ensures.count c.in_ok-n.ensures.within c.in_ok-value.value (sym c.in_ok-value.ensures)

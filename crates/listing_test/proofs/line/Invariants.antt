@@ -1,10 +1,7 @@
--- Each turn goes behind a line. Assumes nothing.
-use Prim.Native.Nat.{◌-◌, ◌≤◌}
+-- Each turn goes behind a line.
+use Prim.Native.Nat.{◌≤◌}
 use lib.ListN.{length}
 use Rattle.listing_test.proofs.line.Given as goal
 
-abbrev pub invariant-loop-i : goal.invariant-loop-i
-invariant-loop-i l = (l.at ≤ length l.file) × (l.i ≤ l.k)
-
-abbrev pub decreases-loop-i : goal.decreases-loop-i
-decreases-loop-i l = l.k - l.i
+abbrev pub invariant-loop : goal.invariant-loop
+invariant-loop l = l.at ≤ length l.file

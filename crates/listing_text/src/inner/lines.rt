@@ -1,12 +1,15 @@
 // The lines of a listing, put into a lent text. Each function asks for as much room as its longest line takes.
 ghost use Rattle.std.specs.Prelude.{[], ◌∷◌, ◌++◌, ◌+◌, ◌*◌, ◌≤◌, length};
+ghost use Rattle.bits.specs.Refusals.{number_of};
 ghost use Rattle.text.specs.Text.{comma, decimal};
 ghost use Rattle.listing_text.specs.LineForms.{ListedPut, name_at, line_text, lines_from};
 ghost use Rattle.listing_text.specs.Listing.{total_line, refused_text};
 ghost use Rattle.visible_error.specs.VisibleNeeds.{shown_by, shown_blocks, Showable};
 
+use bits::refusal::Refusal;
 use canvas::svq1_plane::Svq1PlaneCanvas;
 use canvas::svq1_plane::inner::blocks_along;
+use text::{put_field, put_text};
 use visible_error::inner::visible_block;
 
 // A number and the byte behind it.
@@ -14,7 +17,7 @@ fn put_number(text: &mut [u8], at: usize, n: u64, behind: u8) -> usize
     requires { at + 21 ≤ length text.old }
     ensures { ListedPut 21 text.old at (decimal n ++ (behind ∷ [])) result text.new }
 {
-    text::put_field(text, at, n, behind)
+    put_field(text, at, n, behind)
 }
 
 // A mode's name, by its position in the mode table, and the comma behind it.
@@ -23,15 +26,15 @@ fn put_mode(text: &mut [u8], at: usize, mode: u32) -> usize
     ensures { ListedPut 10 text.old at (name_at mode ++ (comma ∷ [])) result text.new }
 {
     if mode == 0 {
-        return text::put_text(text, at, b"INTER,");
+        return put_text(text, at, b"INTER,");
     }
     if mode == 1 {
-        return text::put_text(text, at, b"INTER_4MV,");
+        return put_text(text, at, b"INTER_4MV,");
     }
     if mode == 2 {
-        return text::put_text(text, at, b"INTRA,");
+        return put_text(text, at, b"INTRA,");
     }
-    text::put_text(text, at, b"SKIP,")
+    put_text(text, at, b"SKIP,")
 }
 
 // A macroblock's line: row, column, mode, bits, error.
@@ -68,8 +71,7 @@ pub fn put_lines(
 {
     let cols = blocks_along(canvas.width);
     let mut at = 0;
-    let mut k = 0;
-    while k < count {
+    for k in 0..count {
         let i = 3 * k;
         at = put_macroblock_line(
             text,
@@ -80,7 +82,6 @@ pub fn put_lines(
             stated[i + 1] as u64,
             visible_block(canvas, source, recon, k) as u64,
         );
-        k += 1;
     }
     at
 }
@@ -90,16 +91,16 @@ pub fn put_total_line(text: &mut [u8], at: usize, bits: u64, error: u64) -> usiz
     requires { at + 48 ≤ length text.old }
     ensures { ListedPut 48 text.old at (total_line bits error) result text.new }
 {
-    let a = text::put_text(text, at, b"total,");
+    let a = put_text(text, at, b"total,");
     let b = put_number(text, a, bits, b',');
     put_number(text, b, error, b'\n')
 }
 
 // A refusal in place of the lines.
-pub fn put_refused(text: &mut [u8], refused: u8) -> usize
+pub fn put_refused(text: &mut [u8], refusal: Refusal) -> usize
     requires { 29 ≤ length text.old }
-    ensures { ListedPut 29 text.old 0 (refused_text refused) result text.new }
+    ensures { ListedPut 29 text.old 0 (refused_text (number_of refusal)) result text.new }
 {
-    let a = text::put_text(text, 0, b"refused,");
-    put_number(text, a, refused as u64, b'\n')
+    let a = put_text(text, 0, b"refused,");
+    put_number(text, a, u64::from(refusal.number()), b'\n')
 }

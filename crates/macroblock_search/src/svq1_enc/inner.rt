@@ -9,21 +9,14 @@ use canvas::svq1_plane::Svq1PlaneCanvas;
 use canvas::svq1_plane::inner::blocks_along;
 use mv_cache::svq1_mv_cache::inner::copy_row;
 
-fn lesser(a: usize, b: usize) -> usize
-    ensures { result ≡ min a b }
-{
-    if a < b { a } else { b }
-}
-
 // Sixteen samples from place o on: those from column x of the row at p on, its last column repeated.
+#[tactic(auto, using(mv_cache::specs::PutLaws::row_none, mv_cache::specs::PutLaws::row_more))]
 fn repeat_row(out: &mut [u8], source: &[u8], o: usize, p: usize, x: usize, last: usize)
     requires { (o + 16 ≤ length out.old) × (p + last < length source.now) × (x ≤ largest_side) }
     ensures { out.new ≡ row_set o (λ j. get_or source.now (p + min (x + j) last) 0) 16 out.old }
 {
-    let mut i = 0;
-    while i < 16 {
-        out[o + i] = source[p + lesser(x + i, last)];
-        i += 1;
+    for i in 0..16 {
+        out[o + i] = source[p + (x + i).min(last)];
     }
 }
 
@@ -34,9 +27,9 @@ fn target_row(out: &mut [u8], source: &[u8], o: usize, p: usize, x: usize, last:
 {
     if x + 15 <= last {
         copy_row(out, source, o, p + x, 16);
-        return;
+    } else {
+        repeat_row(out, source, o, p, x, last);
     }
-    repeat_row(out, source, o, p, x, last);
 }
 
 // Macroblock k of the source, its last column and row repeated to whole macroblocks.
@@ -47,10 +40,8 @@ pub fn block(canvas: Svq1PlaneCanvas, source: &[u8], k: usize, out: &mut [u8])
     let cols = blocks_along(canvas.width);
     let x = k % cols * 16;
     let y = k / cols * 16;
-    let mut i = 0;
-    while i < 16 {
-        let row = lesser(y + i, canvas.height - 1);
+    for i in 0..16 {
+        let row = (y + i).min(canvas.height - 1);
         target_row(out, source, 16 * i, row * canvas.width, x, canvas.width - 1);
-        i += 1;
     }
 }

@@ -43,10 +43,7 @@ fn last_seen(place: usize, side: usize, size: usize) -> usize
     requires { (place + side < raised_end) × (1 ≤ side) × (1 ≤ size) }
     ensures { result ≡ min (place + side - 1) (size - 1) }
 {
-    if place + side < size {
-        return place + side - 1;
-    }
-    size - 1
+    (place + side - 1).min(size - 1)
 }
 
 // Codable and in the window, on one axis.
@@ -54,23 +51,12 @@ pub fn axis_ok(side: usize, place: usize, size: usize, p: usize, u: usize) -> bo
     requires { (place + side < raised_end) × (1 ≤ side) × (1 ≤ size) × (size < raised_end) × (p < raised_end) × (u < raised_end) }
     ensures { result ≡ axis_up side place size p u }
 {
-    if u < 992 {
-        return false;
-    }
-    if 1055 < u {
-        return false;
-    }
-    if u + 32 < p {
-        return false;
-    }
-    if p + 31 < u {
-        return false;
-    }
-    if place + u / 2 < 512 {
-        return false;
-    }
-    let last = last_seen(place, side, size);
-    last + (u + 1) / 2 < size + 512
+    992 <= u
+        && u <= 1055
+        && p <= u + 32
+        && u <= p + 31
+        && 512 <= place + u / 2
+        && last_seen(place, side, size) + (u + 1) / 2 < size + 512
 }
 
 // Of an allowed vector: its sum against the best that the search has found so far, and the rows taken.
@@ -104,13 +90,14 @@ fn replaced(s: VectorSum, ux: usize, uy: usize, best: Candidate) -> Candidate
     ensures { (s.sum < best.error → result ≡ record { ux = ux; uy = uy; error = s.sum }) × (best.error ≤ s.sum → result ≡ best) }
 {
     if s.sum < best.error {
-        return Candidate {
-            ux: ux,
-            uy: uy,
+        Candidate {
+            ux,
+            uy,
             error: s.sum,
-        };
+        }
+    } else {
+        best
     }
-    best
 }
 
 // One candidate: it replaces the best so far if it is allowed and its absolute error is strictly lower.
@@ -125,10 +112,7 @@ fn tried(
     requires { MotionReady target.now reference.now p × BestHeld best × (ux < raised_end) × (uy < raised_end) }
     ensures { (best_so_far result ≡ consider (spot_search target.now reference.now p) (lowered_mv ux uy) (best_so_far best)) × BestHeld result }
 {
-    if !axis_ok(p.side, p.x, p.width, p.px, ux) {
-        return best;
-    }
-    if !axis_ok(p.side, p.y, p.height, p.py, uy) {
+    if !axis_ok(p.side, p.x, p.width, p.px, ux) || !axis_ok(p.side, p.y, p.height, p.py, uy) {
         return best;
     }
     let s = vector_sum(target, reference, p, ux, uy, best);
@@ -140,29 +124,9 @@ fn clip(radius: usize, low: usize, centre: usize, high: usize) -> Span
     requires { (radius ≤ 255) × (low ≤ centre) × (centre ≤ high) × (high < raised_end) }
     ensures { Clipped radius low centre high result }
 {
-    let a = centre - low;
-    let b = high - centre;
-    if radius < a {
-        if radius < b {
-            return Span {
-                from: 0,
-                to: 2 * radius + 1,
-            };
-        }
-        return Span {
-            from: 0,
-            to: radius + b + 1,
-        };
-    }
-    if radius < b {
-        return Span {
-            from: radius - a,
-            to: 2 * radius + 1,
-        };
-    }
     Span {
-        from: radius - a,
-        to: radius + b + 1,
+        from: radius.saturating_sub(centre - low),
+        to: radius + radius.min(high - centre) + 1,
     }
 }
 
@@ -172,9 +136,10 @@ fn span_of(p: usize, radius: usize) -> Span
     ensures { Spans p radius result }
 {
     if p < 1024 {
-        return clip(radius, 496, p / 2, (p + 31) / 2);
+        clip(radius, 496, p / 2, (p + 31) / 2)
+    } else {
+        clip(radius, (p - 31) / 2, p / 2, 527)
     }
-    clip(radius, (p - 31) / 2, p / 2, 527)
 }
 
 // One full-sample candidate of a row that is allowed: the same sum, without the loops between samples.
@@ -220,10 +185,8 @@ fn row_best(
     if !axis_ok(p.side, p.y, p.height, p.py, uy) {
         return first;
     }
-    let to = s.to;
     let mut best = first;
-    let mut k = s.from;
-    while k < to {
+    for k in s.from..s.to {
         best = full_tried(
             target,
             reference,
@@ -232,7 +195,6 @@ fn row_best(
             uy,
             best,
         );
-        k += 1;
     }
     best
 }
@@ -244,10 +206,8 @@ fn full_best(target: &[u8], reference: &[u8], p: Spot, first: Candidate) -> Cand
 {
     let sx = span_of(p.px, p.radius);
     let sy = span_of(p.py, p.radius);
-    let to = sy.to;
     let mut best = first;
-    let mut k = sy.from;
-    while k < to {
+    for k in sy.from..sy.to {
         best = row_best(
             target,
             reference,
@@ -256,7 +216,6 @@ fn full_best(target: &[u8], reference: &[u8], p: Spot, first: Candidate) -> Cand
             2 * (p.py / 2 + k - p.radius),
             best,
         );
-        k += 1;
     }
     best
 }
@@ -291,10 +250,8 @@ fn near_best(target: &[u8], reference: &[u8], p: Spot, c: Candidate) -> Candidat
     ensures { (best_so_far result ≡ refined (spot_search target.now reference.now p) (best_so_far c)) × BestHeld result }
 {
     let mut best = c;
-    let mut k = 0;
-    while k < 9 {
+    for k in 0..9 {
         best = near_one(target, reference, p, c, k, best);
-        k += 1;
     }
     best
 }

@@ -10,20 +10,17 @@ ghost use Rattle.mv_cache.specs.CacheNeeds.{near_from, VectorSlices, BlocksRoom,
 
 use super::super::svq1_mv_cache::NearBlocks;
 use bits::inner::{put_row, signed};
-use vectors::svq1_motion_predictor::{Neighbour, Svq1Mv};
+use vectors::svq1_motion_predictor::Svq1Mv;
 
 // The byte of a component in -32..31.
 fn byte_of(z: i32) -> u8
     requires { InRange z }
     ensures { result ≡ signed_byte z }
 {
-    if z < 0 {
-        return (z + 256) as u8;
-    }
-    z as u8
+    if z < 0 { (z + 256) as u8 } else { z as u8 }
 }
 
-// The neighbour that many 8x8 rows above a row, and that many columns left of a column.
+// The vector of the neighbour that many 8x8 rows above a row, and that many columns left of a column; off the plane there is none.
 fn neighbour_at(
     vx: &[u8],
     vy: &[u8],
@@ -33,26 +30,17 @@ fn neighbour_at(
     up: usize,
     col: usize,
     back: usize,
-) -> Neighbour
+) -> Option<Svq1Mv>
     requires { VectorSlices cols rows vx.now vy.now }
     ensures { result ≡ neighbour_at cols rows vx.now vy.now (sub_ℕ row up) (sub_ℕ col back) }
 {
-    if row < up {
-        return Neighbour::Absent;
-    }
-    if 2 * rows <= row - up {
-        return Neighbour::Absent;
-    }
-    if col < back {
-        return Neighbour::Absent;
-    }
-    if 2 * cols <= col - back {
-        return Neighbour::Absent;
+    if row < up || 2 * rows <= row - up || col < back || 2 * cols <= col - back {
+        return None;
     }
     let i = (row - up) * (2 * cols) + (col - back);
     let x = signed(vx[i]);
     let y = signed(vy[i]);
-    Neighbour::Present(Svq1Mv { x, y })
+    Some(Svq1Mv { x, y })
 }
 
 // The seven neighbours of macroblock k.
@@ -93,11 +81,9 @@ pub fn put_part(out: &mut [u8], side: usize, cols: usize, k: usize, v: &[u8])
     requires { BlocksRoom side cols k out.old × (length v.now ≡ side * side) }
     ensures { out.new ≡ put_part side cols k v.now out.old }
 {
-    let mut i = 0;
-    while i < side {
+    for i in 0..side {
         let o = (k / cols * side + i) * (side * cols) + k % cols * side;
         copy_row(out, v, o, side * i, side);
-        i += 1;
     }
 }
 

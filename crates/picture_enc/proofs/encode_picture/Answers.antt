@@ -1,5 +1,6 @@
 -- Refused, or written as far as it goes. Assumes nothing.
 use mathlib.Core.Path.{sym, ◌∙◌}
+use Rattle.bits.specs.CallsLaws.{told_none, told_some}
 use Rattle.picture.specs.Picture.{Shared, shared_by, PlaneIn, plane_by, results_by}
 use Rattle.picture.specs.RefusalsLaws.{refusal_of_three, call_written}
 use Rattle.picture_enc.specs.RefusedLaws.{picture_refused}
@@ -7,14 +8,14 @@ use mathlib.Core.List.{[], ◌∷◌}
 use lib.ListN.{length}
 use Rattle.picture_enc.proofs.encode_picture.Goals as goal
 
-pub returns-then-told-ne0 : goal.returns-then-told-ne0
-returns-then-told-ne0 c =
+pub returns-then-is_some : goal.returns-then-is_some
+returns-then-is_some c =
     let a = c.args in
     let s : Shared = shared_by a.book.now a.codebook.now a.settings in
     let p0 : PlaneIn = plane_by a.canvas0 a.source0.now a.reference0.now (results_by a.recon0.now a.vx0.now a.vy0.now a.stated0.now) in
     let p1 : PlaneIn = plane_by a.canvas1 a.source1.now a.reference1.now (results_by a.recon1.now a.vx1.now a.vy1.now a.stated1.now) in
     let p2 : PlaneIn = plane_by a.canvas2 a.source2.now a.reference2.now (results_by a.recon2.now a.vx2.now a.vy2.now a.stated2.now) in
-    picture_refused s p0 p1 p2 a.allowance a.out.now a.start c.picture_refusals-told.ensures c.if-told-ne0.true c.nothing_done.ensures c.nothing_done-then-told-ne0.ensures c.nothing_done-then-told-ne0-2.ensures
+    picture_refused s p0 p1 p2 a.allowance a.out.now a.start c.picture_refusals-told.ensures (told_some _ (sym c.is_some.ensures ∙ c.if-is_some.true)) c.nothing_done.ensures c.nothing_done-then-is_some.ensures c.nothing_done-then-is_some-2.ensures
 
 pub write_planes-requires : goal.write_planes-requires
 write_planes-requires c =
@@ -23,7 +24,7 @@ write_planes-requires c =
     let p0 : PlaneIn = plane_by a.canvas0 a.source0.now a.reference0.now (results_by a.recon0.now a.vx0.now a.vy0.now a.stated0.now) in
     let p1 : PlaneIn = plane_by a.canvas1 a.source1.now a.reference1.now (results_by a.recon1.now a.vx1.now a.vy1.now a.stated1.now) in
     let p2 : PlaneIn = plane_by a.canvas2 a.source2.now a.reference2.now (results_by a.recon2.now a.vx2.now a.vy2.now a.stated2.now) in
-    sym (refusal_of_three s p0 p1 p2 a.allowance (length a.out.now) a.start c.picture_refusals-told.ensures) ∙ c.if-told-ne0.false
+    sym (refusal_of_three s p0 p1 p2 a.allowance (length a.out.now) a.start c.picture_refusals-told.ensures) ∙ told_none _ (sym c.is_some.ensures ∙ c.if-is_some.false)
 
 pub shape_of-out : goal.shape_of-out
 shape_of-out c = c.out-1.given
@@ -72,4 +73,4 @@ returns c =
     let p1 : PlaneIn = plane_by a.canvas1 a.source1.now a.reference1.now (results_by a.recon1.now a.vx1.now a.vy1.now a.stated1.now) in
     let p2 : PlaneIn = plane_by a.canvas2 a.source2.now a.reference2.now (results_by a.recon2.now a.vx2.now a.vy2.now a.stated2.now) in
     call_written s (p0 ∷ p1 ∷ p2 ∷ []) a.allowance a.out.now a.start
-    (sym (refusal_of_three s p0 p1 p2 a.allowance (length a.out.now) a.start c.picture_refusals-told.ensures) ∙ c.if-told-ne0.false) c.write_planes.ensures
+    (sym (refusal_of_three s p0 p1 p2 a.allowance (length a.out.now) a.start c.picture_refusals-told.ensures) ∙ told_none _ (sym c.is_some.ensures ∙ c.if-is_some.false)) c.write_planes.ensures

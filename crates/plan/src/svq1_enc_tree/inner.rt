@@ -4,6 +4,7 @@ pub mod leaves;
 
 ghost use Rattle.std.specs.Prelude.{◌≡◌, ◌+◌, length, get_or};
 ghost use Rattle.bits.specs.Basics.{All};
+ghost use Rattle.book.specs.Level.{level_number};
 ghost use Rattle.tree.specs.Blocks.{block_count};
 ghost use Rattle.tree.specs.NodeForms.{node_of, tree_of, CleanBlock};
 ghost use Rattle.tree.specs.TreeBits.{grow};
@@ -14,12 +15,12 @@ ghost use Rattle.plan.specs.FrontNeeds.{FrontReady, FrontShown};
 
 use super::super::svq1_enc_tree::inner::leaves::{in_tree, plan_leaf};
 use super::super::svq1_enc_tree::{MbPlan, PlannedBlock};
-use book::inner::level_at;
+use book::svq1_blocktree::Svq1Level;
 use book::svq1_vlc::Svq1Half;
 use costs::svq1_enc_tree::cost;
 use leaf::svq1_enc_leaf::{LeafCode, LeafTerms};
 use tree::svq1_enc_tree::inner::walk::{first_of, is_reached};
-use tree::svq1_enc_tree::{Block, TreeNode};
+use tree::svq1_enc_tree::{Block, TreeNode, no_blocks};
 use tree_samples::svq1_enc_tree::inner::rebuild::rebuild;
 
 // The leaf `l`, or a split into parts planned as `x` and `y` if that is strictly cheaper.
@@ -37,16 +38,16 @@ fn decide(lambda: u64, l: PlannedBlock, x: PlannedBlock, y: PlannedBlock) -> Pla
             split: true,
             bits: split_bits,
             error: split_error,
-            code: code,
-            stages: stages,
+            code,
+            stages,
         }
     } else {
         PlannedBlock {
             split: false,
             bits: leaf_bits,
             error: l.error,
-            code: code,
-            stages: stages,
+            code,
+            stages,
         }
     }
 }
@@ -58,17 +59,17 @@ fn plan_block(
     codebook: &[u8],
     raised: &[u8],
     lambda: u64,
-    d: usize,
+    level: Svq1Level,
     target: &[u8],
     predictor: &[u8],
     a: [PlannedBlock; 63],
     i: usize,
 ) -> PlannedBlock
-    requires plan_ready { PlanReady terms book.now codebook.now raised.now d target.now predictor.now × BlockReady d i }
-    requires done { Done (planning_in terms book.now codebook.now lambda d target.now predictor.now) a (i + 1) }
-    ensures { PlannedAt (planning_in terms book.now codebook.now lambda d target.now predictor.now) i result }
+    requires plan_ready { PlanReady terms book.now codebook.now raised.now (level_number level) target.now predictor.now × BlockReady (level_number level) i }
+    requires done { Done (planning_in terms book.now codebook.now lambda (level_number level) target.now predictor.now) a (i + 1) }
+    ensures { PlannedAt (planning_in terms book.now codebook.now lambda (level_number level) target.now predictor.now) i result }
 {
-    let l = plan_leaf(terms, book, codebook, raised, d, target, predictor, i);
+    let l = plan_leaf(terms, book, codebook, raised, level, target, predictor, i);
     if 30 < i {
         return l;
     }
@@ -84,12 +85,12 @@ fn plan_blocks(
     codebook: &[u8],
     raised: &[u8],
     lambda: u64,
-    d: usize,
+    level: Svq1Level,
     target: &[u8],
     predictor: &[u8],
 ) -> [PlannedBlock; 63]
-    requires { PlanReady terms book.now codebook.now raised.now d target.now predictor.now }
-    ensures { Done (planning_in terms book.now codebook.now lambda d target.now predictor.now) result 0 × All CleanChoice result }
+    requires { PlanReady terms book.now codebook.now raised.now (level_number level) target.now predictor.now }
+    ensures { Done (planning_in terms book.now codebook.now lambda (level_number level) target.now predictor.now) result 0 × All CleanChoice result }
 {
     let mut a = [PlannedBlock {
         split: false,
@@ -98,12 +99,10 @@ fn plan_blocks(
         code: LeafCode::Skip,
         stages: [0u8; 6],
     }; 63];
-    let mut i = 63;
-    while 0 < i {
-        i -= 1;
-        if in_tree(d, i) {
+    for i in (0..63).rev() {
+        if in_tree(level, i) {
             let b = plan_block(
-                terms, book, codebook, raised, lambda, d, target, predictor, a, i,
+                terms, book, codebook, raised, lambda, level, target, predictor, a, i,
             );
             a[i] = b;
         }
@@ -135,37 +134,33 @@ fn grow_tree(a: [PlannedBlock; 63], root: usize) -> [Block; 63]
     requires { All CleanChoice a }
     ensures { (tree_of result ≡ grow root (λ i. planned_node (get_or a i blank)) block_count) × All CleanBlock result }
 {
-    let mut t = [Block {
-        node: TreeNode::Off,
-        stages: [0u8; 6],
-    }; 63];
-    let mut i = 0;
-    while i < 63 {
+    let mut t = no_blocks();
+    for i in 0..63 {
         if is_reached(t, root, i) {
-            let b = a[i];
-            t[i] = block_as(b);
+            t[i] = block_as(a[i]);
         }
-        i += 1;
     }
     t
 }
 
-// The plan of a block of level d: its tree, its bits and its error.
+// The plan of a block of a level: its tree, its bits and its error.
 pub fn plan(
     terms: LeafTerms,
     book: &[u8],
     codebook: &[u8],
     raised: &[u8],
     lambda: u64,
-    d: usize,
+    level: Svq1Level,
     target: &[u8],
     predictor: &[u8],
 ) -> MbPlan
-    requires { PlanReady terms book.now codebook.now raised.now d target.now predictor.now }
-    ensures { PlanFound (planning_in terms book.now codebook.now lambda d target.now predictor.now) result }
+    requires { PlanReady terms book.now codebook.now raised.now (level_number level) target.now predictor.now }
+    ensures { PlanFound (planning_in terms book.now codebook.now lambda (level_number level) target.now predictor.now) result }
 {
-    let a = plan_blocks(terms, book, codebook, raised, lambda, d, target, predictor);
-    let root = first_of(d);
+    let a = plan_blocks(
+        terms, book, codebook, raised, lambda, level, target, predictor,
+    );
+    let root = first_of(level);
     let top = a[root];
     let blocks = grow_tree(a, root);
     MbPlan {
@@ -175,21 +170,29 @@ pub fn plan(
     }
 }
 
-// The samples that the tree of a block of level d shows, at the front of `out`, over the block's predictor. `raised` is the raised codebook.
+// The samples that the tree of a block of a level shows, at the front of `out`, over the block's predictor. `raised` is the raised codebook.
 pub fn plan_reconstruction(
     blocks: [Block; 63],
     half: Svq1Half,
     predictor: &[u8],
     raised: &[u8],
-    d: usize,
+    level: Svq1Level,
     out: &mut [u8],
 )
-    requires { FrontReady half (tree_of blocks) (length predictor.now) (length raised.now) d (length out.old) }
-    ensures { FrontShown half (tree_of blocks) predictor.now raised.now d out.old out.new }
+    requires { FrontReady half (tree_of blocks) (length predictor.now) (length raised.now) (level_number level) (length out.old) }
+    ensures { FrontShown half (tree_of blocks) predictor.now raised.now (level_number level) out.old out.new }
 {
-    let level = level_at(d);
     let n = level.vector_length();
     let s = level.block_dims().width;
-    let root = first_of(d);
-    rebuild(blocks, half, predictor, raised, s, d, root, &mut out[0..n]);
+    let root = first_of(level);
+    rebuild(
+        blocks,
+        half,
+        predictor,
+        raised,
+        s,
+        level,
+        root,
+        &mut out[0..n],
+    );
 }

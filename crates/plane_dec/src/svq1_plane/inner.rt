@@ -1,5 +1,6 @@
 // Functions that only the crates of this repository call. Most have a `requires`: the caller, proved too, meets it.
 ghost use Rattle.std.specs.Prelude.{◌≡◌, length};
+ghost use Rattle.bits.specs.Refusals.{refused_by};
 ghost use Rattle.book.specs.Book.{codebook_bytes};
 ghost use Rattle.macroblock.specs.MacroblockNeeds.{given_by};
 ghost use Rattle.macroblock.specs.Slices.{slices_by};
@@ -8,14 +9,15 @@ ghost use Rattle.plane.specs.PlaneNeeds.{PlaneReady, PlaneAccepted};
 ghost use Rattle.plane_dec.specs.ReaderNeeds.{ReadThrough};
 
 use super::super::svq1_plane::ReadEnd;
+use bits::refusal::Refusal;
 use book::inner::CODEBOOK_BYTES;
-use canvas::svq1_plane::{Svq1PlaneCanvas, plane_refusal};
+use canvas::svq1_plane::{Svq1PlaneCanvas, check_plane};
 use codebook::svq1_codebook::inner::raise_codebook;
 use macroblock_dec::svq1_plane::inner::reading::read_macroblock;
-use plane::svq1_plane::inner::{SliceLengths, lent_refusal};
+use plane::svq1_plane::inner::{SliceLengths, check_lent};
 
-// The refusals of the reader, lowest number first, 20 and 21 behind the others; 0 for none. The bit string and the result slices are given by their lengths.
-pub fn read_refusal(
+// The refusals of the reader, lowest number first, 20 and 21 behind the others. The bit string and the result slices are given by their lengths.
+pub fn check_read(
     canvas: Svq1PlaneCanvas,
     reference: &[u8],
     book: &[u8],
@@ -23,20 +25,17 @@ pub fn read_refusal(
     bytes: usize,
     start: usize,
     slices: SliceLengths,
-) -> u8
-    ensures { result ≡ read_refusal_by (given_by canvas reference.now book.now codebook.now) bytes start slices }
+) -> Result<(), Refusal>
+    ensures { refused_by result ≡ read_refusal_by (given_by canvas reference.now book.now codebook.now) bytes start slices }
 {
-    let plane = plane_refusal(
+    check_plane(
         reference,
         canvas.width,
         canvas.height,
         canvas.stride,
         canvas.rows,
-    );
-    if plane != 0 {
-        return plane;
-    }
-    lent_refusal(canvas, book, codebook, bytes, start, slices)
+    )?;
+    check_lent(canvas, book, codebook, bytes, start, slices)
 }
 
 // A plane that no refusal meets, read from bit `start` on, macroblock by macroblock. `raised` is the raised codebook.
@@ -56,25 +55,25 @@ fn read_blocks(
     ensures { ReadThrough (given_by canvas reference.now book.now codebook.now) bytes.now start (slices_by recon.old vx.old vy.old) result (slices_by recon.new vx.new vy.new) }
 {
     let count = canvas.rows / 16 * (canvas.stride / 16);
-    let mut k = 0;
     let mut at = start;
-    while k < count {
-        let r = read_macroblock(
+    for k in 0..count {
+        let read = read_macroblock(
             canvas, reference, book, codebook, raised, bytes, at, k, recon, vx, vy,
         );
-        if r.refused != 0 {
-            return ReadEnd {
-                refused: r.refused,
-                done: k,
-                next: at,
-            };
+        match read {
+            Ok(next) => at = next,
+            Err(refusal) => {
+                return ReadEnd {
+                    refused: Some(refusal),
+                    done: k,
+                    next: at,
+                };
+            }
         }
-        at = r.next;
-        k += 1;
     }
     ReadEnd {
-        refused: 0,
-        done: k,
+        refused: None,
+        done: count,
         next: at,
     }
 }

@@ -1,5 +1,6 @@
 // A plane, written: its refusals, and its macroblocks one behind the other.
 ghost use Rattle.std.specs.Prelude.{◌≡◌, [], ◌∷◌, ◌*◌, length};
+ghost use Rattle.bits.specs.Refusals.{refused_by};
 ghost use Rattle.book.specs.Book.{codebook_bytes};
 ghost use Rattle.macroblock_choice.specs.ChosenNeeds.{task_in};
 ghost use Rattle.macroblock.specs.MacroblockNeeds.{given_by};
@@ -11,17 +12,17 @@ ghost use Rattle.plane_enc.specs.Stated.{told, ToldThrough};
 ghost use Rattle.macroblock.specs.Slices.{slices_by, lent_by};
 
 use super::super::svq1_enc_inter::WriteEnd;
+use bits::refusal::Refusal;
 use book::inner::CODEBOOK_BYTES;
-use canvas::svq1_plane::{Svq1PlaneCanvas, source_refusal};
+use canvas::svq1_plane::{Svq1PlaneCanvas, check_source};
 use codebook::svq1_codebook::inner::raise_codebook;
 use macroblock::svq1_enc_inter::{Settings, Svq1MbMode};
 use macroblock_enc::svq1_enc_inter::inner::limit::BitLimit;
 use macroblock_enc::svq1_enc_inter::inner::writing::write_macroblock;
-use plane::svq1_plane::inner::{SliceLengths, lent_refusal};
+use plane::svq1_plane::inner::{SliceLengths, check_lent};
 
-// The refusals of the writer, lowest number first, 20 and 21 behind the others; 0 for none. The source, the output and the result slices are given by
-// their lengths.
-pub fn write_refusal(
+// The refusals of the writer, lowest number first, 20 and 21 behind the others. The source, the output and the result slices are given by their lengths.
+pub fn check_write(
     canvas: Svq1PlaneCanvas,
     source: usize,
     reference: &[u8],
@@ -30,14 +31,11 @@ pub fn write_refusal(
     bytes: usize,
     start: usize,
     slices: SliceLengths,
-) -> u8
-    ensures { result ≡ write_refusal_by (given_by canvas reference.now book.now codebook.now) source bytes start slices }
+) -> Result<(), Refusal>
+    ensures { refused_by result ≡ write_refusal_by (given_by canvas reference.now book.now codebook.now) source bytes start slices }
 {
-    let plane = source_refusal(canvas, source, reference);
-    if plane != 0 {
-        return plane;
-    }
-    lent_refusal(canvas, book, codebook, bytes, start, slices)
+    check_source(canvas, source, reference)?;
+    check_lent(canvas, book, codebook, bytes, start, slices)
 }
 
 // A macroblock's mode, bits and error at its place, where the slice has room for all three.
@@ -63,7 +61,7 @@ fn write_blocks(
     codebook: &[u8],
     raised: &[u8],
     settings: Settings,
-    limit: BitLimit,
+    limit: Option<BitLimit>,
     out: &mut [u8],
     start: usize,
     recon: &mut [u8],
@@ -75,16 +73,15 @@ fn write_blocks(
     ensures { ToldThrough (given_by canvas reference.now book.now codebook.now) (task_in source.now settings (limit_of limit)) start (lent_by out.old (slices_by recon.old vx.old vy.old)) stated.old result (lent_by out.new (slices_by recon.new vx.new vy.new)) stated.new }
 {
     let count = canvas.rows / 16 * (canvas.stride / 16);
-    let mut k = 0;
     let mut at = start;
     let mut bits = 0;
     let mut error = 0;
-    while k < count {
+    for k in 0..count {
         let r = write_macroblock(
             canvas, source, reference, book, codebook, raised, settings, limit, bits, out, at, k,
             recon, vx, vy,
         );
-        if r.refused != 0 {
+        if r.refused.is_some() {
             return WriteEnd {
                 refused: r.refused,
                 done: k,
@@ -98,11 +95,10 @@ fn write_blocks(
         at = r.next;
         bits += r.bits as u64;
         error += r.error as u64;
-        k += 1;
     }
     WriteEnd {
-        refused: 0,
-        done: k,
+        refused: None,
+        done: count,
         next: at,
         bits,
         error,
@@ -117,7 +113,7 @@ fn write_raised(
     book: &[u8],
     codebook: &[u8],
     settings: Settings,
-    limit: BitLimit,
+    limit: Option<BitLimit>,
     out: &mut [u8],
     start: usize,
     recon: &mut [u8],
@@ -144,7 +140,7 @@ pub fn write_accepted(
     book: &[u8],
     codebook: &[u8],
     settings: Settings,
-    limit: BitLimit,
+    limit: Option<BitLimit>,
     out: &mut [u8],
     start: usize,
     recon: &mut [u8],

@@ -11,17 +11,17 @@ mode_table-requires c = (good_book _ c.requires).size
 pub vector_table-requires : goal.vector_table-requires
 vector_table-requires c = (good_book _ c.requires).size
 
-pub intra_mean_table-requires : goal.intra_mean_table-requires
-intra_mean_table-requires c = (good_book _ c.requires).size
+pub mean_table-requires : goal.mean_table-requires
+mean_table-requires c = (good_book _ c.requires).size
 
-pub inter_mean_table-requires : goal.inter_mean_table-requires
-inter_mean_table-requires c = (good_book _ c.requires).size
+pub mean_table-requires-2 : goal.mean_table-requires-2
+mean_table-requires-2 c = (good_book _ c.requires).size
 
-pub intra_stage_family-requires : goal.intra_stage_family-requires
-intra_stage_family-requires c = (good_book _ c.requires).size
+pub stage_family-requires : goal.stage_family-requires
+stage_family-requires c = (good_book _ c.requires).size
 
-pub inter_stage_family-requires : goal.inter_stage_family-requires
-inter_stage_family-requires c = (good_book _ c.requires).size
+pub stage_family-requires-2 : goal.stage_family-requires-2
+stage_family-requires-2 c = (good_book _ c.requires).size
 
 pub most_bits-requires : goal.most_bits-requires
 most_bits-requires c =
@@ -30,12 +30,12 @@ most_bits-requires c =
     let told = longest_by s.args.book.now s.requires in
     let mode = told 0 4 _ _ u.mode_table.ensures u.longest_code-mode.ensures in
     let vector = told 4 64 _ _ u.vector_table.ensures u.longest_code-vector.ensures in
-    let intra-mean = told 68 256 _ _ u.intra_mean_table.ensures u.longest_code-intra_mean.ensures in
-    let inter-mean = told 324 512 _ _ u.inter_mean_table.ensures u.longest_code-inter_mean.ensures in
-    let intra-stage = told 836 48 _ _ u.intra_stage_family.ensures u.longest_code-intra_stage.ensures in
-    let inter-stage = told 884 48 _ _ u.inter_stage_family.ensures u.longest_code-inter_stage.ensures in
-    let mean = c.greater-mean.ensures in
-    let stage = c.greater-stage.ensures in
+    let intra-mean = told 68 256 _ _ u.mean_table.ensures u.longest_code-intra_mean.ensures in
+    let inter-mean = told 324 512 _ _ u.mean_table-2.ensures u.longest_code-inter_mean.ensures in
+    let intra-stage = told 836 48 _ _ u.stage_family.ensures u.longest_code-intra_stage.ensures in
+    let inter-stage = told 884 48 _ _ u.stage_family-2.ensures u.longest_code-inter_stage.ensures in
+    let mean = c.max-mean.ensures in
+    let stage = c.max-stage.ensures in
     (mode.1, vector.1, omega (arith, stage, intra-stage.1, inter-stage.1), omega (arith, mean, intra-mean.1, inter-mean.1))
 
 pub returns : goal.returns
@@ -46,11 +46,11 @@ returns c =
     let told = longest_by s.args.book.now s.requires in
     let mode = told 0 4 _ _ u.mode_table.ensures u.longest_code-mode.ensures in
     let vector = told 4 64 _ _ u.vector_table.ensures u.longest_code-vector.ensures in
-    let intra-mean = told 68 256 _ _ u.intra_mean_table.ensures u.longest_code-intra_mean.ensures in
-    let inter-mean = told 324 512 _ _ u.inter_mean_table.ensures u.longest_code-inter_mean.ensures in
-    let intra-stage = told 836 48 _ _ u.intra_stage_family.ensures u.longest_code-intra_stage.ensures in
-    let inter-stage = told 884 48 _ _ u.inter_stage_family.ensures u.longest_code-inter_stage.ensures in
-    let mean = c.greater-mean.ensures in
-    let stage = c.greater-stage.ensures in
+    let intra-mean = told 68 256 _ _ u.mean_table.ensures u.longest_code-intra_mean.ensures in
+    let inter-mean = told 324 512 _ _ u.mean_table-2.ensures u.longest_code-inter_mean.ensures in
+    let intra-stage = told 836 48 _ _ u.stage_family.ensures u.longest_code-intra_stage.ensures in
+    let inter-stage = told 884 48 _ _ u.stage_family-2.ensures u.longest_code-inter_stage.ensures in
+    let mean = c.max-mean.ensures in
+    let stage = c.max-stage.ensures in
     let whole = c.most_bits.ensures in
     omega (arith, whole, stage, mean, mode.0, vector.0, intra-mean.0, inter-mean.0, intra-stage.0, inter-stage.0)

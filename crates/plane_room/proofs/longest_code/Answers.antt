@@ -11,18 +11,12 @@ loop-i-init c = omega arith
 pub entry_len-requires : goal.entry_len-requires
 entry_len-requires c = omega arith
 
-pub overflow_add-i : goal.overflow_add-i
-overflow_add-i c = omega arith
-
-pub loop-i-smaller : goal.loop-i-smaller
-loop-i-smaller c = omega arith
-
 pub loop-i-preserved : goal.loop-i-preserved
 loop-i-preserved c =
     let u = c in
     let t : List ℕ = u.args.table.now in
     let e = longest_turn t u.loop-i.i u.loop-i.most (omega arith) u.loop-i.invariant in
-    rw (c.greater-most.ensures, c.entry_len.ensures) e
+    rw (c.max-most.ensures, c.entry_len.ensures) e
 
 pub returns : goal.returns
 returns c = longest_last c.args.table.now c.loop-i.i c.loop-i.most c.loop-i-test.false c.loop-i.invariant

@@ -6,6 +6,3 @@ use Rattle.plane_room.proofs.longest_code.Given as goal
 
 abbrev pub invariant-loop-i : goal.invariant-loop-i
 invariant-loop-i l = max l.most (longest (drop (3 * l.i) l.table)) ≡ longest l.table
-
-abbrev pub decreases-loop-i : goal.decreases-loop-i
-decreases-loop-i l = length l.table / 3 - l.i

@@ -4,4 +4,4 @@ use Rattle.replay.specs.LayoutLaws.{scene_small}
 use Rattle.replay.proofs.replay_scene.Goals as goal
 
 pub replay_whole-requires : goal.replay_whole-requires
-replay_whole-requires g c = scene_small c.args.file.now c.args.at _ (sym c.read_scene.ensures ∙ c.in-Whole.is)
+replay_whole-requires g c = scene_small c.args.file.now c.args.at _ (sym c.read_scene.ensures ∙ c.in-Ok.is)

@@ -27,38 +27,21 @@ pub enum Difference {
 pub fn is_same(d: Difference) -> bool
     ensures { result ≡ is_same d }
 {
-    match d {
-        Difference::Same => true,
-        Difference::Refusal => false,
-        Difference::Done => false,
-        Difference::Next => false,
-        Difference::Count => false,
-        Difference::Bits => false,
-        Difference::Steps => false,
-        Difference::Samples => false,
-        Difference::X => false,
-        Difference::Y => false,
-    }
+    matches!(d, Difference::Same)
 }
 
 // The first of two that is one.
 pub fn first(a: Difference, b: Difference) -> Difference
     ensures { result ≡ pick (is_same a) b a }
 {
-    if is_same(a) {
-        return b;
-    }
-    a
+    if is_same(a) { b } else { a }
 }
 
 // What differs where a test fails, and else the rest.
 fn judged(passes: bool, what: Difference, rest: Difference) -> Difference
     ensures { result ≡ pick passes rest what }
 {
-    if passes {
-        return rest;
-    }
-    what
+    if passes { rest } else { what }
 }
 
 // Whether the first n bytes are those at a place of the file.
@@ -68,12 +51,6 @@ fn same_part(own: &[u8], file: &[u8], at: usize, n: usize) -> bool
     same(part(own, 0, n), part(file, at, n))
 }
 
-fn wide(x: u32) -> u64
-    ensures { result ≡ x }
-{
-    x as u64
-}
-
 // Whether macroblock k states the same: the original's steps have seven bytes a macroblock, ours three numbers.
 fn same_step(steps: &[u8], stated: &[u32], k: usize) -> bool
     requires { (3 * k + 3 ≤ length stated.now) × (k < most_job_blocks) }
@@ -81,13 +58,13 @@ fn same_step(steps: &[u8], stated: &[u32], k: usize) -> bool
 {
     let from = 7 * k;
     let at = 3 * k;
-    if number_at(steps, from, 1) != wide(stated[at]) {
+    if number_at(steps, from, 1) != u64::from(stated[at]) {
         return false;
     }
-    if number_at(steps, from + 1, 2) != wide(stated[at + 1]) {
+    if number_at(steps, from + 1, 2) != u64::from(stated[at + 1]) {
         return false;
     }
-    number_at(steps, from + 3, 4) == wide(stated[at + 2])
+    number_at(steps, from + 3, 4) == u64::from(stated[at + 2])
 }
 
 // Whether the first n macroblocks do.
@@ -95,11 +72,8 @@ fn same_steps(steps: &[u8], stated: &[u32], n: usize) -> bool
     requires { (3 * n ≤ length stated.now) × (n ≤ most_job_blocks) }
     ensures { result ≡ same_steps steps.now stated.now n }
 {
-    let mut k = 0;
-    while k < n {
-        if same_step(steps, stated, k) {
-            k += 1;
-        } else {
+    for k in 0..n {
+        if !same_step(steps, stated, k) {
             return false;
         }
     }
@@ -120,11 +94,9 @@ pub fn count_mode(stated: &[u32], mode: u32, n: usize) -> u64
     requires { 3 * n ≤ length stated.now }
     ensures { result ≡ modes_in stated.now mode n }
 {
-    let mut k = 0;
     let mut count = 0;
-    while k < n {
+    for k in 0..n {
         count += one_if(stated[3 * k], mode);
-        k += 1;
     }
     count
 }
@@ -180,7 +152,7 @@ pub fn written_difference(size: usize, count: u64, w: WriteEnd, rest: Difference
     let bits = judged(w.bits == count, Difference::Count, rest);
     let next = judged(w.next as u64 == count, Difference::Next, bits);
     let done = judged(w.done == size / 256, Difference::Done, next);
-    judged(w.refused == 0, Difference::Refusal, done)
+    judged(w.refused.is_none(), Difference::Refusal, done)
 }
 
 // What the reader answered, before the rest.
@@ -189,5 +161,5 @@ pub fn read_difference(size: usize, count: u64, r: ReadEnd, rest: Difference) ->
 {
     let next = judged(r.next as u64 == count, Difference::Next, rest);
     let done = judged(r.done == size / 256, Difference::Done, next);
-    judged(r.refused == 0, Difference::Refusal, done)
+    judged(r.refused.is_none(), Difference::Refusal, done)
 }

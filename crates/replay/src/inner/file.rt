@@ -21,9 +21,9 @@ pub struct Scene {
     pub first: usize,
 }
 
-#[derive(Drop)]
-pub enum SceneRead {
-    Whole(Scene),
+// Why a scene is not replayed: its sides are too large, or the file ends inside it.
+#[derive(Clone, Copy)]
+pub enum SceneError {
     TooLarge,
     Ends,
 }
@@ -43,12 +43,6 @@ pub struct Job {
     pub vx: usize,
     pub vy: usize,
     pub next: usize,
-}
-
-#[derive(Drop)]
-pub enum JobRead {
-    Whole(Job),
-    Ends,
 }
 
 // Reads until there is no more room or the file ends; the answer is how many bytes were read.
@@ -90,12 +84,6 @@ pub fn byte(t: &[u8], at: usize) -> u8
     0
 }
 
-fn wide(x: u8) -> u64
-    ensures { result ≡ x }
-{
-    x as u64
-}
-
 // The number of at most eight bytes, lowest first; 0 for more of them.
 fn number(t: &[u8]) -> u64
     ensures { result ≡ number_in t.now }
@@ -104,10 +92,8 @@ fn number(t: &[u8]) -> u64
         return 0;
     }
     let mut n = 0;
-    let mut i = t.len();
-    while 0 < i {
-        i -= 1;
-        n = 256 * n + wide(t[i]);
+    for i in (0..t.len()).rev() {
+        n = 256 * n + u64::from(t[i]);
     }
     n
 }
@@ -137,7 +123,7 @@ fn padded(n: usize) -> usize
 }
 
 // A scene whose size is read.
-fn sized_scene(file: &[u8], at: usize, width: usize, height: usize) -> SceneRead
+fn sized_scene(file: &[u8], at: usize, width: usize, height: usize) -> Result<Scene, SceneError>
     requires { Begun (length file.now) at 4 × (width ≤ most_side) × (height ≤ most_side) }
     ensures { result ≡ sized_in file.now at width height }
 {
@@ -146,12 +132,12 @@ fn sized_scene(file: &[u8], at: usize, width: usize, height: usize) -> SceneRead
     let samples = width * height;
     let size = stride * rows;
     if file.len() - at <= 4 + samples + size {
-        return SceneRead::Ends;
+        return Err(SceneError::Ends);
     }
     let source = at + 4;
     let reference = source + samples;
     let jobs = reference + size;
-    SceneRead::Whole(Scene {
+    Ok(Scene {
         canvas: Svq1PlaneCanvas {
             width,
             height,
@@ -168,42 +154,42 @@ fn sized_scene(file: &[u8], at: usize, width: usize, height: usize) -> SceneRead
 }
 
 // The scene at a place.
-pub fn read_scene(file: &[u8], at: usize) -> SceneRead
+pub fn read_scene(file: &[u8], at: usize) -> Result<Scene, SceneError>
     ensures { result ≡ scene_in file.now at }
 {
     if file.len() < at {
-        return SceneRead::Ends;
+        return Err(SceneError::Ends);
     }
     if file.len() - at < 4 {
-        return SceneRead::Ends;
+        return Err(SceneError::Ends);
     }
     let width = number_at(file, at, 2);
     let height = number_at(file, at + 2, 2);
     if 64 < width {
-        return SceneRead::TooLarge;
+        return Err(SceneError::TooLarge);
     }
     if 64 < height {
-        return SceneRead::TooLarge;
+        return Err(SceneError::TooLarge);
     }
     sized_scene(file, at, width as usize, height as usize)
 }
 
 // A job whose bit count is read.
-fn measured_job(file: &[u8], books: u8, size: usize, at: usize, count: u64) -> JobRead
+fn measured_job(file: &[u8], books: u8, size: usize, at: usize, count: u64) -> Option<Job>
     requires { Begun (length file.now) at 16 × (size ≤ most_size) }
     ensures { result ≡ measured_in file.now books size at count }
 {
     let bytes = bytes_for(count) as usize;
     let blocks = size / 256;
     if file.len() - at < 16 + bytes + 7 * blocks + size + 4 * blocks + 4 * blocks {
-        return JobRead::Ends;
+        return None;
     }
     let bits = at + 16;
     let steps = bits + bytes;
     let recon = steps + 7 * blocks;
     let vx = recon + size;
     let vy = vx + 4 * blocks;
-    JobRead::Whole(Job {
+    Some(Job {
         book: 4 + BOOK_BYTES * (byte(file, at) as usize),
         codebook: 4
             + BOOK_BYTES * (books as usize)
@@ -221,16 +207,16 @@ fn measured_job(file: &[u8], books: u8, size: usize, at: usize, count: u64) -> J
     })
 }
 
-// The job at a place, of a scene whose canvas has `size` samples in a list of so many books.
-pub fn read_job(file: &[u8], books: u8, size: usize, at: usize) -> JobRead
+// The job at a place, if the file does not end inside it, of a scene whose canvas has `size` samples in a list of so many books.
+pub fn read_job(file: &[u8], books: u8, size: usize, at: usize) -> Option<Job>
     requires { size ≤ most_size }
     ensures { result ≡ job_of_list file.now books size at }
 {
     if file.len() < at {
-        return JobRead::Ends;
+        return None;
     }
     if file.len() - at < 16 {
-        return JobRead::Ends;
+        return None;
     }
     let count = number_at(file, at + 12, 4);
     measured_job(file, books, size, at, count)

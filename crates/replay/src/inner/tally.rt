@@ -41,12 +41,6 @@ pub fn no_tally() -> Tally
     }
 }
 
-fn lesser(a: usize, b: usize) -> usize
-    ensures { result ≡ min a b }
-{
-    if a < b { a } else { b }
-}
-
 // One job: what the writer told of the macroblocks that it did, of at most `blocks`.
 pub fn job_tally(
     stated: &[u32],
@@ -58,7 +52,7 @@ pub fn job_tally(
     requires { 3 * blocks ≤ length stated.now }
     ensures { result ≡ tallied_of stated.now blocks w written read }
 {
-    let done = lesser(w.done, blocks);
+    let done = w.done.min(blocks);
     Tally {
         jobs: 1,
         blocks: done as u64,

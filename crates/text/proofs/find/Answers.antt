@@ -1,28 +1,12 @@
--- `text::find` meets its contract: the bytes passed and those that stand before the first b in what is left are those before it in the whole. Assumes nothing.
-use native.Mathlib.Omega.{arith}
-use Rattle.text.specs.TextLaws.{count-step, count_here, count_end}
+-- `text::find` meets its contract: the place of the first byte that is b.
+use Rattle.std.proofs.Common.{eqb, rules, tests}
+use Rattle.std.proofs.lemmas.Iterator.{YieldsList-from_slice}
+use Rattle.std.proofs.lemmas.Iterator.Search.{position_from_yields_List}
+use Rattle.text.specs.TextLaws.{text_found}
 use Rattle.text.proofs.find.Goals as goal
-
-pub loop-i-init : goal.loop-i-init
-loop-i-init c = (omega arith, omega arith)
-
-pub bounds-t-i : goal.bounds-t-i
-bounds-t-i c = omega arith
-
-pub returns-then-t-i : goal.returns-then-t-i
-returns-then-t-i c =
-    record { count = omega (arith, count_here c.args.b c.args.t.now c.loop-i.i (omega arith) c.if-t-i.true); within = omega arith }
-
-pub overflow_add-i : goal.overflow_add-i
-overflow_add-i c = omega arith
-
-pub loop-i-smaller : goal.loop-i-smaller
-loop-i-smaller c = omega arith
-
-pub loop-i-preserved : goal.loop-i-preserved
-loop-i-preserved c =
-    (omega arith, omega (arith, count-step c.args.b c.args.t.now c.loop-i.i (omega arith) c.if-t-i.false))
 
 pub returns : goal.returns
 returns c =
-    record { count = omega (arith, count_end c.args.b c.args.t.now c.loop-i.i (omega arith)); within = omega arith }
+    let a = c.args in
+    text_found a.b a.t.now c.position.result
+    (position_from_yields_List (λ x. eqb x a.b) _ _ c.position.result c.position.ensures.ran (YieldsList-from_slice a.t.now cc) (λ x b q k. search (rules, tests)))

@@ -1,26 +1,11 @@
 -- `text::put_decimal` meets its contract: the digits left before what is written make the number. Assumes nothing.
-use Prim.Native.Nat.{ℕ, ◌+◌, ◌-◌, ◌%◌, ◌≤◌}
-use mathlib.Core.Path.{◌≡◌, refl, sym, ◌∙◌}
+use Prim.Native.Nat.{ℕ, ◌+◌, ◌%◌, ◌≤◌}
+use mathlib.Core.Path.{sym, ◌∙◌}
 use native.Mathlib.Omega.{arith}
 use lib.ListN.{length, length-set}
 use Rattle.text.specs.Text.{decimal}
-use Rattle.text.specs.PutLaws.{put_none, digits_turn, digits_kept, digits_end}
+use Rattle.text.specs.PutLaws.{digits_turn, digits_kept, digits_end}
 use Rattle.text.proofs.put_decimal.Goals as goal
-
-pub returns-then-out-at : goal.returns-then-out-at
-returns-then-out-at c =
-    let a = c.args in put_none a.out.now a.at (decimal a.n) (omega (arith, c.digit_count-k.ensures.count))
-
-pub returns-then-out-at-2 : goal.returns-then-out-at-2
-returns-then-out-at-2 c =
-    let a = c.args in put_none a.out.now a.at (decimal a.n) (omega (arith, c.digit_count-k.ensures.count))
-
-pub loop-i-init : goal.loop-i-init
-loop-i-init c =
-    let a = c.args in
-    let k : ℕ = c.digit_count-k.result in
-    let z : a.at + k - a.at ≡ k = omega arith in
-    (omega arith, omega arith, refl, refl, rw z)
 
 pub loop-i-preserved : goal.loop-i-preserved
 loop-i-preserved c =
@@ -33,9 +18,6 @@ loop-i-preserved c =
       digits_kept i (48 + c.loop-i.m % 10) c.loop-i.out a.out.now (omega arith) c.loop-i.invariant.3,
       sym (digits_turn a.at i c.loop-i.m c.loop-i.out (omega arith) (omega arith)) ∙ c.loop-i.invariant.4,
     )
-
-pub shape_of-out : goal.shape_of-out
-shape_of-out c = c.loop-i.invariant.2
 
 pub returns : goal.returns
 returns c =

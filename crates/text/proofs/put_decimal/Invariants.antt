@@ -8,6 +8,3 @@ abbrev pub invariant-loop-i : goal.invariant-loop-i
 invariant-loop-i l =
     (l.at ≤ l.i) × (l.i ≤ l.at + l.k) × (length l.out ≡ length l.initial.out) × (take l.i l.out ≡ take l.i l.initial.out)
     × (last_digits (l.i - l.at) l.m (drop l.i l.out) ≡ last_digits l.k l.n (drop (l.at + l.k) l.initial.out))
-
-abbrev pub decreases-loop-i : goal.decreases-loop-i
-decreases-loop-i l = l.i - l.at

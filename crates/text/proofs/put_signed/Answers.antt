@@ -4,11 +4,11 @@ use mathlib.Core.Path.{◌≡◌, ap, ◌∙◌}
 use mathlib.Core.List.{◌∷◌}
 use native.Mathlib.Omega.{arith}
 use lib.IntN.{nat_abs}
-use lib.ListN.{length, length-set}
+use lib.ListN.{length}
 use mir.Syntax.{w64}
 use mir.ValLaws.{to_z-of_z}
 use Rattle.text.specs.Text.{minus, decimal, signed_decimal}
-use Rattle.text.specs.PutLaws.{put_none, byte_before}
+use Rattle.text.specs.PutLaws.{byte_before}
 use Rattle.text.specs.SignedFormsLaws.{signed_above, signed_below}
 use Rattle.text.proofs.put_signed.Goals as goal
 use Rattle.text.proofs.put_signed.Goals.{After-signed_count-bytes, Else-out-at-2}
@@ -28,29 +28,16 @@ room c e = omega (arith, rw (below c) at e)
 pub returns-then-z-ge0 : goal.returns-then-z-ge0
 returns-then-z-ge0 c =
     let e = to_z-of_z w64 c.args.z c.ranges.z in
-    let size : c.size_of.result ≡ nat_abs c.args.z = c.size_of.ensures ∙ ap nat_abs e in
+    let size : c.unsigned_abs.result ≡ nat_abs c.args.z = c.unsigned_abs.ensures.value ∙ ap nat_abs e in
     rw (signed_above c.args.z (simp e at c.if-z-ge0.true)) (rw size at c.put_decimal.ensures)
-
-pub returns-then-out-at : goal.returns-then-out-at
-returns-then-out-at c =
-    let a = c.args in
-    put_none a.out.now a.at (signed_decimal a.z) (omega (arith, counted (goal.at.returns-then-out-at c).After-signed_count-bytes))
-
-pub returns-then-out-at-2 : goal.returns-then-out-at-2
-returns-then-out-at-2 c =
-    let a = c.args in
-    put_none a.out.now a.at (signed_decimal a.z) (omega (arith, counted (goal.at.returns-then-out-at-2 c).After-signed_count-bytes))
 
 pub bounds-out-at : goal.bounds-out-at
 bounds-out-at c =
     let s = goal.at.bounds-out-at c in
     omega (arith, room s.Else-out-at-2 (counted s.After-signed_count-bytes))
 
-pub shape_of-out : goal.shape_of-out
-shape_of-out c = c.put_decimal-2.auto.out ∙ simp length-set
-
 pub returns : goal.returns
 returns c =
     let s = goal.at.returns c in
-    let size : c.size_of-2.result ≡ nat_abs c.args.z = c.size_of-2.ensures ∙ ap nat_abs (to_z-of_z w64 c.args.z c.ranges.z) in
+    let size : c.unsigned_abs-2.result ≡ nat_abs c.args.z = c.unsigned_abs-2.ensures.value ∙ ap nat_abs (to_z-of_z w64 c.args.z c.ranges.z) in
     rw (below s.Else-out-at-2) (byte_before (room s.Else-out-at-2 (counted s.After-signed_count-bytes)) (rw size at c.put_decimal-2.ensures))

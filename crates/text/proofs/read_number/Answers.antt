@@ -1,18 +1,17 @@
--- `text::read_number` meets its contract: a first zero before more digits is refused, and else the digits make the number. Assumes nothing.
-use mathlib.Core.Path.{sym, ◌∙◌}
-use native.Mathlib.Omega.{arith}
+-- `text::read_number` meets its contract: a first zero before more digits is refused, and else the digits make the number.
+use Rattle.std.proofs.Common.{◌<◌, length, sym, ◌∙◌, arith, rules, tests}
 use Rattle.text.specs.TextLaws.{number_empty, number_one, number_more}
 use Rattle.text.proofs.read_number.Goals as goal
+use Rattle.text.proofs.read_number.Goals.{else-t-gt1-via-then-t-gt1+else-t-eq48, else-t-gt1-via-else-t-gt1}
 
-pub returns-then-t-eq0 : goal.returns-then-t-eq0
-returns-then-t-eq0 c = let a = c.args in sym (number_empty a.most a.t.now c.if-t-eq0.true)
-
-pub returns-then-t-eq1 : goal.returns-then-t-eq1
-returns-then-t-eq1 c = let a = c.args in c.read_digits.ensures ∙ sym (number_one a.most a.t.now c.if-t-eq1.true)
-
-pub bounds-t-0 : goal.bounds-t-0
-bounds-t-0 c = let u = c in omega (arith, u.if-t-eq0.false, u.if-t-eq1.false)
+pub returns-then-is_empty : goal.returns-then-is_empty
+returns-then-is_empty c = sym (number_empty c.args.most c.args.t.now (search (rules, tests)))
 
 pub returns : goal.returns
 returns c =
-    let a = c.args in c.read_digits-2.ensures ∙ sym (number_more a.most a.t.now (omega arith) (omega arith))
+    let a = c.args in
+    let some : 0 < length a.t.now = search (rules, tests) in
+    c.read_digits.ensures ∙ elim c.else-t-gt1.branch [
+      | else-t-gt1-via-then-t-gt1+else-t-eq48 w ↦ sym (number_more a.most a.t.now w.if-t-gt1.true w.if-t-eq48.false)
+      | else-t-gt1-via-else-t-gt1 w ↦ sym (number_one a.most a.t.now (omega (arith, some, w.if-t-gt1.false)))
+    ]

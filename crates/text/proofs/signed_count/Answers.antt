@@ -13,7 +13,7 @@ use Rattle.text.proofs.signed_count.Goals.{After-digit_count-digits}
 -- the digits counted are those of the size
 digits : (c : After-digit_count-digits) → c.digit_count-digits.result ≡ length (decimal (nat_abs c.args.z))
 digits c =
-    let e : c.size_of.result ≡ nat_abs c.args.z = c.size_of.ensures ∙ ap nat_abs (to_z-of_z w64 c.args.z c.ranges.z) in
+    let e : c.unsigned_abs.result ≡ nat_abs c.args.z = c.unsigned_abs.ensures.value ∙ ap nat_abs (to_z-of_z w64 c.args.z c.ranges.z) in
     rw e at c.digit_count-digits.ensures.count
 
 pub returns-then-z-ge0 : goal.returns-then-z-ge0

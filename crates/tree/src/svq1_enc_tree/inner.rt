@@ -2,26 +2,21 @@
 pub mod walk;
 
 ghost use Rattle.std.specs.Prelude.{◌≡◌, ◌-◌, ◌<◌, ◌≤◌};
+ghost use Rattle.book.specs.Level.{level_number};
 ghost use Rattle.tree.specs.Blocks.{level};
 
+use book::svq1_blocktree::Svq1Level;
+
 // The level of block i.
-pub fn level_of(i: usize) -> usize
-    ensures { (result ≡ level i) × (result ≤ 5) }
+pub fn level_of(i: usize) -> Svq1Level
+    ensures { level_number result ≡ level i }
 {
-    if i < 1 {
-        return 5;
+    match i {
+        0 => Svq1Level::L5,
+        1..=2 => Svq1Level::L4,
+        3..=6 => Svq1Level::L3,
+        7..=14 => Svq1Level::L2,
+        15..=30 => Svq1Level::L1,
+        _ => Svq1Level::L0,
     }
-    if i < 3 {
-        return 4;
-    }
-    if i < 7 {
-        return 3;
-    }
-    if i < 15 {
-        return 2;
-    }
-    if i < 31 {
-        return 1;
-    }
-    0
 }

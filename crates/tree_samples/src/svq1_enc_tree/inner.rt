@@ -25,12 +25,10 @@ fn move_rows(
 {
     let mut p = from;
     let mut q = to;
-    let mut left = h;
-    while 0 < left {
+    for _row in 0..h {
         put_row(out, q, &m[p..p + w]);
         p += step;
         q += stride;
-        left -= 1;
     }
 }
 

@@ -1,20 +1,19 @@
 -- Refused, or summed. Assumes nothing.
-use mathlib.Core.Path.{sym, ◌∙◌}
-use Rattle.visible_error.specs.Visible.{ShownPlane}
+use Rattle.std.proofs.Common.{rules, sym}
+use Rattle.bits.specs.CallsLaws.{answer_met}
+use Rattle.visible_error.specs.Visible.{visible_answer}
 use Rattle.visible_error.specs.VisibleNeeds.{shown_by}
-use Rattle.visible_error.specs.VisibleLaws.{passes, answer_refused, answer_shown}
+use Rattle.visible_error.specs.VisibleLaws.{passes, answer_shown}
 use Rattle.visible_error.proofs.visible_error.Goals as goal
-use Rattle.visible_error.proofs.visible_error.Goals.{Start}
 
-abbrev plane : Start → ShownPlane
-plane e = let a = e.args in shown_by a.canvas a.source.now a.recon.now
-
-pub returns-then-refused-ne0 : goal.returns-then-refused-ne0
-returns-then-refused-ne0 c = answer_refused (plane (goal.at.returns-then-refused-ne0 c).Start) _ c.source_refusal-refused.ensures c.if-refused-ne0.true
+pub returns-in_err-check_source : goal.returns-in_err-check_source
+unfolding visible_answer
+returns-in_err-check_source c = search (rules, answer_met, c.in_err-check_source.ensures)
 
 pub visible_total-requires : goal.visible_total-requires
-visible_total-requires c = passes (plane (goal.at.visible_total-requires c).Start) (sym c.source_refusal-refused.ensures ∙ c.if-refused-ne0.false)
+visible_total-requires c = let a = c.args in passes (shown_by a.canvas a.source.now a.recon.now) (sym c.in_ok-check_source.ensures)
 
 pub returns : goal.returns
 returns c =
-    answer_shown (plane (goal.at.returns c).Start) _ (sym c.source_refusal-refused.ensures ∙ c.if-refused-ne0.false) c.visible_total.ensures
+    let a = c.args in
+    answer_shown (shown_by a.canvas a.source.now a.recon.now) _ (sym c.in_ok-check_source.ensures) c.visible_total.ensures

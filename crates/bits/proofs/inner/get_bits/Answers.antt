@@ -14,12 +14,12 @@ use Rattle.bits.proofs.inner.get_bits.Goals.{After-part_of-part}
 read : (c : After-part_of-part) →
     let u = c in
     let a = u.args in
-    let k = c.lesser-k.result in
+    let k = c.min-k.result in
     u.loop-left.acc * 2 ^ k + c.part_of-part.result ≡ val_of (take (a.n - (u.loop-left.left - k)) (drop a.at (bits_of a.s.now)))
 read c =
     let u = c in
     let a = u.args in
-    let k : ℕ = c.lesser-k.result in
+    let k : ℕ = c.min-k.result in
     let p : ℕ = u.loop-left.p in
     let m : ℕ = a.n - u.loop-left.left in
     let e : a.n - (u.loop-left.left - k) ≡ m + k = omega arith in
@@ -37,8 +37,8 @@ overflow_cast-room c = omega arith
 pub overflow_sub-room : goal.overflow_sub-room
 overflow_sub-room c = omega arith
 
-pub lesser-k-requires : goal.lesser-k-requires
-lesser-k-requires c = omega arith
+pub min-k-requires : goal.min-k-requires
+min-k-requires c = omega arith
 
 pub bounds-s-q : goal.bounds-s-q
 bounds-s-q c = omega arith
@@ -56,7 +56,7 @@ pub joined-acc-requires : goal.joined-acc-requires
 joined-acc-requires c =
     let u = c in
     let a = u.args in
-    let m : ℕ = a.n - (u.loop-left.left - c.lesser-k.result) in
+    let m : ℕ = a.n - (u.loop-left.left - c.min-k.result) in
     (omega arith, rw (read c) (lt_of_lt_of_le (run_lt a.s.now a.at m (omega arith)) (pow_mono {j = 32} (omega arith))))
 
 pub overflow_cast-p : goal.overflow_cast-p

@@ -19,8 +19,8 @@ overflow_cast-room c = omega arith
 pub overflow_sub-room : goal.overflow_sub-room
 overflow_sub-room c = omega arith
 
-pub lesser-n-requires : goal.lesser-n-requires
-lesser-n-requires c = omega arith
+pub min-n-requires : goal.min-n-requires
+min-n-requires c = omega arith
 
 pub overflow_sub-left : goal.overflow_sub-left
 overflow_sub-left c = omega arith
@@ -54,7 +54,7 @@ loop-left-preserved c =
       omega arith,
       omega arith,
       q.put_part.auto.out ∙ u.loop-left.invariant.2,
-      put_turn (bits_of out₀) _ _ a.at a.width u.loop-left.left q.lesser-n.result a.value u.loop-left.p _ (omega arith) u.loop-left.invariant.0 room u.loop-left.invariant.1 u.loop-left.invariant.3 q.part_of-part.ensures q.put_part.ensures,
+      put_turn (bits_of out₀) _ _ a.at a.width u.loop-left.left q.min-n.result a.value u.loop-left.p _ (omega arith) u.loop-left.invariant.0 room u.loop-left.invariant.1 u.loop-left.invariant.3 q.part_of-part.ensures q.put_part.ensures,
     )
 
 pub shape_of-out : goal.shape_of-out

@@ -4,14 +4,6 @@ use native.Mathlib.Omega.{arith}
 use Rattle.code_tables.specs.RangeFormsLaws.{meetings-step, meetings_end}
 use Rattle.code_tables.proofs.inner.count_meetings.Goals as goal
 
-pub loop-k-init : goal.loop-k-init
-loop-k-init c = (omega arith, omega arith, omega arith)
-
-pub overflow_add-met : goal.overflow_add-met
-overflow_add-met c =
-    let u = c in
-    omega (arith, c.meets-met.ensures.1, u.loop-k.invariant.1, u.loop-k.invariant.0, u.requires.1)
-
 pub loop-k-preserved : goal.loop-k-preserved
 loop-k-preserved c =
     let u = c in
@@ -19,10 +11,10 @@ loop-k-preserved c =
     let a = s.args in
     let k : ℕ = u.loop-k.k in
     let step = meetings-step a.low a.high a.lows.now a.highs.now k (omega arith) s.requires.0 in
-    (omega arith, omega (arith, c.meets-met.ensures.1), omega (arith, step, c.meets-met.ensures.0, u.loop-k.invariant.2))
+    (omega (arith, c.meets-met.ensures.1), omega (arith, step, c.meets-met.ensures.0, u.loop-k.invariant.1))
 
 pub returns : goal.returns
 returns c =
     let u = c in
     let a = u.args in
-    omega (arith, meetings_end a.low a.high a.lows.now a.highs.now u.loop-k.k c.loop-k-test.false, u.loop-k.invariant.2)
+    omega (arith, meetings_end a.low a.high a.lows.now a.highs.now u.loop-k.k c.loop-k-test.false, u.loop-k.invariant.1)

@@ -1,12 +1,9 @@
-use Prim.Native.Nat.{◌+◌, ◌-◌, ◌≤◌}
+use Prim.Native.Nat.{◌+◌, ◌≤◌}
 use mathlib.Core.Path.{◌≡◌}
-use lib.ListN.{length, drop}
+use lib.ListN.{drop}
 use Rattle.code_tables.specs.RangeForms.{meetings}
 use Rattle.code_tables.proofs.inner.count_meetings.Given as goal
 
 abbrev pub invariant-loop-k : goal.invariant-loop-k
 invariant-loop-k l =
-    (l.k ≤ length l.lows) × (l.met ≤ l.k) × (l.met + meetings l.low l.high (drop l.k l.lows) (drop l.k l.highs) ≡ meetings l.low l.high l.lows l.highs)
-
-abbrev pub decreases-loop-k : goal.decreases-loop-k
-decreases-loop-k l = length l.lows - l.k
+    (l.met ≤ l.k) × (l.met + meetings l.low l.high (drop l.k l.lows) (drop l.k l.highs) ≡ meetings l.low l.high l.lows l.highs)

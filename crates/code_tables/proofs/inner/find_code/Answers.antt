@@ -21,15 +21,6 @@ tested c =
     let a = u.args in
     rw (code_at a.table.now u.loop-i.i (omega arith), ← c.entry_len.ensures, ← c.entry_val.ensures) c.begins_bits.ensures
 
-pub loop-i-init : goal.loop-i-init
-loop-i-init c = (omega arith, λ k h. absurd (omega arith))
-
-pub entry_val-requires : goal.entry_val-requires
-entry_val-requires c = omega arith
-
-pub entry_len-requires : goal.entry_len-requires
-entry_len-requires c = omega arith
-
 pub begins_bits-requires : goal.begins_bits-requires
 begins_bits-requires c =
     let u = c in
@@ -42,26 +33,12 @@ begins_bits-requires c =
 pub returns-then-begins_bits : goal.returns-then-begins_bits
 returns-then-begins_bits c =
     let u = c in
-    record {
-      within = rw length_codes_of (omega arith);
-      before = u.loop-i.invariant.1;
-      found = λ _. sym (tested (goal.at.returns-then-begins_bits c).After-begins_bits) ∙ c.if-begins_bits.true;
-    }
-
-pub overflow_add-i : goal.overflow_add-i
-overflow_add-i c = omega arith
-
-pub loop-i-smaller : goal.loop-i-smaller
-loop-i-smaller c = omega arith
+    (rw length_codes_of (omega arith), u.loop-i.invariant, sym (tested (goal.at.returns-then-begins_bits c).After-begins_bits) ∙ c.if-begins_bits.true)
 
 pub loop-i-preserved : goal.loop-i-preserved
-loop-i-preserved c = (omega arith, below_more _ _ c.loop-i.invariant.1 (sym (tested (goal.at.loop-i-preserved c).After-begins_bits) ∙ c.if-begins_bits.false))
+loop-i-preserved c = below_more _ _ c.loop-i.invariant (sym (tested (goal.at.loop-i-preserved c).After-begins_bits) ∙ c.if-begins_bits.false)
 
 pub returns : goal.returns
 returns c =
     let t : List ℕ = c.args.table.now in
-    record {
-      within = rw length_codes_of (omega arith);
-      before = c.loop-i.invariant.1;
-      found = λ h. absurd (omega (arith, length_codes_of t));
-    }
+    λ k h. c.loop-i.invariant k (omega (arith, length_codes_of t))

@@ -1,14 +1,6 @@
 -- `inner::put_code` meets its contract. An entry's code is its value in as many bits as its length says.
-use Prim.Native.Nat.{ℕ, ◌+◌, ◌*◌}
-use native.Mathlib.Omega.{arith}
 use Rattle.code_tables.specs.CodesLaws.{code_at}
 use Rattle.code_tables.proofs.inner.put_code.Goals as goal
-
-pub overflow_cast-val : goal.overflow_cast-val
-overflow_cast-val c =
-    let k : ℕ = c.args.k in
-    let known = c.shared_slice_known-1.given in
-    omega (arith, known (3 * k), known (3 * k + 1))
 
 pub returns : goal.returns
 returns c =

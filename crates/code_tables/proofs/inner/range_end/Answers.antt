@@ -13,26 +13,11 @@ small c =
     let s = c in
     rw c.power_of_two-size.ensures.0 (end_small s.args.e s.args.v s.args.n s.requires.0 s.requires.2 s.requires.3)
 
-pub overflow_sub-n : goal.overflow_sub-n
-overflow_sub-n c = omega arith
-
-pub power_of_two-size-requires : goal.power_of_two-size-requires
-power_of_two-size-requires c = omega arith
-
 pub overflow_mul-result : goal.overflow_mul-result
 overflow_mul-result c = omega (arith, small c)
-
-pub overflow_sub-result : goal.overflow_sub-result
-overflow_sub-result c = omega (arith, c.power_of_two-size.ensures.1)
-
-pub overflow_mul-result-2 : goal.overflow_mul-result-2
-overflow_mul-result-2 c = omega (arith, small c)
 
 pub overflow_add-result : goal.overflow_add-result
 overflow_add-result c = omega (arith, small c)
 
 pub overflow_cast-result : goal.overflow_cast-result
 overflow_cast-result c = omega (arith, small c)
-
-pub returns : goal.returns
-returns c = rw c.power_of_two-size.ensures.0

@@ -1,6 +1,6 @@
 -- `inner::range_ends` meets its contract. The first `i` ends are there.
 use Prim.Native.Nat.{ℕ, ◌/◌, ◌<◌}
-use mathlib.Core.Path.{◌≡◌, refl, sym, ◌∙◌}
+use mathlib.Core.Path.{◌≡◌, sym, ◌∙◌}
 use mathlib.Core.List.{List}
 use native.Mathlib.Omega.{arith}
 use lib.ListN.{length, get_or, length-set}
@@ -14,15 +14,6 @@ use Rattle.code_tables.proofs.inner.range_ends.Goals.{In-loop-i}
 -- there is an entry for every place
 entry : (c : In-loop-i) → c.loop-i.i < length c.args.table.now / 3
 entry c = omega (arith, c.loop-i-test.true, c.requires.2)
-
-pub loop-i-init : goal.loop-i-init
-loop-i-init c = (refl, refl)
-
-pub entry_val-requires : goal.entry_val-requires
-entry_val-requires c = entry c
-
-pub entry_len-requires : goal.entry_len-requires
-entry_len-requires c = entry (goal.at.entry_len-requires c).In-loop-i
 
 pub range_end-requires : goal.range_end-requires
 range_end-requires c =
@@ -45,9 +36,6 @@ loop-i-preserved c =
     let end : c.range_end.result ≡ get_or (range_ends e table) i 0 =
     rw (end_at e table i h, ← c.entry_len.ensures, ← c.entry_val.ensures) c.range_end.ensures in
     (length-set u.loop-i.out i _ ∙ u.loop-i.invariant.0, fill_step (range_ends e table) u.loop-i.out i _ (omega arith) (omega (arith, length_ends e table)) u.loop-i.invariant.1 end)
-
-pub shape_of-out : goal.shape_of-out
-shape_of-out c = c.loop-i.invariant.0
 
 pub returns : goal.returns
 returns c =

@@ -1,13 +1,13 @@
 -- `inner::ranges_apart` meets its contract. The test of all ranges is what is left of it from range `i` on.
 use Prim.Native.Nat.{ℕ, ◌+◌}
-use mathlib.Core.Path.{◌≡◌, refl, sym, ◌∙◌}
+use mathlib.Core.Path.{◌≡◌, sym, ◌∙◌}
 use mathlib.Core.Bool.{◌&&◌}
 use mathlib.Core.List.{List}
 use native.Mathlib.Omega.{arith}
 use lib.Dec.{eqb}
 use lib.ListN.{drop, get_or}
 use borrow.Author.Tests.{eq-eqb, ne_eqb}
-use Rattle.bits.specs.BasicsLaws.{part_from_lem, length_part}
+use Rattle.bits.specs.BasicsLaws.{part_from_lem}
 use Rattle.code_tables.specs.RangeForms.{meetings, ranges_apart}
 use Rattle.code_tables.specs.RangeFormsLaws.{apart_ranges_step, apart_ranges_end}
 use Rattle.code_tables.proofs.inner.ranges_apart.Goals as goal
@@ -29,23 +29,11 @@ step c =
     rw (← part_from_lem (i + 1) l, ← part_from_lem (i + 1) h) c.count_meetings.ensures in
     u.loop-i.invariant ∙ apart_ranges_step l h i (omega arith) s.requires.0 ∙ rw (← e)
 
-pub loop-i-init : goal.loop-i-init
-loop-i-init c = refl
-
-pub count_meetings-requires : goal.count_meetings-requires
-count_meetings-requires c =
-    let u = c in
-    let s = u in
-    let k : ℕ = u.loop-i.i + 1 in
-    let l = length_part k s.args.lows.now in
-    let h = length_part k s.args.highs.now in
-    (omega (arith, s.requires.0, l, h), omega (arith, s.requires.1, l))
-
 pub loop-i-preserved : goal.loop-i-preserved
-loop-i-preserved c = step (goal.at.loop-i-preserved c).After-count_meetings ∙ rw (eq-eqb c.count_meetings.result 0 c.if-count_meetings-eq0.true)
+loop-i-preserved c = step (goal.at.loop-i-preserved c).After-count_meetings ∙ rw (eq-eqb c.count_meetings.result 0 c.if-count_meetings-ne0.false)
 
-pub returns-else-count_meetings-eq0 : goal.returns-else-count_meetings-eq0
-returns-else-count_meetings-eq0 c = sym (step (goal.at.returns-else-count_meetings-eq0 c).After-count_meetings ∙ rw (ne_eqb c.count_meetings.result 0 c.if-count_meetings-eq0.false))
+pub returns-then-count_meetings-ne0 : goal.returns-then-count_meetings-ne0
+returns-then-count_meetings-ne0 c = sym (step (goal.at.returns-then-count_meetings-ne0 c).After-count_meetings ∙ rw (ne_eqb c.count_meetings.result 0 c.if-count_meetings-ne0.true))
 
 pub returns : goal.returns
 returns c =

@@ -1,38 +1,24 @@
 -- `svq1_vlc::read_code` meets its contract. The table's refusals, then the start bit's; where there is none, what `inner::read_code` finds.
-use mathlib.Core.Path.{sym, ap, ◌∙◌}
-use lib.ListN.{length}
-use Rattle.bits.specs.BasicsLaws.{or_first, or_next}
-use Rattle.code_tables.specs.Calls.{code_at, read_answer}
-use Rattle.bits.specs.CallsLaws.{start_passes, answer_refused, answer_given}
+use Rattle.std.proofs.Common.{rules, sym, ◌∙◌, length}
+use Rattle.bits.specs.BasicsLaws.{or_next}
+use Rattle.bits.specs.CallsLaws.{start_passes, met_first, met_behind, answer_met, answer_given}
+use Rattle.code_tables.specs.Calls.{code_at}
 use Rattle.code_tables.specs.CallsLaws.{table_passes}
 use Rattle.code_tables.proofs.svq1_vlc.read_code.Goals as goal
 
-pub returns-then-bad-ne0 : goal.returns-then-bad-ne0
+pub returns-in_err-check_table : goal.returns-in_err-check_table
 unfolding code_at
-returns-then-bad-ne0 c =
-    let r = c.table_refusal-bad in
-    answer_refused _ _ _ (r.ensures ∙ sym (or_first _ _ (λ e. c.if-bad-ne0.true (r.ensures ∙ e)))) c.if-bad-ne0.true
+returns-in_err-check_table c = search (rules, answer_met, met_first, c.in_err-check_table.ensures)
 
-pub returns-then-beyond-ne0 : goal.returns-then-beyond-ne0
+pub returns-in_err-check_start : goal.returns-in_err-check_start
 unfolding code_at
-returns-then-beyond-ne0 c =
-    let q = c in
-    let passed = sym q.table_refusal-bad.ensures ∙ q.if-bad-ne0.false in
-    answer_refused _ _ _ (c.start_refusal-beyond.ensures ∙ sym (or_next _ _ passed)) c.if-beyond-ne0.true
+returns-in_err-check_start c = search (rules, answer_met, met_behind, c.in_ok-check_table.ensures, c.in_err-check_start.ensures)
 
 pub read_code-requires : goal.read_code-requires
 read_code-requires c =
-    let u = c in
-    let q = u in
-    let a = q.args in
-    let f = start_passes (length a.s.now) a.at (sym c.start_refusal-beyond.ensures ∙ c.if-beyond-ne0.false) in
-    (f, (table_passes a.table.now (sym q.table_refusal-bad.ensures ∙ q.if-bad-ne0.false)).0)
+    (start_passes (length c.args.s.now) c.args.at (sym c.in_ok-check_start.ensures), (table_passes c.args.table.now (sym c.in_ok-check_table.ensures)).0)
 
 pub returns : goal.returns
 unfolding code_at
 returns c =
-    let u = c in
-    let q = u in
-    let passed = sym q.table_refusal-bad.ensures ∙ q.if-bad-ne0.false in
-    let none = or_next _ _ passed ∙ sym u.start_refusal-beyond.ensures ∙ u.if-beyond-ne0.false in
-    c.answered.ensures ∙ ap read_answer c.read_code.ensures ∙ sym (answer_given _ _ none)
+    c.read_code.ensures ∙ sym (answer_given _ _ (or_next _ _ (sym c.in_ok-check_table.ensures) ∙ sym c.in_ok-check_start.ensures))

@@ -1,24 +1,24 @@
 -- Refused, or searched. Assumes nothing.
 use mathlib.Core.Path.{◌≡◌, refl, ◌∙◌, sym, ap}
+use Rattle.std.proofs.Common.{rules}
 use native.Mathlib.Omega.{arith}
 use Rattle.book.specs.Level.{area}
 use Rattle.leaf.specs.LeafCall.{BlockIn, block_by, block_refusal}
 use Rattle.leaf_call.specs.LeafAnswerLaws.{block_passes, answer_refused, answer_found}
 use Rattle.leaf_call.proofs.svq1_enc_leaf.search_leaf.Goals as goal
 
-pub returns-then-refusal-ne0 : goal.returns-then-refusal-ne0
-returns-then-refusal-ne0 c =
-    let s = c in
-    let a = s.args in
+pub returns-in_err-check_block : goal.returns-in_err-check_block
+returns-in_err-check_block c =
+    let a = c.args in
     let b : BlockIn = block_by a.book.now a.codebook.now a.level a.half a.target.now a.predictor.now a.cap a.skip a.margin in
-    rw c.refused_answer.ensures (answer_refused b c.block_refusal-refusal.result (c.block_refusal-refusal.ensures a.margin) c.if-refusal-ne0.true)
+    search (rules, answer_refused b, c.in_err-check_block.ensures a.margin)
 
 pub level_at-requires : goal.level_at-requires
 level_at-requires c =
     let s = c in
     let a = s.args in
     let b : BlockIn = block_by a.book.now a.codebook.now a.level a.half a.target.now a.predictor.now a.cap a.skip a.margin in
-    let none : block_refusal b ≡ 0 = sym (c.block_refusal-refusal.ensures a.margin) ∙ c.if-refusal-ne0.false in
+    let none : block_refusal b ≡ 0 = sym (c.in_ok-check_block.ensures a.margin) in
     let p = block_passes b none in
     omega (arith, p.level)
 
@@ -26,7 +26,7 @@ pub terms_of-requires : goal.terms_of-requires
 terms_of-requires c =
     let a = c.args in
     let b : BlockIn = block_by a.book.now a.codebook.now a.level a.half a.target.now a.predictor.now a.cap a.skip a.margin in
-    let none : block_refusal b ≡ 0 = sym (c.block_refusal-refusal.ensures a.margin) ∙ c.if-refusal-ne0.false in
+    let none : block_refusal b ≡ 0 = sym (c.in_ok-check_block.ensures a.margin) in
     let p = block_passes b none in
     omega (arith, p.half)
 
@@ -35,7 +35,7 @@ searched-requires c =
     let s = c in
     let a = s.args in
     let b : BlockIn = block_by a.book.now a.codebook.now a.level a.half a.target.now a.predictor.now a.cap a.skip a.margin in
-    let none : block_refusal b ≡ 0 = sym (c.block_refusal-refusal.ensures a.margin) ∙ c.if-refusal-ne0.false in
+    let none : block_refusal b ≡ 0 = sym (c.in_ok-check_block.ensures a.margin) in
     let p = block_passes b none in
     let l = c.level_at.ensures in
     record {
@@ -53,7 +53,7 @@ returns c =
     let s = c in
     let a = s.args in
     let b : BlockIn = block_by a.book.now a.codebook.now a.level a.half a.target.now a.predictor.now a.cap a.skip a.margin in
-    let none : block_refusal b ≡ 0 = sym (c.block_refusal-refusal.ensures a.margin) ∙ c.if-refusal-ne0.false in
+    let none : block_refusal b ≡ 0 = sym (c.in_ok-check_block.ensures a.margin) in
     let p = block_passes b none in
     let f = rw (c.level_at.ensures, c.terms_of.ensures) at c.searched.ensures in
-    answer_found b c.searched.result none f.accepted f.leaf f.counted f.behind
+    answer_found b c.searched.result none f.leaf f.counted f.behind

@@ -45,4 +45,4 @@ returns c =
     let f = found_level a.codebook.now r.new.out a.terms (level_number a.level) a.target.now a.predictor.now
     l.result _ l.new.out bytes r.ensures q.stages q.target l.ensures in
     rw c.found_answer.ensures.0
-    (record { accepted = refl; leaf = f; counted = c.book_leaf_bits-bits.ensures l.result.stages c.found_answer.ensures.1; behind = l.ensures.behind })
+    (record { leaf = f; counted = c.book_leaf_bits-bits.ensures l.result.stages c.found_answer.ensures.1; behind = l.ensures.behind })

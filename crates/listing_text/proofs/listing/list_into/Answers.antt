@@ -1,4 +1,4 @@
--- The parts that are lent are empty slices of the plane's size. Assumes nothing.
+-- The parts that are lent are empty slices of the plane's size.
 use native.Mathlib.Omega.{arith}
 use mathlib.Core.Path.{sym}
 use Prim.Native.Nat.{◌*◌, ◌/◌, ◌≤◌}

@@ -1,4 +1,4 @@
--- The slices are made of zeros. Assumes nothing.
+-- The slices are made of zeros.
 use mathlib.Core.Path.{refl}
 use Rattle.listing_text.proofs.listing.list_plane.Goals as goal
 

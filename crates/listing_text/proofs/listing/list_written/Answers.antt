@@ -1,4 +1,4 @@
--- What the writer leaves is put as its text. Assumes nothing.
+-- What the writer leaves is put as its text.
 use Rattle.macroblock.specs.Macroblock.{Given}
 use Rattle.macroblock.specs.Choice.{Task}
 use Rattle.macroblock.specs.Slices.{slices_by, Lent, lent_by}

@@ -1,4 +1,4 @@
--- Too short a text, a job line of another form, or the job. Assumes nothing.
+-- Too short a text, a job line of another form, or the job.
 use mathlib.Core.Path.{◌≡◌, ◌∙◌}
 use mathlib.Core.List.{[]}
 use Rattle.listing_job.specs.JobForms.{job_by}
@@ -7,7 +7,7 @@ use Rattle.listing_text.specs.Listed.{files_by}
 use Rattle.listing_job.specs.JobLaws.{job_small, job-told}
 use Rattle.listing_text.specs.FilesLaws.{text_by}
 use Rattle.listing_text.specs.RoomLaws.{listed_short, listed_none, listed_job}
-use mathlib.Core.Option.{some}
+use Rattle.std.proofs.Common.{Some}
 use Rattle.listing_job.specs.Job.{job_in}
 use Rattle.listing_text.proofs.listing.listing.Goals as goal
 
@@ -27,13 +27,13 @@ pub list_job-requires : goal.list_job-requires
 list_job-requires c =
     let a = c.args in
     let f : Files = files_by a.book.now a.codebook.now a.source.now a.reference.now a.job.now in
-    let asked : job_in a.job.now ≡ some (job_by c.in-Job.j) = job-told c.read_job.result (job_in a.job.now) c.read_job.ensures ∙ rw c.in-Job.is in
-    let small = job_small a.job.now (job_by c.in-Job.j) asked in
+    let asked : job_in a.job.now ≡ Some (job_by c.in-Some.j) = job-told (Some c.in-Some.j) (job_in a.job.now) c.in-Some.ensures in
+    let small = job_small a.job.now (job_by c.in-Some.j) asked in
     (small.0, small.1, c.if-text-lt16384.false)
 
 pub returns : goal.returns
 returns c =
     let a = c.args in
     let f : Files = files_by a.book.now a.codebook.now a.source.now a.reference.now a.job.now in
-    let asked : job_in a.job.now ≡ some (job_by c.in-Job.j) = job-told c.read_job.result (job_in a.job.now) c.read_job.ensures ∙ rw c.in-Job.is in
-    listed_job f a.text.now (job_by c.in-Job.j) _ _ c.if-text-lt16384.false asked (rw (text_by a.book.now a.codebook.now a.source.now a.reference.now a.job.now [] (job_by c.in-Job.j)) c.list_job.ensures)
+    let asked : job_in a.job.now ≡ Some (job_by c.in-Some.j) = job-told (Some c.in-Some.j) (job_in a.job.now) c.in-Some.ensures in
+    listed_job f a.text.now (job_by c.in-Some.j) _ _ c.if-text-lt16384.false asked (rw (text_by a.book.now a.codebook.now a.source.now a.reference.now a.job.now [] (job_by c.in-Some.j)) c.list_job.ensures)

@@ -1,4 +1,4 @@
--- A refusal, or the lines and the total behind them. Assumes nothing.
+-- A refusal, or the lines and the total behind them.
 use native.Mathlib.Omega.{arith}
 use Rattle.visible_error.specs.Visible.{ShownPlane}
 use Rattle.visible_error.specs.VisibleNeeds.{shown_by}
@@ -9,11 +9,11 @@ use Rattle.listing_text.proofs.listing.put_plane.Goals.{Start}
 abbrev plane : Start → ShownPlane
 plane e = let a = e.args in shown_by a.canvas a.source.now a.recon.now
 
-pub returns-then-end-ne0 : goal.returns-then-end-ne0
-returns-then-end-ne0 c =
+pub returns-in-Some : goal.returns-in-Some
+returns-in-Some c =
     let e = c in
     let a = e.args in
-    put_refused_end (plane (goal.at.returns-then-end-ne0 c).Start) a.stated.now a.end a.text.now e.requires.1 _ _ c.if-end-ne0.true c.put_refused.ensures
+    put_refused_end (plane (goal.at.returns-in-Some c).Start) a.stated.now a.end a.text.now e.requires.1 _ _ c.in-Some.refusal c.in-Some.is c.put_refused.ensures
 
 pub put_lines-at-requires : goal.put_lines-at-requires
 put_lines-at-requires c =
@@ -36,4 +36,4 @@ returns c =
     let e = c in
     let a = e.args in
     let p = e.requires.0 in
-    put_listed_end (plane (goal.at.returns c).Start) a.stated.now a.end a.text.now e.requires.1 _ _ _ _ c.if-end-ne0.false (omega (arith, p.done, p.few)) c.put_lines-at.ensures (rw c.visible_total-error.ensures at c.put_total_line.ensures)
+    put_listed_end (plane (goal.at.returns c).Start) a.stated.now a.end a.text.now e.requires.1 _ _ _ _ c.in_default.is (omega (arith, p.done, p.few)) c.put_lines-at.ensures (rw c.visible_total-error.ensures at c.put_total_line.ensures)

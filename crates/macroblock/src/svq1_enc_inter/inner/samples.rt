@@ -1,5 +1,5 @@
 // A macroblock's 256 samples.
-ghost use Rattle.std.specs.Prelude.{◌≡◌, List, ℕ, ◌*◌, ◌<◌, length, replicate};
+ghost use Rattle.std.specs.Prelude.{◌≡◌, List, ℕ, ◌*◌, ◌<◌, length};
 ghost use Rattle.bits.specs.Basics.{All};
 ghost use Rattle.mv_cache.specs.CacheNeeds.{VectorSlices, BlocksRoom};
 ghost use Rattle.mv_cache.specs.Grid.{part};
@@ -15,13 +15,14 @@ ghost use Rattle.macroblock.specs.MacroblockNeeds.{given_by};
 ghost use Rattle.macroblock.specs.SampleNeeds.{Stands, Laid, Showing, Shows, quarters};
 
 use super::super::super::svq1_enc_inter::MbMotion;
+use book::svq1_blocktree::Svq1Level;
 use book::svq1_vlc::Svq1Half;
 use canvas::svq1_plane::Svq1PlaneCanvas;
 use compensation::svq1_mc::inner::{mc_macroblock, mc_quarter};
 use mv_cache::svq1_mv_cache::inner::{put_part, store_vectors};
 use tree::svq1_enc_tree::Block;
 use tree_samples::svq1_enc_tree::inner::rebuild::rebuild;
-use vectors::svq1_motion_predictor::{Svq1Mv, zero_vector};
+use vectors::svq1_motion_predictor::Svq1Mv;
 
 // Macroblock k of a plane, whose canvas has this stride and so many rows: the block that a zero vector reads.
 pub fn take_block(
@@ -37,19 +38,7 @@ pub fn take_block(
 {
     let x = 16 * (k % cols);
     let y = 16 * (k / cols);
-    mc_macroblock(out, plane, stride, rows, x, y, zero_vector());
-}
-
-// Zeros.
-pub fn clear(out: &mut [u8; 256])
-    requires { length out.old ≡ 256 }
-    ensures { out.new ≡ replicate 256 0 }
-{
-    let mut j: usize = 0;
-    while j < 256 {
-        out[j] = 0;
-        j += 1;
-    }
+    mc_macroblock(out, plane, stride, rows, x, y, Svq1Mv::ZERO);
 }
 
 // The macroblock at (x, y), each quarter moved by its vector.
@@ -93,7 +82,7 @@ pub fn baseline_of(
     let x = 16 * (k % cols);
     let y = 16 * (k / cols);
     match motion {
-        MbMotion::None => clear(out),
+        MbMotion::None => out.fill(0),
         MbMotion::One { mv, diff: _ } => mc_macroblock(out, reference, stride, rows, x, y, mv),
         MbMotion::Four => move_quarters(out, reference, stride, rows, x, y, vectors),
     }
@@ -127,8 +116,8 @@ pub fn show_coded(
 {
     let half = half_of(motion);
     baseline_of(canvas, reference, k, motion, vectors, base);
-    clear(out);
-    rebuild(blocks, half, base, raised, 16, 5, 0, out);
+    out.fill(0);
+    rebuild(blocks, half, base, raised, 16, Svq1Level::L5, 0, out);
 }
 
 // Macroblock k's samples and its four vectors into the result slices.

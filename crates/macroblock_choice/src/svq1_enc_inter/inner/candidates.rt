@@ -21,7 +21,7 @@ use macroblock::svq1_enc_inter::{MbMotion, Svq1MbMode};
 use macroblock_bits::svq1_enc_inter::inner::{mb_mode_bits, motion_bits};
 use mv_cache::svq1_mv_cache::NearBlocks;
 use tree::svq1_enc_tree::{Block, no_blocks};
-use vectors::svq1_motion_predictor::{Svq1Mv, zero_vector};
+use vectors::svq1_motion_predictor::Svq1Mv;
 
 // A way to code a macroblock: its mode, its motion with the vectors that its four blocks store, its tree, all its bits, and its error.
 #[derive(Clone, Copy)]
@@ -38,13 +38,11 @@ pub struct MbCandidate {
 fn skip_of(bits: u32, error: u32) -> MbCandidate
     ensures { Skipping bits error result }
 {
-    let z = zero_vector();
-    let blocks = no_blocks();
     MbCandidate {
         mode: Svq1MbMode::Skip,
         motion: MbMotion::None,
-        vectors: [z, z, z, z],
-        blocks,
+        vectors: [Svq1Mv::ZERO; 4],
+        blocks: no_blocks(),
         bits,
         error,
     }
@@ -128,13 +126,8 @@ pub fn better(lambda: u64, best: MbCandidate, c: MbCandidate) -> MbCandidate
 {
     let p = cost(lambda, c.bits, c.error);
     let q = cost(lambda, best.bits, best.error);
-    if p < q {
+    if p < q || p == q && c.bits < best.bits {
         return c;
-    }
-    if p == q {
-        if c.bits < best.bits {
-            return c;
-        }
     }
     best
 }

@@ -1,10 +1,11 @@
 // Which way a macroblock is coded: SKIP, and each motion with its plan.
-ghost use Rattle.std.specs.Prelude.{◌≡◌, length};
+ghost use Rattle.std.specs.Prelude.{◌≡◌, [], ◌∷◌, IfSome, length};
 ghost use Rattle.bits.specs.Basics.{All};
 ghost use Rattle.mv_cache.specs.CacheNeeds.{near_from};
 ghost use Rattle.mv_cache.specs.NeighboursLaws.{Around};
 ghost use Rattle.macroblock.specs.MacroblockLaws.{Codables};
 ghost use Rattle.macroblock.specs.Limit.{Limit};
+ghost use Rattle.macroblock.specs.MotionForms.{motion_of};
 ghost use Rattle.macroblock.specs.MacroblockNeeds.{given_by};
 ghost use Rattle.macroblock_search.specs.SearchNeeds.{motions_of};
 ghost use Rattle.macroblock_choice.specs.CandidateNeeds.{Stated, Tried};
@@ -16,11 +17,11 @@ use canvas::svq1_plane::Svq1PlaneCanvas;
 use macroblock::svq1_enc_inter::Settings;
 use macroblock_search::svq1_enc::inner::block;
 use macroblock_search::svq1_enc_inter::inner::motions::{
-    FoundMotion, four_motion, single_motion, still_found,
+    TriedMotion, four_motion, single_motion, still_motion,
 };
 use mv_cache::svq1_mv_cache::NearBlocks;
 
-// The best so far, or a motion that was found, if it has room and is better.
+// The best so far, or a motion with its plan, if it has room and is better.
 fn try_motion(
     canvas: Svq1PlaneCanvas,
     reference: &[u8],
@@ -31,25 +32,56 @@ fn try_motion(
     k: usize,
     target: &[u8],
     near: NearBlocks,
-    found: FoundMotion,
+    tried: TriedMotion,
     best: MbCandidate,
     room: u64,
 ) -> MbCandidate
-    requires { Placing (given_by canvas reference.now book.now codebook.now) raised.now k target.now × All (Codables (near_from near)) (motions_of found) × Carries (near_from near) found.motion found.vectors × Stated (given_by canvas reference.now book.now codebook.now) target.now k (near_from near) best }
+    requires { Placing (given_by canvas reference.now book.now codebook.now) raised.now k target.now × Codables (near_from near) (motion_of tried.motion tried.vectors) × Carries (near_from near) tried.motion tried.vectors × Stated (given_by canvas reference.now book.now codebook.now) target.now k (near_from near) best }
+    ensures { Tried (given_by canvas reference.now book.now codebook.now) target.now settings room k (near_from near) (motion_of tried.motion tried.vectors ∷ []) best result }
+{
+    let c = coded_candidate(
+        canvas,
+        reference,
+        book,
+        codebook,
+        raised,
+        settings,
+        k,
+        target,
+        near,
+        tried.motion,
+        tried.vectors,
+    );
+    if room < c.bits as u64 {
+        return best;
+    }
+    better(settings.lambda, best, c)
+}
+
+// The same of a motion that was searched for, where one was found.
+fn try_found(
+    canvas: Svq1PlaneCanvas,
+    reference: &[u8],
+    book: &[u8],
+    codebook: &[u8],
+    raised: &[u8],
+    settings: Settings,
+    k: usize,
+    target: &[u8],
+    near: NearBlocks,
+    found: Option<TriedMotion>,
+    best: MbCandidate,
+    room: u64,
+) -> MbCandidate
+    requires { Placing (given_by canvas reference.now book.now codebook.now) raised.now k target.now × All (Codables (near_from near)) (motions_of found) × IfSome found (λ m. Carries (near_from near) m.motion m.vectors) × Stated (given_by canvas reference.now book.now codebook.now) target.now k (near_from near) best }
     ensures { Tried (given_by canvas reference.now book.now codebook.now) target.now settings room k (near_from near) (motions_of found) best result }
 {
-    if found.found {
-        let motion = found.motion;
-        let vectors = found.vectors;
-        let c = coded_candidate(
-            canvas, reference, book, codebook, raised, settings, k, target, near, motion, vectors,
-        );
-        if room < c.bits as u64 {
-            return best;
-        }
-        return better(settings.lambda, best, c);
+    match found {
+        Some(tried) => try_motion(
+            canvas, reference, book, codebook, raised, settings, k, target, near, tried, best, room,
+        ),
+        None => best,
     }
-    best
 }
 
 // The best of all that are tried for a macroblock that is to show the target, SKIP and those of at most `room` bits.
@@ -70,12 +102,12 @@ fn choose_for(
 {
     let skip = skip_candidate(canvas, reference, book, k, target);
     let one = single_motion(canvas, reference, target, near, k, settings.radius);
-    let a = try_motion(
+    let a = try_found(
         canvas, reference, book, codebook, raised, settings, k, target, near, one, skip, room,
     );
-    let none = still_found();
+    let still = still_motion();
     let b = try_motion(
-        canvas, reference, book, codebook, raised, settings, k, target, near, none, a, room,
+        canvas, reference, book, codebook, raised, settings, k, target, near, still, a, room,
     );
     let more = four_motion(
         canvas,
@@ -86,7 +118,7 @@ fn choose_for(
         settings.radius,
         settings.four,
     );
-    try_motion(
+    try_found(
         canvas, reference, book, codebook, raised, settings, k, target, near, more, b, room,
     )
 }

@@ -9,6 +9,7 @@ ghost use Rattle.macroblock_choice.specs.ChosenNeeds.{planning_by, Placing, Carr
 ghost use Rattle.plan.specs.PlanNeeds.{PlanFound};
 
 use super::super::super::svq1_enc_inter::inner::candidates::{MbCandidate, candidate_of};
+use book::svq1_blocktree::Svq1Level;
 use book::svq1_vlc::Svq1Half;
 use canvas::svq1_plane::Svq1PlaneCanvas;
 use leaf::svq1_enc_leaf::LeafTerms;
@@ -66,7 +67,7 @@ fn plan_over(
         codebook,
         raised,
         settings.lambda,
-        5,
+        Svq1Level::L5,
         target,
         under,
     )

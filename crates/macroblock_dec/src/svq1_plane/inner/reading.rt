@@ -1,10 +1,8 @@
 // One macroblock, read from a bit string and laid into the result slices.
-ghost use Rattle.std.specs.Prelude.{◌≡◌, true, ◌*◌, ◌<◌, length, drop, replicate};
-ghost use Rattle.bits.specs.Basics.{All};
+ghost use Rattle.std.specs.Prelude.{◌≡◌, ◌*◌, ◌<◌, length, drop, replicate};
 ghost use Rattle.bits.specs.Bits.{bits_of};
 ghost use Rattle.book.specs.Book.{tables_of};
 ghost use Rattle.vectors.specs.Vectors.{zero_mv};
-ghost use Rattle.vectors.specs.VectorsLaws.{Inside};
 ghost use Rattle.mv_cache.specs.CacheNeeds.{near_from, VectorSlices};
 ghost use Rattle.mv_cache.specs.Neighbours.{near_of};
 ghost use Rattle.tree.specs.TreeBits.{read_tree};
@@ -13,10 +11,12 @@ ghost use Rattle.macroblock.specs.Mode.{mode_position};
 ghost use Rattle.macroblock_dec.specs.ReadNeeds.{ReadReady, MbRead};
 ghost use Rattle.macroblock.specs.MacroblockNeeds.{given_by, by_book};
 ghost use Rattle.macroblock.specs.Reading.{read_behind, read_macroblock};
-ghost use Rattle.macroblock_dec.specs.FindingNeeds.{Found, MotionFound, TreeFound, ChoiceFound, skipped_at, read_four, read_motion, difference_here, mode_difference};
+ghost use Rattle.macroblock_dec.specs.FindingNeeds.{FourFound, MotionFound, TreeFound, ChoiceFound, skipped_at, read_motion, difference_here, mode_difference};
 ghost use Rattle.macroblock.specs.Slices.{slices_by};
 
 use super::super::super::svq1_plane::inner::codes::{read_mb_mode, read_vector};
+use bits::refusal::Refusal;
+use book::svq1_blocktree::Svq1Level;
 use book::svq1_vlc::Svq1Half;
 use canvas::svq1_plane::Svq1PlaneCanvas;
 use macroblock::svq1_enc_inter::inner::laying::lay_choice;
@@ -28,28 +28,25 @@ use mv_cache::svq1_mv_cache::{
 };
 use tree::svq1_enc_tree::inner::walk::ReadTree;
 use tree::svq1_enc_tree::{Block, no_blocks};
-use vectors::svq1_motion_predictor::{Svq1Mv, zero_vector};
+use vectors::svq1_motion_predictor::Svq1Mv;
 
-// Four vectors, a motion with its four vectors, and a macroblock, that were read: each with the number of a refusal, or 0 and the bit behind it.
-// A refused one has vectors too, which mean nothing.
+// Four vectors, a motion with its four vectors, and a macroblock, that were read: each with the bit behind it.
 #[derive(Clone, Copy)]
 pub struct ReadFour {
-    pub refused: u8,
     pub next: usize,
     pub vectors: [Svq1Mv; 4],
 }
 
 #[derive(Clone, Copy)]
 pub struct ReadMotion {
-    pub refused: u8,
     pub next: usize,
     pub motion: MbMotion,
     pub vectors: [Svq1Mv; 4],
 }
 
+// SKIP stands as a flag beside a motion and a tree, as `lay_choice` takes them.
 #[derive(Clone, Copy)]
 pub struct ReadChoice {
-    pub refused: u8,
     pub next: usize,
     pub skip: bool,
     pub motion: MbMotion,
@@ -57,178 +54,154 @@ pub struct ReadChoice {
     pub blocks: [Block; 63],
 }
 
-// A macroblock that was read and laid: the number of a refusal, or 0 with the bit behind it.
-#[derive(Clone, Copy)]
-pub struct ReadMb {
-    pub refused: u8,
-    pub next: usize,
-}
-
 // The four vectors that stand at bit `at`, each predicted from those before it.
-fn read_four(s: &[u8], at: usize, book: &[u8], near: NearBlocks) -> ReadFour
+fn read_four(s: &[u8], at: usize, book: &[u8], near: NearBlocks) -> Result<ReadFour, Refusal>
     requires { Reads book.now 5 (length s.now) at }
-    ensures { Found s.now (read_four (by_book book.now) (near_from near) (drop at (bits_of s.now))) result.refused result.vectors result.next × All Inside result.vectors × (length result.vectors ≡ 4) }
+    ensures { FourFound s.now book.now (near_from near) at result }
 {
-    let none = zero_vector();
-    let a = read_vector(s, at, book, predict_first(near));
-    let first = a.mv;
-    if a.refused != 0 {
-        return ReadFour {
-            refused: a.refused,
-            next: at,
-            vectors: [none; 4],
-        };
-    }
-    let b = read_vector(s, a.next, book, predict_second(near, first));
-    let second = b.mv;
-    if b.refused != 0 {
-        return ReadFour {
-            refused: b.refused,
-            next: at,
-            vectors: [none; 4],
-        };
-    }
-    let c = read_vector(s, b.next, book, predict_third(near, first, second));
-    let third = c.mv;
-    if c.refused != 0 {
-        return ReadFour {
-            refused: c.refused,
-            next: at,
-            vectors: [none; 4],
-        };
-    }
-    let d = read_vector(s, c.next, book, predict_fourth(first, second, third));
-    let fourth = d.mv;
-    ReadFour {
-        refused: d.refused,
-        next: d.next,
-        vectors: [first, second, third, fourth],
-    }
+    let first = read_vector(s, at, book, predict_first(near))?;
+    let second = read_vector(s, first.next, book, predict_second(near, first.mv))?;
+    let third = read_vector(
+        s,
+        second.next,
+        book,
+        predict_third(near, first.mv, second.mv),
+    )?;
+    let fourth = read_vector(
+        s,
+        third.next,
+        book,
+        predict_fourth(first.mv, second.mv, third.mv),
+    )?;
+    Ok(ReadFour {
+        next: fourth.next,
+        vectors: [first.mv, second.mv, third.mv, fourth.mv],
+    })
 }
 
 // No motion, which takes no bits, and zero vectors.
 fn no_motion(at: usize) -> ReadMotion
-    ensures { result ≡ record { refused = 0; next = at; motion = MbMotion.None; vectors = replicate 4 zero_mv } }
+    ensures { result ≡ record { next = at; motion = MbMotion.None; vectors = replicate 4 zero_mv } }
 {
-    let zero = zero_vector();
-    let motion = MbMotion::None;
     ReadMotion {
-        refused: 0,
         next: at,
-        motion,
-        vectors: [zero; 4],
+        motion: MbMotion::None,
+        vectors: [Svq1Mv::ZERO; 4],
     }
 }
 
 // The motion of a mode that stands at bit `at`; INTRA has none, and neither has SKIP.
-fn read_motion(s: &[u8], at: usize, book: &[u8], near: NearBlocks, mode: Svq1MbMode) -> ReadMotion
+fn read_motion(
+    s: &[u8],
+    at: usize,
+    book: &[u8],
+    near: NearBlocks,
+    mode: Svq1MbMode,
+) -> Result<ReadMotion, Refusal>
     requires { Reads book.now 5 (length s.now) at }
     ensures { MotionFound s.now (read_motion (by_book book.now) (near_from near) (mode_position mode) (drop at (bits_of s.now))) (difference_here s.now book.now at) result }
 {
     match mode {
         Svq1MbMode::Inter => {
-            let v = read_vector(s, at, book, predict_one(near));
-            let mv = v.mv;
-            let diff = v.diff;
-            ReadMotion {
-                refused: v.refused,
-                next: v.next,
-                motion: MbMotion::One { mv, diff },
-                vectors: [mv; 4],
-            }
+            let one = read_vector(s, at, book, predict_one(near))?;
+            Ok(ReadMotion {
+                next: one.next,
+                motion: MbMotion::One {
+                    mv: one.mv,
+                    diff: one.diff,
+                },
+                vectors: [one.mv; 4],
+            })
         }
         Svq1MbMode::Inter4Mv => {
-            let f = read_four(s, at, book, near);
-            let vectors = f.vectors;
-            ReadMotion {
-                refused: f.refused,
-                next: f.next,
+            let four = read_four(s, at, book, near)?;
+            let vectors = four.vectors;
+            Ok(ReadMotion {
+                next: four.next,
                 motion: MbMotion::Four,
                 vectors,
-            }
+            })
         }
-        Svq1MbMode::Intra => no_motion(at),
-        Svq1MbMode::Skip => no_motion(at),
+        Svq1MbMode::Intra | Svq1MbMode::Skip => Ok(no_motion(at)),
     }
 }
 
 // The tree of a macroblock that stands at bit `at`.
-fn decode_mb_block_tree(s: &[u8], at: usize, half: Svq1Half, book: &[u8]) -> ReadTree
+fn decode_mb_block_tree(
+    s: &[u8],
+    at: usize,
+    half: Svq1Half,
+    book: &[u8],
+) -> Result<ReadTree, Refusal>
     requires { Reads book.now 5 (length s.now) at }
     ensures { TreeFound s.now (read_tree (tables_of book.now half) 5 (drop at (bits_of s.now))) half result }
 {
-    tree::svq1_enc_tree::inner::walk::read(s, at, half, book, 5)
+    tree::svq1_enc_tree::inner::walk::read(s, at, half, book, Svq1Level::L5)
 }
 
-// SKIP, which has nothing behind its mode, or a refusal.
-fn skipped_at(refused: u8, at: usize) -> ReadChoice
-    ensures { result ≡ skipped_at refused at }
+// SKIP, which has nothing behind its mode.
+fn skipped_at(at: usize) -> ReadChoice
+    ensures { result ≡ skipped_at at }
 {
-    let none = zero_vector();
     let blocks = no_blocks();
     ReadChoice {
-        refused,
         next: at,
         skip: true,
         motion: MbMotion::None,
-        vectors: [none; 4],
+        vectors: [Svq1Mv::ZERO; 4],
         blocks,
     }
 }
 
 // What stands behind a mode other than SKIP: its motion and its tree.
-fn read_coded(s: &[u8], at: usize, book: &[u8], near: NearBlocks, mode: Svq1MbMode) -> ReadChoice
+fn read_coded(
+    s: &[u8],
+    at: usize,
+    book: &[u8],
+    near: NearBlocks,
+    mode: Svq1MbMode,
+) -> Result<ReadChoice, Refusal>
     requires { Reads book.now 5 (length s.now) at × (mode_position mode < 3) }
     ensures { ChoiceFound s.now (read_behind (by_book book.now) (near_from near) (mode_position mode) (drop at (bits_of s.now))) (difference_here s.now book.now at) result }
 {
-    let m = read_motion(s, at, book, near, mode);
-    let motion = m.motion;
-    let vectors = m.vectors;
-    if m.refused != 0 {
-        let blocks = no_blocks();
-        return ReadChoice {
-            refused: m.refused,
-            next: at,
-            skip: false,
-            motion,
-            vectors,
-            blocks,
-        };
-    }
-    let t = decode_mb_block_tree(s, m.next, half_of(motion), book);
-    let blocks = t.blocks;
-    ReadChoice {
-        refused: t.refused,
-        next: t.next,
+    let moved = read_motion(s, at, book, near, mode)?;
+    let motion = moved.motion;
+    let vectors = moved.vectors;
+    let tree = decode_mb_block_tree(s, moved.next, half_of(motion), book)?;
+    let blocks = tree.blocks;
+    Ok(ReadChoice {
+        next: tree.next,
         skip: false,
         motion,
         vectors,
         blocks,
-    }
+    })
 }
 
 // What stands behind a mode: nothing behind SKIP.
-fn read_behind(s: &[u8], at: usize, book: &[u8], near: NearBlocks, mode: Svq1MbMode) -> ReadChoice
+fn read_behind(
+    s: &[u8],
+    at: usize,
+    book: &[u8],
+    near: NearBlocks,
+    mode: Svq1MbMode,
+) -> Result<ReadChoice, Refusal>
     requires { Reads book.now 5 (length s.now) at }
     ensures { ChoiceFound s.now (read_behind (by_book book.now) (near_from near) (mode_position mode) (drop at (bits_of s.now))) (difference_here s.now book.now at) result }
 {
-    if mode.position() < 3 {
-        return read_coded(s, at, book, near, mode);
+    match mode {
+        Svq1MbMode::Skip => Ok(skipped_at(at)),
+        _ => read_coded(s, at, book, near, mode),
     }
-    skipped_at(0, at)
 }
 
 // The macroblock that stands at bit `at`, among these neighbours.
-fn read_choice(s: &[u8], at: usize, book: &[u8], near: NearBlocks) -> ReadChoice
+fn read_choice(s: &[u8], at: usize, book: &[u8], near: NearBlocks) -> Result<ReadChoice, Refusal>
     requires { Reads book.now 5 (length s.now) at }
     ensures { ChoiceFound s.now (read_macroblock (by_book book.now) (near_from near) (drop at (bits_of s.now))) (mode_difference s.now book.now at) result }
 {
-    let m = read_mb_mode(s, at, book);
-    let mode = m.mode;
-    if m.refused != 0 {
-        return skipped_at(m.refused, at);
-    }
-    read_behind(s, m.next, book, near, mode)
+    let read = read_mb_mode(s, at, book)?;
+    read_behind(s, read.next, book, near, read.mode)
 }
 
 // The macroblock that stands at bit `at`, as macroblock k of a plane of cols x rows macroblocks whose vectors lie in vx and vy.
@@ -241,7 +214,7 @@ fn read_among(
     cols: usize,
     rows: usize,
     k: usize,
-) -> ReadChoice
+) -> Result<ReadChoice, Refusal>
     requires { Reads book.now 5 (length s.now) at × VectorSlices cols rows vx.now vy.now × (k < rows * cols) }
     ensures { ChoiceFound s.now (read_macroblock (by_book book.now) (near_of cols rows vx.now vy.now k) (drop at (bits_of s.now))) (mode_difference s.now book.now at) result }
 {
@@ -249,7 +222,8 @@ fn read_among(
     read_choice(s, at, book, near)
 }
 
-// Macroblock k, read from bit `at` on and laid into the result slices; a refused one leaves them as they were. `raised` is the raised codebook.
+// Macroblock k, read from bit `at` on and laid into the result slices; the answer is the bit behind it. A refused one leaves the slices as
+// they were. `raised` is the raised codebook.
 pub fn read_macroblock(
     canvas: Svq1PlaneCanvas,
     reference: &[u8],
@@ -262,25 +236,25 @@ pub fn read_macroblock(
     recon: &mut [u8],
     vx: &mut [u8],
     vy: &mut [u8],
-) -> ReadMb
+) -> Result<usize, Refusal>
     requires { ReadReady (given_by canvas reference.now book.now codebook.now) raised.now (slices_by recon.old vx.old vy.old) k (length s.now) at }
     ensures { MbRead (given_by canvas reference.now book.now codebook.now) s.now at k (slices_by recon.old vx.old vy.old) result (slices_by recon.new vx.new vy.new) }
 {
-    let c = read_among(s, at, book, vx, vy, canvas.stride / 16, canvas.rows / 16, k);
-    let motion = c.motion;
-    let vectors = c.vectors;
-    let blocks = c.blocks;
-    if c.refused != 0 {
-        return ReadMb {
-            refused: c.refused,
-            next: at,
-        };
-    }
+    let read = read_among(s, at, book, vx, vy, canvas.stride / 16, canvas.rows / 16, k)?;
+    let vectors = read.vectors;
+    let blocks = read.blocks;
     lay_choice(
-        canvas, reference, raised, k, c.skip, motion, vectors, blocks, recon, vx, vy,
+        canvas,
+        reference,
+        raised,
+        k,
+        read.skip,
+        read.motion,
+        vectors,
+        blocks,
+        recon,
+        vx,
+        vy,
     );
-    ReadMb {
-        refused: 0,
-        next: c.next,
-    }
+    Ok(read.next)
 }

@@ -15,6 +15,7 @@ ghost use Rattle.macroblock_choice.specs.ChosenNeeds.{task_in};
 ghost use Rattle.macroblock.specs.Slices.{slices_by, lent_by};
 
 use super::super::super::svq1_enc_inter::inner::limit::{BitLimit, room_at};
+use bits::refusal::Refusal;
 use canvas::svq1_plane::Svq1PlaneCanvas;
 use canvas::svq1_plane::inner::blocks_along;
 use macroblock::svq1_enc_inter::inner::laying::lay_choice;
@@ -32,12 +33,7 @@ use vectors::svq1_motion_predictor::Svq1Mv;
 fn is_skip(mode: Svq1MbMode) -> bool
     ensures { result ≡ skips mode }
 {
-    match mode {
-        Svq1MbMode::Inter => false,
-        Svq1MbMode::Inter4Mv => false,
-        Svq1MbMode::Intra => false,
-        Svq1MbMode::Skip => true,
-    }
+    matches!(mode, Svq1MbMode::Skip)
 }
 
 // What stands behind the mode: the vectors and the tree.
@@ -98,11 +94,11 @@ fn lay_candidate(
     );
 }
 
-// A macroblock that was written: 0, or 22 where it does not fit and everything lent is as it was. Its mode, bits and error are what was chosen,
+// A macroblock that was written, or refused by `NoRoom` where it does not fit and everything lent is as it was. Its mode, bits and error are what was chosen,
 // in both cases; `next` is the bit behind it, or where it would have begun.
 #[derive(Clone, Copy)]
 pub struct WrittenMb {
-    pub refused: u8,
+    pub refused: Option<Refusal>,
     pub mode: Svq1MbMode,
     pub bits: u32,
     pub error: u32,
@@ -135,7 +131,7 @@ fn write_chosen(
         let next = put_candidate(out, at, book, near, c);
         lay_candidate(canvas, reference, raised, k, c, recon, vx, vy);
         return WrittenMb {
-            refused: 0,
+            refused: None,
             mode,
             bits,
             error,
@@ -143,7 +139,7 @@ fn write_chosen(
         };
     }
     WrittenMb {
-        refused: 22,
+        refused: Some(Refusal::NoRoom),
         mode,
         bits,
         error,
@@ -161,7 +157,7 @@ pub fn write_macroblock(
     codebook: &[u8],
     raised: &[u8],
     settings: Settings,
-    limit: BitLimit,
+    limit: Option<BitLimit>,
     spent: u64,
     out: &mut [u8],
     at: usize,

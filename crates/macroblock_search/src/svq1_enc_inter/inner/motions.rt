@@ -4,7 +4,7 @@ ghost use Rattle.bits.specs.Basics.{pick};
 ghost use Rattle.mv_cache.specs.NeighboursLaws.{Around};
 ghost use Rattle.mv_cache.specs.CacheNeeds.{near_from};
 ghost use Rattle.macroblock.specs.Choice.{single_tried, four_tried};
-ghost use Rattle.macroblock_search.specs.SearchNeeds.{Searching, MotionsFound, one_found, four_found, none_found, still_found};
+ghost use Rattle.macroblock_search.specs.SearchNeeds.{Searching, MotionsFound, still_motion};
 
 use super::super::super::svq1_enc_inter::inner::searches::{
     corner_of, find_vector, first_pair, second_pair,
@@ -12,62 +12,27 @@ use super::super::super::svq1_enc_inter::inner::searches::{
 use canvas::svq1_plane::Svq1PlaneCanvas;
 use macroblock::svq1_enc_inter::MbMotion;
 use mv_cache::svq1_mv_cache::{NearBlocks, predict_one};
+use vectors::svq1_motion_predictor::Svq1Mv;
 use vectors::svq1_motion_predictor::inner::difference_of;
-use vectors::svq1_motion_predictor::{Svq1Mv, zero_vector};
 
-// A motion to try, if there is one, with the vectors that its four blocks store.
+// A motion to try, with the vectors that its four blocks store.
 #[derive(Clone, Copy)]
-pub struct FoundMotion {
-    pub found: bool,
+pub struct TriedMotion {
     pub motion: MbMotion,
     pub vectors: [Svq1Mv; 4],
 }
 
-// No motion to try.
-fn none_found() -> FoundMotion
-    ensures { result ≡ none_found }
-{
-    let z = zero_vector();
-    FoundMotion {
-        found: false,
-        motion: MbMotion::None,
-        vectors: [z, z, z, z],
-    }
-}
-
 // INTRA's: no vector, and zero stored.
-pub fn still_found() -> FoundMotion
-    ensures { result ≡ still_found }
+pub fn still_motion() -> TriedMotion
+    ensures { result ≡ still_motion }
 {
-    let z = zero_vector();
-    FoundMotion {
-        found: true,
+    TriedMotion {
         motion: MbMotion::None,
-        vectors: [z, z, z, z],
+        vectors: [Svq1Mv::ZERO; 4],
     }
 }
 
-fn one_found(v: Svq1Mv, diff: Svq1Mv) -> FoundMotion
-    ensures { result ≡ one_found v diff }
-{
-    FoundMotion {
-        found: true,
-        motion: MbMotion::One { mv: v, diff },
-        vectors: [v, v, v, v],
-    }
-}
-
-fn four_found(a: Svq1Mv, b: Svq1Mv, c: Svq1Mv, d: Svq1Mv) -> FoundMotion
-    ensures { result ≡ four_found a b c d }
-{
-    FoundMotion {
-        found: true,
-        motion: MbMotion::Four,
-        vectors: [a, b, c, d],
-    }
-}
-
-// INTER's motion.
+// INTER's motion, if its search finds a vector.
 pub fn single_motion(
     canvas: Svq1PlaneCanvas,
     reference: &[u8],
@@ -75,22 +40,21 @@ pub fn single_motion(
     near: NearBlocks,
     k: usize,
     radius: u8,
-) -> FoundMotion
+) -> Option<TriedMotion>
     requires { Searching canvas reference.now target.now k × Around (near_from near) }
     ensures { MotionsFound canvas reference.now target.now radius k (near_from near) (λ g t. single_tried g t k (near_from near)) result }
 {
     let p = predict_one(near);
     let at = corner_of(canvas, k);
-    let v = find_vector(canvas, reference, target, 16, at.x, at.y, p, radius);
-    if v.found {
-        let mv = v.mv;
-        let diff = difference_of(p, mv);
-        return one_found(mv, diff);
-    }
-    none_found()
+    let mv = find_vector(canvas, reference, target, 16, at.x, at.y, p, radius)?;
+    let diff = difference_of(p, mv);
+    Some(TriedMotion {
+        motion: MbMotion::One { mv, diff },
+        vectors: [mv; 4],
+    })
 }
 
-// INTER_4MV's, where the flag is set.
+// INTER_4MV's, where the flag is set and its searches find all four.
 pub fn four_motion(
     canvas: Svq1PlaneCanvas,
     reference: &[u8],
@@ -99,24 +63,19 @@ pub fn four_motion(
     k: usize,
     radius: u8,
     four: bool,
-) -> FoundMotion
+) -> Option<TriedMotion>
     requires { Searching canvas reference.now target.now k × Around (near_from near) }
     ensures { MotionsFound canvas reference.now target.now radius k (near_from near) (λ g t. pick four (four_tried g t k (near_from near)) []) result }
 {
     if !four {
-        return none_found();
+        return None;
     }
-    let p = first_pair(canvas, reference, target, near, k, radius);
-    if !p.found {
-        return none_found();
-    }
-    let a = p.a;
-    let b = p.b;
-    let q = second_pair(canvas, reference, target, near, a, b, k, radius);
-    if !q.found {
-        return none_found();
-    }
-    let c = q.a;
-    let d = q.b;
-    four_found(a, b, c, d)
+    let p = first_pair(canvas, reference, target, near, k, radius)?;
+    let q = second_pair(
+        canvas, reference, target, near, p.first, p.second, k, radius,
+    )?;
+    Some(TriedMotion {
+        motion: MbMotion::Four,
+        vectors: [p.first, p.second, q.first, q.second],
+    })
 }

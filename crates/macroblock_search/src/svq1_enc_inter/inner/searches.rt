@@ -1,5 +1,5 @@
 // The searches for a macroblock's vectors.
-ghost use Rattle.std.specs.Prelude.{◌≡◌, false, ◌*◌, ◌/◌, ◌%◌, ◌<◌, length};
+ghost use Rattle.std.specs.Prelude.{◌≡◌, ◌*◌, ◌/◌, ◌%◌, ◌<◌};
 ghost use Rattle.canvas.specs.Canvas.{largest_side, blocks_along};
 ghost use Rattle.motion.specs.Search.{searched};
 ghost use Rattle.motion.specs.SearchCallLaws.{Passes};
@@ -7,30 +7,22 @@ ghost use Rattle.vectors.specs.VectorsLaws.{Inside};
 ghost use Rattle.mv_cache.specs.NeighboursLaws.{Around};
 ghost use Rattle.mv_cache.specs.Neighbours.{for_first, for_second, for_third, for_fourth};
 ghost use Rattle.mv_cache.specs.CacheNeeds.{near_from};
-ghost use Rattle.macroblock_search.specs.SearchNeeds.{search_by, quarter_by, Searching, Cornered, vector_found, PairFound};
+ghost use Rattle.macroblock_search.specs.SearchNeeds.{search_by, quarter_by, Searching, Cornered, pair_searched};
 
 use canvas::svq1_plane::Svq1PlaneCanvas;
 use canvas::svq1_plane::inner::blocks_along;
-use motion::svq1_enc_inter::{Searched, search_motion_vector};
+use motion::svq1_enc_inter::search_motion_vector;
 use mv_cache::svq1_mv_cache::{
     NearBlocks, predict_first, predict_fourth, predict_second, predict_third,
 };
 use tree_samples::svq1_enc_tree::inner::gather_block;
-use vectors::svq1_motion_predictor::{Svq1Mv, zero_vector};
+use vectors::svq1_motion_predictor::Svq1Mv;
 
-// A vector, if it was found.
+// The vectors of two 8x8 blocks beside each other.
 #[derive(Clone, Copy)]
-pub struct FoundMv {
-    pub found: bool,
-    pub mv: Svq1Mv,
-}
-
-// Two vectors, if both were found.
-#[derive(Clone, Copy)]
-pub struct FoundPair {
-    pub found: bool,
-    pub a: Svq1Mv,
-    pub b: Svq1Mv,
+pub struct VectorPair {
+    pub first: Svq1Mv,
+    pub second: Svq1Mv,
 }
 
 // A macroblock's first column and row.
@@ -61,11 +53,11 @@ pub fn find_vector(
     y: usize,
     predictor: Svq1Mv,
     radius: u8,
-) -> FoundMv
+) -> Option<Svq1Mv>
     requires { Passes (search_by canvas reference.now target.now side x y predictor radius) }
-    ensures { vector_found result ≡ searched (search_by canvas reference.now target.now side x y predictor radius) }
+    ensures { result ≡ searched (search_by canvas reference.now target.now side x y predictor radius) }
 {
-    let s = search_motion_vector(
+    let answer = search_motion_vector(
         reference,
         canvas.width,
         canvas.height,
@@ -78,43 +70,10 @@ pub fn find_vector(
         predictor,
         radius,
     );
-    match s {
-        Searched::Vector(v) => FoundMv { found: true, mv: v },
-        Searched::Refused(_) => FoundMv {
-            found: false,
-            mv: zero_vector(),
-        },
-    }
+    answer.ok()
 }
 
-// The same for 8x8 block j of macroblock k, whose samples go into `part`.
-fn find_in(
-    canvas: Svq1PlaneCanvas,
-    reference: &[u8],
-    target: &[u8],
-    k: usize,
-    j: usize,
-    predictor: Svq1Mv,
-    radius: u8,
-    part: &mut [u8],
-) -> FoundMv
-    requires { Searching canvas reference.now target.now k × (j < 4) × Inside predictor × (length part.old ≡ 64) }
-    ensures { vector_found result ≡ searched (quarter_by canvas reference.now target.now k j predictor radius) }
-{
-    let at = corner_of(canvas, k);
-    gather_block(target, 16, 128 * (j / 2) + 8 * (j % 2), 8, 8, part);
-    find_vector(
-        canvas,
-        reference,
-        part,
-        8,
-        at.x + 8 * (j % 2),
-        at.y + 8 * (j / 2),
-        predictor,
-        radius,
-    )
-}
-
+// The same for 8x8 block j of macroblock k.
 fn find_quarter(
     canvas: Svq1PlaneCanvas,
     reference: &[u8],
@@ -123,24 +82,23 @@ fn find_quarter(
     j: usize,
     predictor: Svq1Mv,
     radius: u8,
-) -> FoundMv
+) -> Option<Svq1Mv>
     requires { Searching canvas reference.now target.now k × (j < 4) × Inside predictor }
-    ensures { vector_found result ≡ searched (quarter_by canvas reference.now target.now k j predictor radius) }
+    ensures { result ≡ searched (quarter_by canvas reference.now target.now k j predictor radius) }
 {
     let mut part = [0u8; 64];
-    find_in(
-        canvas, reference, target, k, j, predictor, radius, &mut part,
+    gather_block(target, 16, 128 * (j / 2) + 8 * (j % 2), 8, 8, &mut part);
+    let corner = corner_of(canvas, k);
+    find_vector(
+        canvas,
+        reference,
+        &part,
+        8,
+        corner.x + 8 * (j % 2),
+        corner.y + 8 * (j / 2),
+        predictor,
+        radius,
     )
-}
-
-fn no_pair() -> FoundPair
-    ensures { result.found ≡ false }
-{
-    FoundPair {
-        found: false,
-        a: zero_vector(),
-        b: zero_vector(),
-    }
 }
 
 // The vectors of the first two 8x8 blocks.
@@ -151,24 +109,15 @@ pub fn first_pair(
     near: NearBlocks,
     k: usize,
     radius: u8,
-) -> FoundPair
+) -> Option<VectorPair>
     requires { Searching canvas reference.now target.now k × Around (near_from near) }
-    ensures { PairFound (quarter_by canvas reference.now target.now k 0 (for_first (near_from near)) radius) (λ a. quarter_by canvas reference.now target.now k 1 (for_second (near_from near) a) radius) result }
+    ensures { result ≡ pair_searched (quarter_by canvas reference.now target.now k 0 (for_first (near_from near)) radius) (λ a. quarter_by canvas reference.now target.now k 1 (for_second (near_from near) a) radius) }
 {
     let p = predict_first(near);
-    let v = find_quarter(canvas, reference, target, k, 0, p, radius);
-    if !v.found {
-        return no_pair();
-    }
-    let a = v.mv;
-    let q = predict_second(near, a);
-    let w = find_quarter(canvas, reference, target, k, 1, q, radius);
-    let b = w.mv;
-    FoundPair {
-        found: w.found,
-        a,
-        b,
-    }
+    let first = find_quarter(canvas, reference, target, k, 0, p, radius)?;
+    let q = predict_second(near, first);
+    let second = find_quarter(canvas, reference, target, k, 1, q, radius)?;
+    Some(VectorPair { first, second })
 }
 
 // Those of the other two, behind the first two.
@@ -181,22 +130,13 @@ pub fn second_pair(
     b: Svq1Mv,
     k: usize,
     radius: u8,
-) -> FoundPair
+) -> Option<VectorPair>
     requires { Searching canvas reference.now target.now k × Around (near_from near) × Inside a × Inside b }
-    ensures { PairFound (quarter_by canvas reference.now target.now k 2 (for_third (near_from near) a b) radius) (λ c. quarter_by canvas reference.now target.now k 3 (for_fourth a b c) radius) result }
+    ensures { result ≡ pair_searched (quarter_by canvas reference.now target.now k 2 (for_third (near_from near) a b) radius) (λ c. quarter_by canvas reference.now target.now k 3 (for_fourth a b c) radius) }
 {
     let p = predict_third(near, a, b);
-    let v = find_quarter(canvas, reference, target, k, 2, p, radius);
-    if !v.found {
-        return no_pair();
-    }
-    let c = v.mv;
-    let q = predict_fourth(a, b, c);
-    let w = find_quarter(canvas, reference, target, k, 3, q, radius);
-    let d = w.mv;
-    FoundPair {
-        found: w.found,
-        a: c,
-        b: d,
-    }
+    let first = find_quarter(canvas, reference, target, k, 2, p, radius)?;
+    let q = predict_fourth(a, b, first);
+    let second = find_quarter(canvas, reference, target, k, 3, q, radius)?;
+    Some(VectorPair { first, second })
 }

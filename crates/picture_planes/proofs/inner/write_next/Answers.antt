@@ -1,14 +1,17 @@
 -- Written, or not reached. Assumes nothing.
+use Rattle.std.proofs.Common.{sym, ◌∙◌}
+use Rattle.bits.specs.CallsLaws.{told_none, told_some}
+use Rattle.bits.specs.Refusals.{number_told}
 use Rattle.picture.specs.Picture.{Shared, shared_by, PlaneIn, plane_by, results_by}
 use Rattle.picture.specs.PictureLaws.{through_unreached, through_reached}
 use Rattle.picture_planes.proofs.inner.write_next.Goals as goal
 
-pub returns-then-before-ne0 : goal.returns-then-before-ne0
-returns-then-before-ne0 c =
+pub returns-then-is_some : goal.returns-then-is_some
+returns-then-is_some c =
     let a = c.args in
     let s : Shared = shared_by a.book.now a.codebook.now a.settings in
     let p : PlaneIn = plane_by a.canvas a.source.now a.reference.now (results_by a.recon.now a.vx.now a.vy.now a.stated.now) in
-    through_unreached s p a.behind a.out.now a.start a.remaining a.before c.if-before-ne0.true
+    through_unreached s p a.behind a.out.now a.start a.remaining (number_told a.before) (told_some _ (sym c.is_some.ensures ∙ c.if-is_some.true))
 
 pub write_accepted-requires : goal.write_accepted-requires
 write_accepted-requires c = let r = c.requires in (r.plane, r.samples, r.spends)
@@ -33,4 +36,4 @@ returns c =
     let a = c.args in
     let s : Shared = shared_by a.book.now a.codebook.now a.settings in
     let p : PlaneIn = plane_by a.canvas a.source.now a.reference.now (results_by a.recon.now a.vx.now a.vy.now a.stated.now) in
-    through_reached s p a.behind a.out.now a.start a.remaining a.before c.if-before-ne0.false _ _ _ _ c.write_accepted.ensures
+    through_reached s p a.behind a.out.now a.start a.remaining (number_told a.before) (told_none _ (sym c.is_some.ensures ∙ c.if-is_some.false)) _ _ _ _ c.write_accepted.ensures

@@ -1,13 +1,14 @@
 // The samples that a tree of 63 block records shows.
 // Functions that only the crates of this repository call. Most have a `requires`: the caller, proved too, meets it.
 ghost use Rattle.std.specs.Prelude.{◌≡◌, ◌<◌, length};
+ghost use Rattle.book.specs.Level.{level_number};
 ghost use Rattle.leaf.specs.LeafForms.{leaf_of};
 ghost use Rattle.tree.specs.Blocks.{paint_at};
 ghost use Rattle.tree.specs.NodeForms.{node_of, tree_of};
 ghost use Rattle.tree_samples.specs.RebuildNeeds.{Cells, Drawing, DrawingNode, Rebuilding, leaf_as, node_at, rebuilt_by};
 
 use super::super::super::svq1_enc_tree::inner::{gather_block, paint_block, place_of};
-use book::inner::level_at;
+use book::svq1_blocktree::Svq1Level;
 use book::svq1_vlc::Svq1Half;
 use codebook::svq1_codebook::inner::page_start;
 use leaf::svq1_enc_leaf::LeafCode;
@@ -24,23 +25,22 @@ fn paint_leaf(
     predictor: &[u8],
     raised: &[u8],
     s: usize,
-    d: usize,
+    level: Svq1Level,
     i: usize,
     out: &mut [u8],
     under: &mut [u8],
     sums: &mut [u16],
     over: &mut [u8],
 )
-    requires drawing { Drawing half (leaf_of code stages) (length predictor.now) (length raised.now) s d i (length out.old) }
-    requires cells { Cells d (length under.old) (length sums.old) (length over.old) }
-    ensures { out.new ≡ paint_at s d i (leaf_as raised.now half s predictor.now i (leaf_of code stages)) out.old }
+    requires drawing { Drawing half (leaf_of code stages) (length predictor.now) (length raised.now) s (level_number level) i (length out.old) }
+    requires cells { Cells (level_number level) (length under.old) (length sums.old) (length over.old) }
+    ensures { out.new ≡ paint_at s (level_number level) i (leaf_as raised.now half s predictor.now i (leaf_of code stages)) out.old }
 {
-    let level = level_at(d);
     let dims = level.block_dims();
     let w = dims.width;
     let h = dims.height;
     let at = place_of(s, i);
-    let page = page_start(half, d);
+    let page = page_start(half, level);
     gather_block(predictor, s, at, w, h, under);
     show_leaf(half, under, sums, over, raised, page, code, stages);
     paint_block(out, s, at, w, h, over);
@@ -54,18 +54,17 @@ fn paint_cut(
     predictor: &[u8],
     raised: &[u8],
     s: usize,
-    d: usize,
+    level: Svq1Level,
     i: usize,
     out: &mut [u8],
     under: &mut [u8],
     sums: &mut [u16],
     over: &mut [u8],
 )
-    requires drawing { Drawing half (leaf_of code stages) (length predictor.now) (length raised.now) s d i (length out.old) }
+    requires drawing { Drawing half (leaf_of code stages) (length predictor.now) (length raised.now) s (level_number level) i (length out.old) }
     requires under_len { (length under.old ≡ 256) × (length sums.old ≡ 256) × (length over.old ≡ 256) }
-    ensures { out.new ≡ paint_at s d i (leaf_as raised.now half s predictor.now i (leaf_of code stages)) out.old }
+    ensures { out.new ≡ paint_at s (level_number level) i (leaf_as raised.now half s predictor.now i (leaf_of code stages)) out.old }
 {
-    let level = level_at(d);
     let n = level.vector_length();
     paint_leaf(
         code,
@@ -74,7 +73,7 @@ fn paint_cut(
         predictor,
         raised,
         s,
-        d,
+        level,
         i,
         out,
         &mut under[0..n],
@@ -91,18 +90,18 @@ fn paint_code(
     predictor: &[u8],
     raised: &[u8],
     s: usize,
-    d: usize,
+    level: Svq1Level,
     i: usize,
     out: &mut [u8],
 )
-    requires { Drawing half (leaf_of code stages) (length predictor.now) (length raised.now) s d i (length out.old) }
-    ensures { out.new ≡ paint_at s d i (leaf_as raised.now half s predictor.now i (leaf_of code stages)) out.old }
+    requires { Drawing half (leaf_of code stages) (length predictor.now) (length raised.now) s (level_number level) i (length out.old) }
+    ensures { out.new ≡ paint_at s (level_number level) i (leaf_as raised.now half s predictor.now i (leaf_of code stages)) out.old }
 {
     let mut under = [0u8; 256];
     let mut sums = [0u16; 256];
     let mut over = [0u8; 256];
     paint_cut(
-        code, stages, half, predictor, raised, s, d, i, out, &mut under, &mut sums, &mut over,
+        code, stages, half, predictor, raised, s, level, i, out, &mut under, &mut sums, &mut over,
     );
 }
 
@@ -113,19 +112,19 @@ fn paint_node(
     predictor: &[u8],
     raised: &[u8],
     s: usize,
-    d: usize,
+    level: Svq1Level,
     i: usize,
     out: &mut [u8],
 )
-    requires { DrawingNode half (node_of b) (length predictor.now) (length raised.now) s d i (length out.old) }
-    ensures { out.new ≡ paint_at s d i (node_at raised.now half s predictor.now i (node_of b)) out.old }
+    requires { DrawingNode half (node_of b) (length predictor.now) (length raised.now) s (level_number level) i (length out.old) }
+    ensures { out.new ≡ paint_at s (level_number level) i (node_at raised.now half s predictor.now i (node_of b)) out.old }
 {
     let n = b.node;
     let stages = b.stages;
     match n {
         TreeNode::Off => {}
         TreeNode::Split => {}
-        TreeNode::Leaf(code) => paint_code(code, stages, half, predictor, raised, s, d, i, out),
+        TreeNode::Leaf(code) => paint_code(code, stages, half, predictor, raised, s, level, i, out),
     }
 }
 
@@ -137,17 +136,16 @@ pub fn rebuild(
     predictor: &[u8],
     raised: &[u8],
     s: usize,
-    level: usize,
+    level: Svq1Level,
     i: usize,
     out: &mut [u8],
 )
-    requires { Rebuilding half (tree_of blocks) (length predictor.now) (length raised.now) s level i (length out.old) }
-    ensures { out.new ≡ rebuilt_by raised.now half s predictor.now (tree_of blocks) level i out.old }
+    requires { Rebuilding half (tree_of blocks) (length predictor.now) (length raised.now) s (level_number level) i (length out.old) }
+    ensures { out.new ≡ rebuilt_by raised.now half s predictor.now (tree_of blocks) (level_number level) i out.old }
 {
     let b = blocks[i];
-    if 0 < level {
+    if let Some(part) = level.subdivide() {
         if is_split(b) {
-            let part = level - 1;
             rebuild(blocks, half, predictor, raised, s, part, 2 * i + 1, out);
             rebuild(blocks, half, predictor, raised, s, part, 2 * i + 2, out);
             return;

@@ -1,18 +1,16 @@
--- The definition is made of the same least and greatest ones.
-use mir.ValLaws.{to_z-of_z}
-use mir.Syntax.{w32}
-use mathlib.Core.Path.{◌∙◌}
-use Rattle.vectors.specs.Vectors.{median}
+-- std's least and greatest numbers are the definition's.
+use Rattle.std.proofs.Common.{◌≡◌, arith, ℤ}
+use Rattle.std.proofs.lemmas.Int.{ints, to_z-of_z}
+use Rattle.std.specs.Int.{int_min, int_max}
+use Rattle.vectors.specs.Vectors.{min_z, max_z, median}
 use Rattle.vectors.proofs.svq1_motion_predictor.median3.Goals as goal
+
+min_is : (a b : ℤ) → int_min a b ≡ min_z a b
+min_is a b = grind (arith, ints)
+
+max_is : (a b : ℤ) → int_max a b ≡ max_z a b
+max_is a b = grind (arith, ints)
 
 pub returns : goal.returns
 unfolding median
-returns c =
-    let s = c.args in let f = c.ranges in
-    let ea = to_z-of_z w32 s.a f.a in let eb = to_z-of_z w32 s.b f.b in let ec = to_z-of_z w32 s.c f.c in
-    let e1 = to_z-of_z w32 c.lesser.result (record { sfits = c.lesser.type_inv }) in let e2 = to_z-of_z w32 c.greater.result (record { sfits = c.greater.type_inv }) in let e3 = to_z-of_z w32 c.lesser-2.result (record { sfits = c.lesser-2.type_inv }) in
-    let h1 = simp (ea, eb) at c.lesser.ensures in
-    let h2 = simp (ea, eb) at c.greater.ensures in
-    let h3 = simp (e2, ec) at c.lesser-2.ensures in
-    let h4 = simp (e1, e3) at c.greater-2.ensures in
-    to_z-of_z w32 c.greater-2.result (record { sfits = c.greater-2.type_inv }) ∙ (h4 ∙ simp (h3, h2, h1))
+returns c = grind (arith, to_z-of_z, min_is, max_is)

@@ -1,5 +1,4 @@
-use mathlib.Core.Path.{◌≡◌}
-use Prim.Native.Nat.{◌+◌, ◌-◌, ◌*◌, ◌≤◌}
+use Rattle.std.proofs.Common.{◌≡◌, ◌+◌, ◌*◌, ◌≤◌}
 use Rattle.bits.specs.Basics.{sum as total}
 use Rattle.visible_error.specs.Visible.{square_at}
 use Rattle.visible_error.specs.VisibleNeeds.{shown_by}
@@ -7,7 +6,4 @@ use Rattle.visible_error.proofs.inner.rows_error.Given as goal
 
 abbrev pub invariant-loop-j : goal.invariant-loop-j
 invariant-loop-j l =
-    (l.j ≤ l.m) × (l.sum ≡ total (λ q. total (λ i. square_at (shown_by l.canvas l.source l.recon) (l.x + i) (l.y + q)) l.n) l.j) × (l.sum ≤ 1040400 * l.j)
-
-abbrev pub decreases-loop-j : goal.decreases-loop-j
-decreases-loop-j l = l.m - l.j
+    (l.sum ≡ total (λ q. total (λ i. square_at (shown_by l.canvas l.source l.recon) (l.x + i) (l.y + q)) l.n) l.j) × (l.sum ≤ 1040400 * l.j)

@@ -1,5 +1,5 @@
 -- One part of side 16 sets every sample, so nothing of the old ones is left.
-use mathlib.Core.Path.{◌∙◌}
+use Rattle.std.proofs.Common.{◌∙◌}
 use Rattle.canvas.specs.Canvas.{Canvas}
 use Rattle.compensation.specs.PartsLaws.{whole-moved}
 use Rattle.compensation.proofs.svq1_mc.inner.mc_macroblock.Goals as goal

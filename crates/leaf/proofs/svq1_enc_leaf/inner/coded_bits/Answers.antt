@@ -1,38 +1,10 @@
 -- A coded leaf's bits: two codes and four bits a stage. Assumes nothing.
 use mathlib.Core.Path.{◌≡◌, sym}
-use native.Mathlib.Omega.{arith}
 use mir.ValLaws.{to_z-of_z}
 use mir.Syntax.{w16}
 use Rattle.codebook.specs.Mean.{mean_position}
-use Rattle.leaf.specs.LentNeedsLaws.{coded_entries, coded_size}
+use Rattle.leaf.specs.LentNeedsLaws.{coded_size}
 use Rattle.leaf.proofs.svq1_enc_leaf.inner.coded_bits.Goals as goal
-
-pub entry_len-m-requires : goal.entry_len-m-requires
-entry_len-m-requires c =
-    let s = c in
-    let a = s.args in
-    let k : c.mean_position-k.result ≡ mean_position a.half a.mean = simp (to_z-of_z w16 a.mean s.ranges.mean) at c.mean_position-k.ensures in
-    let n = c.stage_count-n.ensures in
-    let g = coded_entries a.half a.stage.now a.means.now s.requires.0 a.mean a.count _ _ s.requires.1 n k in
-    g.1.there
-
-pub overflow_add-result : goal.overflow_add-result
-overflow_add-result c =
-    let s = c in
-    let a = s.args in
-    let k : c.mean_position-k.result ≡ mean_position a.half a.mean = simp (to_z-of_z w16 a.mean s.ranges.mean) at c.mean_position-k.ensures in
-    let n = c.stage_count-n.ensures in
-    let g = coded_entries a.half a.stage.now a.means.now s.requires.0 a.mean a.count _ _ s.requires.1 n k in
-    record { fits = omega (arith, g.0.long, g.1.long, c.entry_len-s.ensures, c.entry_len-m.ensures) }
-
-pub overflow_add-result-2 : goal.overflow_add-result-2
-overflow_add-result-2 c =
-    let s = c in
-    let a = s.args in
-    let k : c.mean_position-k.result ≡ mean_position a.half a.mean = simp (to_z-of_z w16 a.mean s.ranges.mean) at c.mean_position-k.ensures in
-    let n = c.stage_count-n.ensures in
-    let g = coded_entries a.half a.stage.now a.means.now s.requires.0 a.mean a.count _ _ s.requires.1 n k in
-    record { fits = omega (arith, n, g.0.long, g.1.long, c.entry_len-s.ensures, c.entry_len-m.ensures) }
 
 pub returns : goal.returns
 returns c =

@@ -11,15 +11,13 @@ use Rattle.leaf.proofs.svq1_plane.inner.read_stages.Goals as goal
 
 pub returns-then-s-at : goal.returns-then-s-at
 returns-then-s-at c =
-    let s = c in
-    let b = bits_of s.args.s.now in
-    let n = length_bits_of s.args.s.now in
-    rw (c.refused_leaf.ensures, stages_short b s.args.at s.args.count (omega (arith, n)) (omega (arith, n))) (refused_read 24 b (omega arith))
+    let b = bits_of c.args.s.now in
+    let n = length_bits_of c.args.s.now in
+    rw (stages_short b c.args.at c.args.count (omega (arith, n)) (omega (arith, n))) (refused_read _ b _ refl)
 
 pub returns : goal.returns
 returns c =
-    let s = c in
-    let b = bits_of s.args.s.now in
-    let n = length_bits_of s.args.s.now in
-    rw (to_z-of_z w16 s.args.mean s.ranges.mean, c.get_stages-stages.ensures)
-    (coded_read b s.args.at s.args.count s.args.mean _ (search rules) (omega (arith, n)) refl)
+    let b = bits_of c.args.s.now in
+    let n = length_bits_of c.args.s.now in
+    rw (to_z-of_z w16 c.args.mean c.ranges.mean, c.get_stages.ensures)
+    (coded_read b c.args.at c.args.count c.args.mean _ (search rules) (omega (arith, n)) refl)

@@ -1,9 +1,5 @@
 use Rattle.leaf_samples.specs.ShowNeedsLaws.{Added}
-use Prim.Native.Nat.{◌-◌}
 use Rattle.leaf_samples.proofs.svq1_enc_leaf.inner.add_stages.Given as goal
 
 abbrev pub invariant-loop-k : goal.invariant-loop-k
 invariant-loop-k l = Added l.initial.a l.book l.base l.count l.stages l.a l.at l.k
-
-abbrev pub decreases-loop-k : goal.decreases-loop-k
-decreases-loop-k l = l.count - l.k

@@ -16,9 +16,6 @@ overflow_add-a c =
     let s = c in
     omega (arith, front_same l.a s.args.a.now l.i l.invariant.2, s.requires.1 l.i)
 
-pub loop-i-smaller : goal.loop-i-smaller
-loop-i-smaller c = simp length-set (omega arith)
-
 pub loop-i-preserved : goal.loop-i-preserved
 loop-i-preserved c =
     let l = c.loop-i in

@@ -1,6 +1,6 @@
 use mathlib.Core.Path.{◌≡◌}
 use mathlib.Core.List.{◌++◌}
-use Prim.Native.Nat.{◌≤◌, ◌-◌}
+use Prim.Native.Nat.{◌≤◌}
 use lib.ListN.{length, take, drop}
 use Rattle.leaf.specs.LeafForms.{plus_n}
 use Rattle.leaf_samples.proofs.svq1_enc_leaf.inner.add_vector.Given as goal
@@ -9,6 +9,3 @@ abbrev pub invariant-loop-i : goal.invariant-loop-i
 invariant-loop-i l =
     (l.i ≤ length l.a) × (length l.a ≡ length l.initial.a) × (drop l.i l.a ≡ drop l.i l.initial.a) ×
     (take l.i l.a ++ plus_n (drop l.i l.a) (drop l.i l.w) ≡ plus_n l.initial.a l.w)
-
-abbrev pub decreases-loop-i : goal.decreases-loop-i
-decreases-loop-i l = length l.a - l.i

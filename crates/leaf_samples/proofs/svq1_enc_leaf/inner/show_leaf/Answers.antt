@@ -18,7 +18,7 @@ show_coded-requires c =
 
 pub returns-in-Skip : goal.returns-in-Skip
 returns-in-Skip c =
-    shown_skip _ _ _ _ _ c.in-Skip.is c.copy.ensures
+    shown_skip _ _ _ _ _ c.in-Skip.is c.copy_from_slice.ensures.after
 
 pub returns-in-Coded : goal.returns-in-Coded
 returns-in-Coded c =

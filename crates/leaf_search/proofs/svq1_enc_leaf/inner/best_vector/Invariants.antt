@@ -9,6 +9,3 @@ invariant-loop-j l =
     (1 ≤ l.j) × (l.j ≤ 16) × (l.index ≡ argmin (vector_error l.t (less l.bias l.a) l.book l.base) (l.j - 1)) ×
     (l.error ≡ vector_error l.t (less l.bias l.a) l.book l.base l.index) ×
     (l.index < l.j)
-
-abbrev pub decreases-loop-j : goal.decreases-loop-j
-decreases-loop-j l = 16 - l.j

@@ -9,7 +9,7 @@ returns-then-e-coded c =
     let a = c.args in
     let s = c.search_coded-coded in
     skip_wins a.terms a.t.now a.p.now a.book.now a.base s.result.code s.result.stages s.result.error _ s.ensures _ _ c.distance_of-e.result
-    c.if-terms.true c.distance_of-e.ensures (omega (arith, c.if-e-coded.true)) c.copy.ensures refl
+    c.if-terms.true c.distance_of-e.ensures (omega (arith, c.if-e-coded.true)) c.copy_from_slice.ensures.after refl
 
 pub returns-else-e-coded : goal.returns-else-e-coded
 returns-else-e-coded c =

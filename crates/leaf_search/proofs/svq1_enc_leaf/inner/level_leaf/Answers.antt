@@ -2,13 +2,11 @@
 use Rattle.book.specs.Level.{level_number}
 use lib.ListN.{length, drop}
 use lib.Seq.{length-take-le, take_at, drop_at}
-use Rattle.leaf.specs.Leaf.{terms_at}
-use Rattle.codebook.specs.CodebookForms.{page_start}
 use Rattle.leaf.specs.AgreeLaws.{page_room}
 use Rattle.bits.specs.BasicsLaws.{front_size}
 use Rattle.leaf_search.specs.LevelLeafNeedsLaws.{area_range, cap_small}
-use mathlib.Core.Path.{◌≡◌, ◌∙◌, sym, ap}
-use Prim.Native.Nat.{ℕ, ◌≤◌}
+use mathlib.Core.Path.{◌≡◌, ◌∙◌, sym}
+use Prim.Native.Nat.{◌≤◌}
 use native.Mathlib.Omega.{arith}
 use Rattle.leaf_search.proofs.svq1_enc_leaf.inner.level_leaf.Goals as goal
 
@@ -56,8 +54,8 @@ choose_leaf-requires c =
     let m = area_range (level_number a.level) q.level in
     let n = length a.t.now in
     let d = level_number a.level in
-    let e = c.page_start-base.ensures ∙ ap (page_start a.terms.half) c.number-d.ensures.0 in
-    let f = c.terms_at-open.ensures ∙ ap (λ (k : ℕ). terms_at k a.terms) c.number-d.ensures.0 in
+    let e = c.page_start-base.ensures in
+    let f = c.terms_at-open.ensures in
     record {
       few = omega (arith, q.target, m.1);
       some = omega (arith, q.target, m.0);
@@ -98,8 +96,8 @@ returns c =
     let m = area_range (level_number a.level) q.level in
     let n = length a.t.now in
     let d = level_number a.level in
-    let e = c.page_start-base.ensures ∙ ap (page_start a.terms.half) c.number-d.ensures.0 in
-    let f = c.terms_at-open.ensures ∙ ap (λ (k : ℕ). terms_at k a.terms) c.number-d.ensures.0 in
+    let e = c.page_start-base.ensures in
+    let f = c.terms_at-open.ensures in
     let w = c.choose_leaf in
     let new = w.new.out in
     let size : length new ≡ n = w.auto.out ∙ length-take-le n a.out.now (omega (arith, q.samples, q.target, m.1)) in

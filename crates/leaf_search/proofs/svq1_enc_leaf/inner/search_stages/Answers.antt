@@ -69,4 +69,6 @@ pub shape_of-a : goal.shape_of-a
 shape_of-a c = omega arith
 
 pub returns : goal.returns
-returns c = all_taken c.loop-count.invariant (search rules)
+returns c =
+    let e : c.loop-count.count ≡ c.args.terms.cap = omega (arith, c.loop-count.invariant.within) in
+    rw e at (all_taken c.loop-count.invariant (search rules))

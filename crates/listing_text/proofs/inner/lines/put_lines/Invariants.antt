@@ -1,4 +1,4 @@
-use Prim.Native.Nat.{◌-◌, ◌*◌, ◌≤◌}
+use Prim.Native.Nat.{◌*◌}
 use mathlib.Core.Path.{◌≡◌}
 use lib.ListN.{length}
 use Rattle.visible_error.specs.VisibleNeeds.{shown_by}
@@ -7,7 +7,4 @@ use Rattle.listing_text.proofs.inner.lines.put_lines.Given as goal
 
 abbrev pub invariant-loop-k : goal.invariant-loop-k
 invariant-loop-k l =
-    (l.k ≤ l.count) × (length l.text ≡ length l.initial.text) × ListedPut (94 * l.k) l.initial.text 0 (lines_from (shown_by l.canvas l.source l.recon) l.stated l.k) l.at l.text
-
-abbrev pub decreases-loop-k : goal.decreases-loop-k
-decreases-loop-k l = l.count - l.k
+    (length l.text ≡ length l.initial.text) × ListedPut (94 * l.k) l.initial.text 0 (lines_from (shown_by l.canvas l.source l.recon) l.stated l.k) l.at l.text

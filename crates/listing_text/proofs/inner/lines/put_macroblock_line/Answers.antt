@@ -1,4 +1,4 @@
--- The five fields, one behind the other. Assumes nothing.
+-- The five fields, one behind the other.
 use native.Mathlib.Omega.{arith}
 use Rattle.listing_text.specs.LineFormsLaws.{put_line_lem}
 use Rattle.listing_text.proofs.inner.lines.put_macroblock_line.Goals as goal

@@ -1,4 +1,4 @@
--- Each test decides one of the names. Assumes nothing.
+-- Each test decides one of the names.
 use native.Mathlib.Omega.{arith}
 use borrow.Author.Tests.{eq-eqb, ne_eqb}
 use Rattle.listing_text.specs.LineFormsLaws.{put_room}

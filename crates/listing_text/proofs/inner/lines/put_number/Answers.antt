@@ -1,4 +1,4 @@
--- The number's digits and the byte behind them. Assumes nothing.
+-- The number's digits and the byte behind them.
 use mathlib.Core.List.{[], ◌∷◌, ◌++◌}
 use native.Mathlib.Omega.{arith}
 use lib.ListN.{length-append}

@@ -1,4 +1,4 @@
--- Two texts, one behind the other. Assumes nothing.
+-- Two texts, one behind the other.
 use native.Mathlib.Omega.{arith}
 use Rattle.listing_text.specs.LineFormsLaws.{put_room, put_refusal}
 use Rattle.listing_text.proofs.inner.lines.put_refused.Goals as goal
@@ -13,4 +13,4 @@ put_number-requires c =
 pub returns : goal.returns
 returns c =
     let a = c.args in
-    put_refusal a.text.now a.refused _ _ _ _ (omega arith) c.put_text-a.ensures c.put_number.ensures
+    rw (← c.number.ensures, ← c.from.ensures) (put_refusal a.text.now c.from.result _ _ _ _ (omega arith) c.put_text-a.ensures c.put_number.ensures)

@@ -1,4 +1,4 @@
--- Three texts, one behind the other. Assumes nothing.
+-- Three texts, one behind the other.
 use native.Mathlib.Omega.{arith}
 use Rattle.listing_text.specs.LineFormsLaws.{put_room, put_total}
 use Rattle.listing_text.proofs.inner.lines.put_total_line.Goals as goal

@@ -1,5 +1,5 @@
 -- Where all columns lie in the source no minimum is taken. Assumes nothing.
-use mathlib.Core.Path.{◌∙◌}
+use Rattle.std.proofs.Common.{◌∙◌}
 use Rattle.macroblock_search.specs.TargetFormsLaws.{row_inside}
 use Rattle.macroblock_search.proofs.svq1_enc.inner.target_row.Goals as goal
 

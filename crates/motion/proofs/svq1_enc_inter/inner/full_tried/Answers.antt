@@ -1,35 +1,13 @@
 -- A candidate whose column is not allowed changes nothing; the sum of any other replaces the best so far where it stays below it.
-use mathlib.Core.Path.{sym, ◌∙◌}
+use Rattle.std.proofs.Common.{sym, ◌∙◌}
 use Rattle.motion.specs.CandidateForms.{Both}
-use Rattle.motion.specs.CandidateFormsLaws.{not_x, reads_x, reads_y, full_read_in, full_sum_is, replaced_is}
+use Rattle.motion.specs.CandidateFormsLaws.{not_x, full_sum_is, replaced_is}
 use Rattle.motion.proofs.svq1_enc_inter.inner.full_tried.Goals as goal
 
 pub returns-then-not-axis_ok : goal.returns-then-not-axis_ok
 returns-then-not-axis_ok c =
-    let s = c in
-    let a = s.args in
-    (not_x a.target.now a.reference.now a.p a.ux a.uy _ (sym c.axis_ok.ensures ∙ c.if-not-axis_ok.true), s.requires.1)
-
-pub overflow_sub-p : goal.overflow_sub-p
-overflow_sub-p c =
     let a = c.args in
-    let r = c.requires in
-    let ok : Both a.p a.ux a.uy = record { x = sym c.axis_ok.ensures ∙ c.if-not-axis_ok.false; y = r.5 } in
-    (reads_x a.target.now a.reference.now a.p a.ux a.uy ok r.0).low
-
-pub overflow_sub-p-2 : goal.overflow_sub-p-2
-overflow_sub-p-2 c =
-    let a = c.args in
-    let r = c.requires in
-    let ok : Both a.p a.ux a.uy = record { x = sym c.axis_ok.ensures ∙ c.if-not-axis_ok.false; y = r.5 } in
-    (reads_y a.target.now a.reference.now a.p a.ux a.uy ok r.0).low
-
-pub sum_full-s-requires : goal.sum_full-s-requires
-sum_full-s-requires c =
-    let a = c.args in
-    let r = c.requires in
-    let ok : Both a.p a.ux a.uy = record { x = sym c.axis_ok.ensures ∙ c.if-not-axis_ok.false; y = r.5 } in
-    full_read_in a.target.now a.reference.now a.p a.ux a.uy ok r.0 r.3 r.4
+    (not_x a.target.now a.reference.now a.p a.ux a.uy _ (sym c.axis_ok.ensures ∙ c.if-not-axis_ok.true), c.requires.1)
 
 pub returns : goal.returns
 returns c =

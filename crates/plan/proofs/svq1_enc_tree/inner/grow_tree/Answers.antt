@@ -1,5 +1,5 @@
 -- The blocks by number; one that is not reached stays off. Assumes nothing.
-use mathlib.Core.Path.{◌∙◌, sym, refl}
+use mathlib.Core.Path.{◌∙◌, sym}
 use Rattle.plan.specs.PlannedFormsLaws.{blank}
 use Rattle.plan.specs.PlannedForms.{CleanChoice}
 use Rattle.bits.specs.ListLaws.{all_at}
@@ -9,7 +9,7 @@ use Rattle.plan.proofs.svq1_enc_tree.inner.grow_tree.Goals as goal
 use Rattle.plan.proofs.svq1_enc_tree.inner.grow_tree.Goals.{then-is_reached, else-is_reached}
 
 pub loop-i-init : goal.loop-i-init
-loop-i-init c = grow-begins _ _ _ refl
+loop-i-init c = grow-begins _ _ _ c.no_blocks-t.ensures
 
 pub block_as-requires : goal.block_as-requires
 block_as-requires c = all_at CleanChoice c.args.a _ blank (search rules) c.requires

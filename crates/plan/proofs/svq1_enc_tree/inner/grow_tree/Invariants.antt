@@ -1,4 +1,3 @@
-use Prim.Native.Nat.{◌-◌}
 use lib.ListN.{get_or}
 use Rattle.plan.specs.PlannedFormsLaws.{blank}
 use Rattle.plan.specs.PlanNeeds.{planned_node}
@@ -7,6 +6,3 @@ use Rattle.plan.proofs.svq1_enc_tree.inner.grow_tree.Given as goal
 
 abbrev pub invariant-loop-i : goal.invariant-loop-i
 invariant-loop-i l = Growing l.root (λ k. planned_node (get_or l.a k blank)) l.t l.i
-
-abbrev pub decreases-loop-i : goal.decreases-loop-i
-decreases-loop-i l = 63 - l.i

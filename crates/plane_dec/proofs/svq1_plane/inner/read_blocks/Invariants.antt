@@ -1,4 +1,3 @@
-use Prim.Native.Nat.{◌-◌}
 use Rattle.macroblock.specs.Slices.{slices_by}
 use Rattle.macroblock.specs.MacroblockNeeds.{given_by}
 use Rattle.plane_dec.specs.ReaderNeeds.{Going}
@@ -6,6 +5,3 @@ use Rattle.plane_dec.proofs.svq1_plane.inner.read_blocks.Given as goal
 
 abbrev pub invariant-loop-k : goal.invariant-loop-k
 invariant-loop-k l = Going (given_by l.canvas l.reference l.book l.codebook) l.bytes l.start (slices_by l.initial.recon l.initial.vx l.initial.vy) (slices_by l.recon l.vx l.vy) l.k l.at
-
-abbrev pub decreases-loop-k : goal.decreases-loop-k
-decreases-loop-k l = l.count - l.k

@@ -1,6 +1,7 @@
 -- Each macroblock is one step of the run, told as it is taken; what is left of the run gives the whole. Assumes nothing.
-use mathlib.Core.Path.{ap, ◌∙◌}
-use Prim.Native.Nat.{◌<◌}
+use mathlib.Core.Path.{◌≡◌, ap, sym, ◌∙◌}
+use Rattle.bits.specs.CallsLaws.{told_none, told_some}
+use Prim.Native.Nat.{◌<◌, ◌*◌, ◌/◌}
 use lib.ListN.{length}
 use Rattle.macroblock.specs.Macroblock.{Given}
 use Rattle.macroblock.specs.Choice.{Task}
@@ -55,26 +56,26 @@ write_macroblock-r-requires c =
     let i = d.loop-k.invariant.0 in
     (ready (writes (goal.at.write_macroblock-r-requires c).After-struct_known-2-1) i (below (goal.at.write_macroblock-r-requires c).In-loop-k), record { skips_rest = i.skips_rest; few = c.requires.2.few })
 
-pub shape_of-out-then-r-ne0 : goal.shape_of-out-then-r-ne0
-shape_of-out-then-r-ne0 c = c.write_macroblock-r.auto.out ∙ c.loop-k.invariant.0.out_same
+pub shape_of-out-then-is_some : goal.shape_of-out-then-is_some
+shape_of-out-then-is_some c = c.write_macroblock-r.auto.out ∙ c.loop-k.invariant.0.out_same
 
-pub shape_of-recon-then-r-ne0 : goal.shape_of-recon-then-r-ne0
-shape_of-recon-then-r-ne0 c = c.write_macroblock-r.auto.recon ∙ c.loop-k.invariant.0.same.recon
+pub shape_of-recon-then-is_some : goal.shape_of-recon-then-is_some
+shape_of-recon-then-is_some c = c.write_macroblock-r.auto.recon ∙ c.loop-k.invariant.0.same.recon
 
-pub shape_of-vx-then-r-ne0 : goal.shape_of-vx-then-r-ne0
-shape_of-vx-then-r-ne0 c = c.write_macroblock-r.auto.vx ∙ c.loop-k.invariant.0.same.blocks x_slice
+pub shape_of-vx-then-is_some : goal.shape_of-vx-then-is_some
+shape_of-vx-then-is_some c = c.write_macroblock-r.auto.vx ∙ c.loop-k.invariant.0.same.blocks x_slice
 
-pub shape_of-vy-then-r-ne0 : goal.shape_of-vy-then-r-ne0
-shape_of-vy-then-r-ne0 c = c.write_macroblock-r.auto.vy ∙ c.loop-k.invariant.0.same.blocks y_slice
+pub shape_of-vy-then-is_some : goal.shape_of-vy-then-is_some
+shape_of-vy-then-is_some c = c.write_macroblock-r.auto.vy ∙ c.loop-k.invariant.0.same.blocks y_slice
 
-pub shape_of-stated-then-r-ne0 : goal.shape_of-stated-then-r-ne0
-shape_of-stated-then-r-ne0 c = ap length c.loop-k.invariant.1.stated ∙ length_in _ _ _ _ _ _ _
+pub shape_of-stated-then-is_some : goal.shape_of-stated-then-is_some
+shape_of-stated-then-is_some c = ap length c.loop-k.invariant.1.stated ∙ length_in _ _ _ _ _ _ _
 
-pub returns-then-r-ne0 : goal.returns-then-r-ne0
-returns-then-r-ne0 c =
+pub returns-then-is_some : goal.returns-then-is_some
+returns-then-is_some c =
     let d = c in
     let e = d in
-    record { written = stop_early (writes (goal.at.returns-then-r-ne0 c).After-struct_known-2-1) d.loop-k.invariant.0 (below (goal.at.returns-then-r-ne0 c).In-loop-k) c.write_macroblock-r.ensures c.if-r-ne0.true; stated = d.loop-k.invariant.1.stated }
+    record { written = stop_early (writes (goal.at.returns-then-is_some c).After-struct_known-2-1) d.loop-k.invariant.0 (below (goal.at.returns-then-is_some c).In-loop-k) c.write_macroblock-r.ensures (told_some _ (sym c.is_some.ensures ∙ c.if-is_some.true)); stated = d.loop-k.invariant.1.stated }
 
 pub overflow_add-bits : goal.overflow_add-bits
 overflow_add-bits c =
@@ -90,15 +91,6 @@ overflow_add-error c =
     let i = d.loop-k.invariant.0 in
     omega (arith, below (goal.at.overflow_add-error c).In-loop-k, i.low_error, low (writes (goal.at.overflow_add-error c).After-struct_known-2-1) i (below (goal.at.overflow_add-error c).In-loop-k) c.write_macroblock-r.ensures, count_most (plane (goal.at.overflow_add-error c).After-struct_known-2-1) _ c.requires.0.ok)
 
-pub overflow_add-k : goal.overflow_add-k
-overflow_add-k c =
-    let d = c in
-    let e = d in
-    omega (arith, below (goal.at.overflow_add-k c).In-loop-k, count_most (plane (goal.at.overflow_add-k c).After-struct_known-2-1) _ c.requires.0.ok)
-
-pub loop-k-smaller : goal.loop-k-smaller
-loop-k-smaller c = omega arith
-
 pub loop-k-preserved : goal.loop-k-preserved
 loop-k-preserved c =
     let d = c in
@@ -106,8 +98,8 @@ loop-k-preserved c =
     let l = d.loop-k in
     let a = c.args in
     let w = c.write_macroblock-r in (
-      turn (writes (goal.at.loop-k-preserved c).After-struct_known-2-1) l.invariant.0 (below (goal.at.loop-k-preserved c).In-loop-k) w.ensures w.auto.out c.if-r-ne0.false,
-      telling_turn (plane (goal.at.loop-k-preserved c).After-struct_known-2-1) (task (goal.at.loop-k-preserved c).After-struct_known-2-1) a.start (lent (goal.at.loop-k-preserved c).After-struct_known-2-1) a.stated.now l.k l.bits l.at _ _ _ w.ensures _ _ c.if-r-ne0.false l.invariant.1 c.tell.ensures,
+      turn (writes (goal.at.loop-k-preserved c).After-struct_known-2-1) l.invariant.0 (below (goal.at.loop-k-preserved c).In-loop-k) w.ensures w.auto.out (told_none _ (sym c.is_some.ensures ∙ c.if-is_some.false)),
+      telling_turn (plane (goal.at.loop-k-preserved c).After-struct_known-2-1) (task (goal.at.loop-k-preserved c).After-struct_known-2-1) a.start (lent (goal.at.loop-k-preserved c).After-struct_known-2-1) a.stated.now l.k l.bits l.at _ _ _ w.ensures _ _ (told_none _ (sym c.is_some.ensures ∙ c.if-is_some.false)) l.invariant.1 c.tell.ensures,
     )
 
 pub shape_of-out : goal.shape_of-out
@@ -127,6 +119,9 @@ shape_of-stated c = ap length c.loop-k.invariant.1.stated ∙ length_in _ _ _ _ 
 
 pub returns : goal.returns
 returns c =
-    let e = c in
     let l = c.loop-k in
-    record { written = stop_last (writes (goal.at.returns c).After-struct_known-2-1) l.invariant.0 (rw (count_by (plane (goal.at.returns c).After-struct_known-2-1) _ c.requires.0.ok) at c.loop-k-test.false); stated = l.invariant.1.stated }
+    let whole : l.k ≡ c.args.canvas.rows / 16 * (c.args.canvas.stride / 16) = omega (arith, c.loop-k-test.false) in
+    record {
+      written = rw whole at (stop_last (writes (goal.at.returns c).After-struct_known-2-1) l.invariant.0 (rw (count_by (plane (goal.at.returns c).After-struct_known-2-1) _ c.requires.0.ok) at c.loop-k-test.false));
+      stated = rw whole at l.invariant.1.stated;
+    }

@@ -16,12 +16,6 @@ bounds-stated-k c = omega arith
 pub overflow_add-count : goal.overflow_add-count
 overflow_add-count c = omega (arith, c.one_if-count.ensures.1)
 
-pub overflow_add-k : goal.overflow_add-k
-overflow_add-k c = omega arith
-
-pub loop-k-smaller : goal.loop-k-smaller
-loop-k-smaller c = omega arith
-
 pub loop-k-preserved : goal.loop-k-preserved
 loop-k-preserved c =
     let a = c.args in

@@ -10,21 +10,15 @@ loop-k-init c = (omega arith, steps_none c.args.steps.now c.args.stated.now)
 pub same_step-requires : goal.same_step-requires
 same_step-requires c = (omega arith, omega arith)
 
-pub overflow_add-k : goal.overflow_add-k
-overflow_add-k c = omega arith
-
-pub loop-k-smaller : goal.loop-k-smaller
-loop-k-smaller c = omega arith
-
 pub loop-k-preserved : goal.loop-k-preserved
 loop-k-preserved c =
     let a = c.args in
-    (omega arith, steps_more a.steps.now a.stated.now c.loop-k.k c.loop-k.invariant.1 (sym c.if-same_step.true ∙ c.same_step.ensures))
+    (omega arith, steps_more a.steps.now a.stated.now c.loop-k.k c.loop-k.invariant.1 (sym c.if-not-same_step.false ∙ c.same_step.ensures))
 
-pub returns-else-same_step : goal.returns-else-same_step
-returns-else-same_step c =
+pub returns-then-not-same_step : goal.returns-then-not-same_step
+returns-then-not-same_step c =
     let a = c.args in
-    steps_differ a.steps.now a.stated.now c.loop-k.k a.n c.loop-k-test.true (sym c.if-same_step.false ∙ c.same_step.ensures)
+    steps_differ a.steps.now a.stated.now c.loop-k.k a.n c.loop-k-test.true (sym c.if-not-same_step.true ∙ c.same_step.ensures)
 
 pub returns : goal.returns
 returns c =

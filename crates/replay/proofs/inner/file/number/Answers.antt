@@ -11,29 +11,20 @@ returns-then-t-gt8 c = number_many _ c.if-t-gt8.true
 pub loop-i-init : goal.loop-i-init
 loop-i-init c = (omega arith, omega arith, no_byte c.args.t.now)
 
-pub overflow_sub-i : goal.overflow_sub-i
-overflow_sub-i c = omega arith
-
 pub overflow_mul-n : goal.overflow_mul-n
 overflow_mul-n c =
     let l = c.loop-i in
     omega (arith, short c.args.t.now (λ k. omega (arith, c.type_inv.t k)) l.i l.n c.loop-i-test.true l.invariant.0 l.invariant.1 l.invariant.2)
 
-pub bounds-t-i : goal.bounds-t-i
-bounds-t-i c = omega arith
-
 pub overflow_add-n : goal.overflow_add-n
 overflow_add-n c =
     let l = c.loop-i in
-    omega (arith, c.wide.ensures, c.type_inv.t (l.i - 1), short c.args.t.now (λ k. omega (arith, c.type_inv.t k)) l.i l.n c.loop-i-test.true l.invariant.0 l.invariant.1 l.invariant.2)
-
-pub loop-i-smaller : goal.loop-i-smaller
-loop-i-smaller c = omega arith
+    omega (arith, c.type_inv.t (l.i - 1), short c.args.t.now (λ k. omega (arith, c.type_inv.t k)) l.i l.n c.loop-i-test.true l.invariant.0 l.invariant.1 l.invariant.2)
 
 pub loop-i-preserved : goal.loop-i-preserved
 loop-i-preserved c =
     let l = c.loop-i in
-    (omega arith, l.invariant.1, rw c.wide.ensures (one_byte c.args.t.now (λ k. omega (arith, c.type_inv.t k)) l.i l.n c.loop-i-test.true l.invariant.0 l.invariant.1 l.invariant.2))
+    (omega arith, l.invariant.1, rw c.from.ensures (one_byte c.args.t.now (λ k. omega (arith, c.type_inv.t k)) l.i l.n c.loop-i-test.true l.invariant.0 l.invariant.1 l.invariant.2))
 
 pub returns : goal.returns
 returns c =

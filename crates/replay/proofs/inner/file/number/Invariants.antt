@@ -6,6 +6,3 @@ use Rattle.replay.proofs.inner.file.number.Given as goal
 
 abbrev pub invariant-loop-i : goal.invariant-loop-i
 invariant-loop-i l = (l.i ≤ length l.t) × (length l.t ≤ 8) × (l.n ≡ little (drop l.i l.t))
-
-abbrev pub decreases-loop-i : goal.decreases-loop-i
-decreases-loop-i l = l.i

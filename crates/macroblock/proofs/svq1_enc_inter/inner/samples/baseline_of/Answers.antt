@@ -22,7 +22,7 @@ move_quarters-requires c = let s = c in (stands_at _ _ _ s.requires.0, s.require
 pub returns-in-None : goal.returns-in-None
 returns-in-None c =
     let a = c.args in
-    over_none a.canvas a.reference.now a.k a.motion a.vectors _ c.in-None.is c.clear.ensures
+    over_none a.canvas a.reference.now a.k a.motion a.vectors _ c.in-None.is (rw c.requires.1 at (c.fill.ensures.after (λ y h. h)))
 
 pub returns-in-One : goal.returns-in-One
 returns-in-One c =

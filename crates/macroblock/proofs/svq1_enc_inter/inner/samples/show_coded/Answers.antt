@@ -12,7 +12,7 @@ rebuild-requires c =
     let s = c in
     let a = s.args in
     whole-tree _ _ _ _ _ _ _ _ _ s.requires.0 (c.half_of-half.ensures a.vectors)
-    (ap length (c.baseline_of.ensures [] []) ∙ length_baseline _ _ _) (ap length c.clear.ensures)
+    (ap length (c.baseline_of.ensures [] []) ∙ length_baseline _ _ _) (ap length (rw c.requires.2 at (c.fill.ensures.after (λ y h. h))))
 
 pub returns : goal.returns
 returns c =
@@ -20,4 +20,4 @@ returns c =
     let a = s.args in
     tree-shown a.canvas a.reference.now a.raised.now a.k (motion_of a.motion a.vectors) (tree_of a.blocks) _ _ _ _
     (c.half_of-half.ensures a.vectors) s.requires.0.sound
-    c.baseline_of.ensures c.clear.ensures c.rebuild.ensures
+    c.baseline_of.ensures (rw c.requires.2 at (c.fill.ensures.after (λ y h. h))) c.rebuild.ensures

@@ -12,4 +12,4 @@ returns c =
     let s = c in
     let a = s.args in
     let d : Canvas = record { samples = a.plane.now; stride = a.stride; rows = a.rows } in
-    c.mc_macroblock.ensures ∙ rw c.zero_vector.ensures (still_block d a.cols a.k s.requires.0)
+    c.mc_macroblock.ensures ∙ still_block d a.cols a.k s.requires.0

@@ -1,22 +1,18 @@
 -- The second component behind the first. Assumes nothing.
-use native.Mathlib.Omega.{arith}
-use Rattle.macroblock_dec.specs.FindingNeedsLaws.{reads_on, first_component_refused, difference_found}
+use Rattle.macroblock_dec.specs.FindingNeedsLaws.{first_component_refused, second_component_refused, difference_found}
 use borrow.Author.Rules.{rules}
 use Rattle.macroblock_dec.proofs.svq1_plane.inner.codes.read_mv_differential.Goals as goal
 
-pub returns-then-a-ne0 : goal.returns-then-a-ne0
-returns-then-a-ne0 c =
-    let s = c in
-    let a = s.args in
-    (first_component_refused a.s.now a.book.now a.at _ _ _ _ c.read_mv_component-a.ensures.0.found c.if-a-ne0.true (omega (arith, s.requires.from.bits_fit)), omega arith, omega arith)
+pub returns-in_err-x : goal.returns-in_err-x
+returns-in_err-x c =
+    let e = first_component_refused c.args.s.now c.args.book.now c.args.at _ c.in_err-x.ensures.0 in
+    search (rules, e)
 
-pub read_mv_component-b-requires : goal.read_mv_component-b-requires
-read_mv_component-b-requires c =
-    let s = c in
-    reads_on _ _ _ _ _ s.requires c.read_mv_component-a.ensures.0.found.within
+pub returns-in_err-y : goal.returns-in_err-y
+returns-in_err-y c =
+    let e = second_component_refused c.args.s.now c.args.book.now c.args.at _ _ c.in_ok-x.ensures.0.0 _ c.in_err-y.ensures.0 in
+    search (rules, e)
 
 pub returns : goal.returns
 returns c =
-    let s = c in
-    let a = s.args in
-    (difference_found a.s.now a.book.now a.at _ _ _ _ _ _ c.read_mv_component-a.ensures.0.found c.if-a-ne0.false c.read_mv_component-b.ensures.0.found, search rules, search rules)
+    (difference_found c.args.s.now c.args.book.now c.args.at _ _ c.in_ok-x.ensures.0.0 _ _ c.in_ok-y.ensures.0.0, (c.in_ok-x.ensures.1, c.in_ok-y.ensures.1))

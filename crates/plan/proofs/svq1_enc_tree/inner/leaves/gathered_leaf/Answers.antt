@@ -1,17 +1,16 @@
 -- Both blocks are gathered, then searched. Assumes nothing.
-use mathlib.Core.Path.{◌≡◌, ◌∙◌, sym, ap}
-use native.Mathlib.Omega.{arith}
-use Rattle.book.specs.Level.{level_number, area}
-use Rattle.tree.specs.Blocks.{level}
+use mathlib.Core.Path.{◌∙◌, sym, ap}
+use Rattle.book.specs.Level.{area}
 use Rattle.plan.specs.PlanNeedsLaws.{block_leaf}
+use Rattle.book.specs.LevelLaws.{level_most}
 use Rattle.plan.proofs.svq1_enc_tree.inner.leaves.gathered_leaf.Goals as goal
 
 pub level_leaf-requires : goal.level_leaf-requires
 level_leaf-requires c =
-    let e : level_number c.level_at-l.result ≡ level c.args.i = c.level_at-l.ensures ∙ c.level_of.ensures.0 in
+    let e = c.level_of.ensures in
     let q = c.requires in
     record {
-      level = omega (arith, c.level_at-l.ensures, c.level_of.ensures.1);
+      level = level_most c.level_of.result;
       target = c.block_of.auto.out ∙ q.scratch.t_long ∙ ap area (sym e);
       predictor = c.block_of-2.auto.out ∙ q.scratch.p_long ∙ ap area (sym e);
       sums = q.scratch.sums_long;
@@ -22,5 +21,5 @@ level_leaf-requires c =
 
 pub returns : goal.returns
 returns c =
-    let e : level_number c.level_at-l.result ≡ level c.args.i = c.level_at-l.ensures ∙ c.level_of.ensures.0 in
+    let e = c.level_of.ensures in
     block_leaf _ _ _ _ _ _ _ _ _ _ _ _ e (c.block_of.auto.out ∙ c.requires.scratch.t_long) c.block_of.ensures c.block_of-2.ensures c.level_leaf.ensures

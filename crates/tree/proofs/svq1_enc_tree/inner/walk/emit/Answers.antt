@@ -17,18 +17,15 @@ put_node-k-requires c =
     let s = c in
     let a = s.args in
     let l = c.loop-i in
-    node_room a.book.now a.half (tree_of a.blocks) (tree-length a.blocks ∙ search rules) a.out.now a.at s.requires l.out l.k l.i l.invariant (search rules) _ c.level_of.ensures.0 _ (sym (tree_at a.blocks l.i))
+    node_room a.book.now a.half (tree_of a.blocks) (tree-length a.blocks ∙ search rules) a.out.now a.at s.requires l.out l.k l.i l.invariant (search rules) _ c.level_of.ensures _ (sym (tree_at a.blocks l.i))
 
 pub loop-i-preserved : goal.loop-i-preserved
 loop-i-preserved c =
     let s = c in
     let a = s.args in
     let l = c.loop-i in
-    emit_turn a.book.now a.half (tree_of a.blocks) (tree-length a.blocks ∙ search rules) a.out.now a.at s.requires l.out l.k l.i l.invariant (search rules) _ c.level_of.ensures.0 _ (sym (tree_at a.blocks l.i))
+    emit_turn a.book.now a.half (tree_of a.blocks) (tree-length a.blocks ∙ search rules) a.out.now a.at s.requires l.out l.k l.i l.invariant (search rules) _ c.level_of.ensures _ (sym (tree_at a.blocks l.i))
     _ _ c.put_node-k.auto.out c.put_node-k.ensures
-
-pub shape_of-out : goal.shape_of-out
-shape_of-out c = c.loop-i.invariant.same
 
 pub returns : goal.returns
 returns c =

@@ -8,13 +8,14 @@ use lib.ListN.{length}
 use Prim.Native.Nat.{◌<◌, ◌≤◌}
 use mathlib.Core.Path.{◌≡◌, ◌∙◌}
 use borrow.Author.Rules.{rules}
+use Rattle.book.specs.Level.{level_number}
 use Rattle.tree.proofs.svq1_enc_tree.inner.walk.read_node.Goals as goal
 
-pub returns-then-d-eq0 : goal.returns-then-d-eq0
-returns-then-d-eq0 c =
+pub returns-then-number-eq0 : goal.returns-then-number-eq0
+returns-then-number-eq0 c =
     let a = c.args in
     record {
-      is = c.read_leaf_at.ensures.is ∙ flag_none (tables_of a.book.now a.half) a.d a.at (bits_of a.s.now) c.if-d-eq0.true;
+      is = c.read_leaf_at.ensures.is ∙ flag_none (tables_of a.book.now a.half) (level_number a.level) a.at (bits_of a.s.now) (rw c.number.ensures.0 at c.if-number-eq0.true);
       within = c.read_leaf_at.ensures.within;
     }
 
@@ -23,8 +24,8 @@ returns-then-s-at c =
     let a = c.args in
     let h : length (bits_of a.s.now) ≤ a.at = rw length_bits_of (search rules) in
     record {
-      is = flag_short (tables_of a.book.now a.half) a.d a.at (bits_of a.s.now) c.if-d-eq0.false h;
-      within = omega (arith, c.requires.from.bits_fit);
+      is = flag_short (tables_of a.book.now a.half) (level_number a.level) a.at (bits_of a.s.now) (rw c.number.ensures.0 at c.if-number-eq0.false) h;
+      within = tt;
     }
 
 pub returns : goal.returns
@@ -32,6 +33,6 @@ returns c =
     let a = c.args in
     let h : a.at < length (bits_of a.s.now) = rw length_bits_of (search rules) in
     record {
-      is = flag_split (tables_of a.book.now a.half) a.d a.at (bits_of a.s.now) c.if-d-eq0.false h (λ e. let z : c.get_bits.result ≡ 0 = c.get_bits.ensures ∙ e in omega arith);
+      is = flag_split (tables_of a.book.now a.half) (level_number a.level) a.at (bits_of a.s.now) (rw c.number.ensures.0 at c.if-number-eq0.false) h (λ e. let z : c.get_bits.result ≡ 0 = c.get_bits.ensures ∙ e in omega arith);
       within = omega arith;
     }

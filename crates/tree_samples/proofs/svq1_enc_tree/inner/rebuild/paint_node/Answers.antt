@@ -4,6 +4,7 @@ use Rattle.tree.specs.declared.svq1_enc_tree.TreeNode.{TreeNode}
 use Rattle.tree.specs.NodeForms.{node_of, node_as}
 use mathlib.Core.Logic.{inl, inr}
 use mathlib.Core.Path.{ap}
+use Rattle.book.specs.Level.{level_number}
 use Rattle.tree_samples.proofs.svq1_enc_tree.inner.rebuild.paint_node.Goals as goal
 
 pub paint_code-requires : goal.paint_code-requires
@@ -14,14 +15,14 @@ paint_code-requires c =
 pub returns-in-Off : goal.returns-in-Off
 returns-in-Off c =
     let a = c.args in
-    nothing_painted a.s a.d a.i a.raised.now a.predictor.now _ a.half (node_of a.b) (inl (ap (λ (n : TreeNode). node_as n a.b.stages) c.in-Off.is))
+    nothing_painted a.s (level_number a.level) a.i a.raised.now a.predictor.now _ a.half (node_of a.b) (inl (ap (λ (n : TreeNode). node_as n a.b.stages) c.in-Off.is))
 
 pub returns-in-Split : goal.returns-in-Split
 returns-in-Split c =
     let a = c.args in
-    nothing_painted a.s a.d a.i a.raised.now a.predictor.now _ a.half (node_of a.b) (inr (ap (λ (n : TreeNode). node_as n a.b.stages) c.in-Split.is))
+    nothing_painted a.s (level_number a.level) a.i a.raised.now a.predictor.now _ a.half (node_of a.b) (inr (ap (λ (n : TreeNode). node_as n a.b.stages) c.in-Split.is))
 
 pub returns-in-Leaf : goal.returns-in-Leaf
 returns-in-Leaf c =
     let a = c.args in
-    node_painted a.s a.d a.i a.raised.now a.predictor.now _ _ a.half (node_of a.b) _ (ap (λ (n : TreeNode). node_as n a.b.stages) c.in-Leaf.is) c.paint_code.ensures
+    node_painted a.s (level_number a.level) a.i a.raised.now a.predictor.now _ _ a.half (node_of a.b) _ (ap (λ (n : TreeNode). node_as n a.b.stages) c.in-Leaf.is) c.paint_code.ensures

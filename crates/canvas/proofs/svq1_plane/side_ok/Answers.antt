@@ -1,9 +1,0 @@
--- Two tests, each one of the definition's.
-use borrow.Author.Tests.{le-leb, lt-leb}
-use Rattle.canvas.proofs.svq1_plane.side_ok.Goals as goal
-
-pub returns-then-n-lt1 : goal.returns-then-n-lt1
-returns-then-n-lt1 c = simp (lt-leb _ _ c.if-n-lt1.true)
-
-pub returns : goal.returns
-returns c = simp (le-leb _ _ c.if-n-lt1.false)
