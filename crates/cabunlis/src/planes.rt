@@ -48,8 +48,8 @@ pub fn index_of(refused: Option<Refusal>, done: usize) -> usize
     ensures { result ≡ pick (mid_plane (number_told refused)) done 0 }
 {
     match refused {
-        Some(refusal) => { if mid_plane(refusal) { done } else { 0 } }
-        None => 0,
+        Some(refusal) if mid_plane(refusal) => done,
+        _ => 0,
     }
 }
 
@@ -126,7 +126,7 @@ pub extern "C" fn cabunlis2_encode_inter_plane(
     let e = encode_inter_plane(
         canvas, source, reference, book, codebook, settings, out, start, recon, vx, vy,
     );
-    answer(e.refused, e.done, e.next, e.bits, e.error)
+    plane_answer(e)
 }
 
 // The same, and each macroblock's mode, bits and error told in `stated`.
@@ -163,7 +163,7 @@ pub extern "C" fn cabunlis2_encode_inter_plane_stated(
     let e = encode_inter_plane_stated(
         canvas, source, reference, book, codebook, settings, out, start, recon, vx, vy, stated,
     );
-    answer(e.refused, e.done, e.next, e.bits, e.error)
+    plane_answer(e)
 }
 
 // Reads a plane.

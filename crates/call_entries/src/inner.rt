@@ -30,9 +30,7 @@ fn front_of(stages: [u8; 6], count: usize) -> [u8; 6]
     ensures { (result ≡ padded (take count stages)) × (length stages ≡ 6) }
 {
     let mut front = [0u8; 6];
-    for i in 0..count {
-        front[i] = stages[i];
-    }
+    front[..count].copy_from_slice(&stages[..count]);
     front
 }
 

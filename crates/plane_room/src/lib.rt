@@ -18,12 +18,10 @@ use code_tables::inner::entry_len;
 fn longest_code(table: &[u8]) -> u32
     ensures { result ≡ longest table.now }
 {
-    let n = table.len() / 3;
-    let mut most: u32 = 0;
-    for i in 0..n {
-        most = most.max(entry_len(table, i));
-    }
-    most
+    (0..table.len() / 3)
+        .map(|i| entry_len(table, i))
+        .max()
+        .unwrap_or(0)
 }
 
 // The most bits of a macroblock, by the longest codes of each kind.

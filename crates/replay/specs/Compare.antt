@@ -1,5 +1,5 @@
 -- What a job's replay is held against: the original's answer as the fixed list has it (oracle/README.md, "A batch").
-use Rattle.std.specs.Prelude.{ℕ, zero, suc, ◌+◌, ◌*◌, ◌/◌, Bool, true, false, ◌&&◌, List, eqb, get_or}
+use Rattle.std.specs.Prelude.{ℕ, zero, suc, ◌+◌, ◌*◌, ◌/◌, Bool, true, false, ◌&&◌, List, eqb, get_or, Option, Some, None}
 use Rattle.bits.specs.Refusals.{number_told}
 use Rattle.bits.specs.Basics.{pick}
 use Rattle.text.specs.Text.{same}
@@ -7,20 +7,8 @@ use Rattle.plane_enc.specs.declared.svq1_enc_inter.WriteEnd.{WriteEnd}
 use Rattle.plane_dec.specs.declared.svq1_plane.ReadEnd.{ReadEnd}
 use Rattle.replay.specs.declared.inner.file.Job.{Job}
 use Rattle.replay.specs.declared.inner.compare.Difference.{Difference}
-use Rattle.replay.specs.declared.inner.compare.Difference.TheVariants.{Same, Refusal, Done, Next, Count, Bits, Steps, Samples, X, Y}
+use Rattle.replay.specs.declared.inner.compare.Difference.TheVariants.{Refusal, Done, Next, Count, Bits, Steps, Samples, X, Y}
 use Rattle.replay.specs.Layout.{part_in, number_in, bytes_for}
-
-abbrev pub is_same : Difference → Bool
-is_same Same = true
-is_same Refusal = false
-is_same Done = false
-is_same Next = false
-is_same Count = false
-is_same Bits = false
-is_same Steps = false
-is_same Samples = false
-is_same X = false
-is_same Y = false
 
 -- the first n bytes of a list are those at a place of the file
 abbrev pub same_part : List ℕ → List ℕ → ℕ → ℕ → Bool
@@ -45,22 +33,22 @@ modes_in s mode (suc n) = modes_in s mode n + pick (eqb (get_or s (3 * n) 0) mod
 
 -- ---- the first difference
 -- of the samples and the vectors
-unfoldable pub slices_differ : List ℕ → ℕ → Job → List ℕ → List ℕ → List ℕ → Difference
+unfoldable pub slices_differ : List ℕ → ℕ → Job → List ℕ → List ℕ → List ℕ → Option Difference
 slices_differ f size j recon vx vy =
     let vectors = size / 256 * 4 in
-    pick (same_part recon f j.recon size) (pick (same_part vx f j.vx vectors) (pick (same_part vy f j.vy vectors) Same Y) X) Samples
+    pick (same_part recon f j.recon size) (pick (same_part vx f j.vx vectors) (pick (same_part vy f j.vy vectors) None (Some Y)) (Some X)) (Some Samples)
 
 -- of the bits and the steps
-unfoldable pub coded_differ : List ℕ → ℕ → Job → List ℕ → List ℕ → Difference → Difference
+unfoldable pub coded_differ : List ℕ → ℕ → Job → List ℕ → List ℕ → Option Difference → Option Difference
 coded_differ f size j out stated rest =
     let blocks = size / 256 in
-    pick (same_part out f j.bits (bytes_for j.count)) (pick (same_steps (part_in f j.steps (7 * blocks)) stated blocks) rest Steps) Bits
+    pick (same_part out f j.bits (bytes_for j.count)) (pick (same_steps (part_in f j.steps (7 * blocks)) stated blocks) rest (Some Steps)) (Some Bits)
 
 -- of the writer's answer
-unfoldable pub written_differ : ℕ → ℕ → WriteEnd → Difference → Difference
+unfoldable pub written_differ : ℕ → ℕ → WriteEnd → Option Difference → Option Difference
 written_differ size n w rest =
-    pick (eqb (number_told w.refused) 0) (pick (eqb w.done (size / 256)) (pick (eqb w.next n) (pick (eqb w.bits n) rest Count) Next) Done) Refusal
+    pick (eqb (number_told w.refused) 0) (pick (eqb w.done (size / 256)) (pick (eqb w.next n) (pick (eqb w.bits n) rest (Some Count)) (Some Next)) (Some Done)) (Some Refusal)
 
 -- of the reader's
-unfoldable pub read_differ : ℕ → ℕ → ReadEnd → Difference → Difference
-read_differ size n r rest = pick (eqb (number_told r.refused) 0) (pick (eqb r.done (size / 256)) (pick (eqb r.next n) rest Next) Done) Refusal
+unfoldable pub read_differ : ℕ → ℕ → ReadEnd → Option Difference → Option Difference
+read_differ size n r rest = pick (eqb (number_told r.refused) 0) (pick (eqb r.done (size / 256)) (pick (eqb r.next n) rest (Some Next)) (Some Done)) (Some Refusal)

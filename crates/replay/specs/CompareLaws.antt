@@ -64,7 +64,7 @@ module _ (t s : List ℕ) (k a b c x y z : ℕ) (mode : a ≡ number_in (part_in
     unfolding same_step
     error_decides e error told-error = rw (← mode, ← told-mode, eq-eqb a x same-mode, ← bits, ← told-bits, eq-eqb b y e, error, told-error)
 
--- no refusal has the number 0, and each refusal another
+-- there is no refusal exactly where its number is 0
 pub none_told : (o : Option Refusal) (b : Bool) → is_some o ≡ not b → b ≡ eqb (number_told o) 0
 none_told (Some r) true e = absurd (true≢false e)
 none_told (Some r) false e = sym (ne_eqb (number_of r) 0 (refusal_met r (number_of r) refl))

@@ -1,18 +1,17 @@
 -- What is counted of jobs.
-use Rattle.std.specs.Prelude.{ℕ, ◌+◌, min, List}
-use Rattle.bits.specs.Basics.{pick}
+use Rattle.std.specs.Prelude.{ℕ, ◌+◌, min, List, Option, None}
+use Rattle.std.specs.Option.{option_or}
 use Rattle.tree.specs.Plan.{saturated}
 use Rattle.plane_enc.specs.declared.svq1_enc_inter.WriteEnd.{WriteEnd}
 use Rattle.replay.specs.declared.inner.compare.Difference.{Difference}
-use Rattle.replay.specs.declared.inner.compare.Difference.TheVariants.{Same}
 use Rattle.replay.specs.declared.inner.tally.Tally.{Tally}
-use Rattle.replay.specs.Compare.{is_same, modes_in}
+use Rattle.replay.specs.Compare.{modes_in}
 
 abbrev pub none : Tally
-none = record { jobs = 0; blocks = 0; inter = 0; four = 0; intra = 0; skip = 0; bits = 0; error = 0; written = Same; read = Same }
+none = record { jobs = 0; blocks = 0; inter = 0; four = 0; intra = 0; skip = 0; bits = 0; error = 0; written = None; read = None }
 
 -- one job: the macroblocks that the writer did, of at most so many, by what it told of them, and its totals
-unfoldable pub tallied_of : List ℕ → ℕ → WriteEnd → Difference → Difference → Tally
+unfoldable pub tallied_of : List ℕ → ℕ → WriteEnd → Option Difference → Option Difference → Tally
 tallied_of s blocks w written read =
     let done = min w.done blocks in
     record {
@@ -39,6 +38,6 @@ added a b = record {
   skip = saturated (a.skip + b.skip);
   bits = saturated (a.bits + b.bits);
   error = saturated (a.error + b.error);
-  written = pick (is_same a.written) b.written a.written;
-  read = pick (is_same a.read) b.read a.read;
+  written = option_or a.written b.written;
+  read = option_or a.read b.read;
 }

@@ -46,11 +46,9 @@ fn rows_error(
     requires { Showable (shown_by canvas source.now recon.now) × (n ≤ 16) × (m ≤ 16) × (x + n ≤ canvas.width) × (y + m ≤ canvas.height) }
     ensures { (result ≡ sum (λ j. sum (λ i. square_at (shown_by canvas source.now recon.now) (x + i) (y + j)) n) m) × (result ≤ 16646400) }
 {
-    let mut sum: u32 = 0;
-    for j in 0..m {
-        sum += row_error(canvas, source, recon, x, y + j, n);
-    }
-    sum
+    (0..m)
+        .map(|j| row_error(canvas, source, recon, x, y + j, n))
+        .sum()
 }
 
 // The squared error of macroblock k over its visible samples.
@@ -71,9 +69,7 @@ pub fn visible_total(canvas: Svq1PlaneCanvas, source: &[u8], recon: &[u8]) -> u6
     requires { Showable (shown_by canvas source.now recon.now) }
     ensures { result ≡ visible_total (shown_by canvas source.now recon.now) }
 {
-    let mut sum: u64 = 0;
-    for k in 0..blocks_along(canvas.height) * blocks_along(canvas.width) {
-        sum += u64::from(visible_block(canvas, source, recon, k));
-    }
-    sum
+    (0..blocks_along(canvas.height) * blocks_along(canvas.width))
+        .map(|k| u64::from(visible_block(canvas, source, recon, k)))
+        .sum()
 }

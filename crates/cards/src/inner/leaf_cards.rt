@@ -1,7 +1,7 @@
 // The cards of the mean: one leaf at L0, inter half, without stages and without skip.
 ghost use Rattle.std.specs.Prelude.{◌≤◌};
 
-use super::super::inner::line::{print_line, put_number, put_short, wide};
+use super::super::inner::line::{print_line, put_number, put_short};
 use super::super::inner::sums::residual_sum;
 use bits::refusal::Refusal;
 use leaf::svq1_enc_leaf::LeafCode;
@@ -22,7 +22,7 @@ fn put_mean(line: &mut [u8], at: usize, found: Result<LeafAnswer, Refusal>) -> u
 // What was asked.
 fn put_residual(line: &mut [u8], sum: i32) -> usize {
     let number = put_text(line, 0, b"residual sum ");
-    let end = put_signed(line, number, wide(sum));
+    let end = put_signed(line, number, i64::from(sum));
     put_text(line, end, b" over 8 samples, inter half: ")
 }
 

@@ -1,28 +1,25 @@
 // What document 01 lists of the levels and of the clamp, asked of the calls: sizes, parts, pages, and the sample that a sum shows.
 ghost use Rattle.std.specs.Prelude.{◌≤◌};
 
-use super::super::inner::line::{print_line, put_number, put_short};
+use super::super::inner::line::{print_line, put_number, put_option, put_short};
 use book::svq1_blocktree::Svq1Level;
 use book::svq1_vlc::Svq1Half;
 use codebook::svq1_codebook::half_byte_offset_in_payload;
 use codebook::svq1_mean::saturate_u8;
-use text::put_text;
+use text::{put_decimal, put_text};
 
 fn put_parts(line: &mut [u8], at: usize, parts: Option<Svq1Level>) -> usize {
-    match parts {
-        Some(level) => put_number(line, at, b", parts L", level.number() as u64),
-        None => put_text(line, at, b", parts none"),
-    }
+    let end = put_text(line, at, b", parts ");
+    put_option(line, end, parts, b"none", |line, at, level| {
+        put_number(line, at, b"L", level.number() as u64)
+    })
 }
 
 fn put_page(line: &mut [u8], at: usize, name: &[u8], page: Option<usize>) -> usize {
-    match page {
-        Some(p) => put_number(line, at, name, p as u64),
-        None => {
-            let none = put_text(line, at, name);
-            put_text(line, none, b"none")
-        }
-    }
+    let end = put_text(line, at, name);
+    put_option(line, end, page, b"none", |line, at, p| {
+        put_decimal(line, at, p as u64)
+    })
 }
 
 fn put_size(line: &mut [u8], level: Svq1Level) -> usize {

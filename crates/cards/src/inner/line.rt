@@ -13,27 +13,35 @@ pub fn put_number(line: &mut [u8], at: usize, before: &[u8], n: u64) -> usize {
     put_decimal(line, digits, n)
 }
 
-// A number of 32 bits in 64.
-pub fn wide(z: i32) -> i64
-    ensures { result ≡ z }
-{
-    z as i64
-}
-
 // A text and a signed number of 16 bits behind it.
 pub fn put_short(line: &mut [u8], at: usize, before: &[u8], n: i16) -> usize {
-    let z = n as i64;
     let number = put_text(line, at, before);
-    put_signed(line, number, z)
+    put_signed(line, number, i64::from(n))
+}
+
+// What is put of a value; another text where there is none.
+pub fn put_option<T: Copy, F: FnOnce(&mut [u8], usize, T) -> usize>(
+    line: &mut [u8],
+    at: usize,
+    value: Option<T>,
+    none: &[u8],
+    put: F,
+) -> usize
+    requires { F.IsAlwaysCallable put }
+{
+    match value {
+        Some(v) => put(line, at, v),
+        None => put_text(line, at, none),
+    }
 }
 
 // A text and a vector behind it, as (x,y).
 pub fn put_vector(line: &mut [u8], at: usize, before: &[u8], v: Svq1Mv) -> usize {
     let open = put_text(line, at, before);
     let x = put_text(line, open, b"(");
-    let comma = put_signed(line, x, wide(v.x));
+    let comma = put_signed(line, x, i64::from(v.x));
     let y = put_text(line, comma, b",");
-    let close = put_signed(line, y, wide(v.y));
+    let close = put_signed(line, y, i64::from(v.y));
     put_text(line, close, b")")
 }
 
@@ -58,23 +66,18 @@ fn put_hex(line: &mut [u8], at: usize, b: u8) -> usize
 // Every byte of a slice, each behind a space.
 pub fn put_bytes(line: &mut [u8], at: usize, bytes: &[u8]) -> usize {
     let mut end = at;
-    for i in 0..bytes.len() {
+    for b in bytes {
         let digits = put_text(line, end, b" ");
-        end = put_hex(line, digits, bytes[i]);
+        end = put_hex(line, digits, *b);
     }
     end
 }
 
-// A byte as a number behind a space.
-fn put_byte(line: &mut [u8], at: usize, b: u8) -> usize {
-    put_number(line, at, b" ", b as u64)
-}
-
-// Every byte of a slice so.
+// Every byte of a slice as a number, each behind a space.
 pub fn put_numbers(line: &mut [u8], at: usize, bytes: &[u8]) -> usize {
     let mut end = at;
-    for i in 0..bytes.len() {
-        end = put_byte(line, end, bytes[i]);
+    for b in bytes {
+        end = put_number(line, end, b" ", u64::from(*b));
     }
     end
 }

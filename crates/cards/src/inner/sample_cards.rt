@@ -1,25 +1,20 @@
 // The cards of raster places and of means of samples.
 ghost use Rattle.std.specs.Prelude.{◌≤◌};
 
-use super::super::inner::line::{print_line, put_number};
+use super::super::inner::line::{print_line, put_number, put_option};
 use book::svq1_blocktree::Svq1Level;
 use codebook::svq1_codebook::vector_byte_to_raster;
 use compensation::svq1_enc_inter::inner::{mean2, mean4};
-use text::put_text;
-
-fn put_place(line: &mut [u8], at: usize, place: Option<usize>) -> usize {
-    match place {
-        Some(p) => put_number(line, at, b": raster ", p as u64),
-        None => put_text(line, at, b": nowhere"),
-    }
-}
 
 fn print_place(rt: &impl Print, line: &mut [u8], level: Svq1Level, byte: usize) -> usize
     ensures { result ≤ 1 }
 {
     let number = put_number(line, 0, b"L", level.number() as u64);
     let asked = put_number(line, number, b" byte ", byte as u64);
-    let all = put_place(line, asked, vector_byte_to_raster(level, byte));
+    let place = vector_byte_to_raster(level, byte);
+    let all = put_option(line, asked, place, b": nowhere", |line, at, p| {
+        put_number(line, at, b": raster ", p as u64)
+    });
     print_line(rt, line, all)
 }
 

@@ -1,15 +1,8 @@
 // Signed numbers read from text and written again: the least and the largest of 64 bits, one past it, and a zero with a minus.
 ghost use Rattle.std.specs.Prelude.{◌≤◌};
 
-use super::super::inner::line::print_line;
+use super::super::inner::line::{print_line, put_option};
 use text::{put_signed, put_text, read_signed};
-
-fn put_read(line: &mut [u8], at: usize, read: Option<i64>) -> usize {
-    match read {
-        Some(z) => put_signed(line, at, z),
-        None => put_text(line, at, b"none"),
-    }
-}
 
 fn print_text(rt: &impl Print, line: &mut [u8], t: &[u8]) -> usize
     ensures { result ≤ 1 }
@@ -17,7 +10,7 @@ fn print_text(rt: &impl Print, line: &mut [u8], t: &[u8]) -> usize
     let word = put_text(line, 0, b"text ");
     let asked = put_text(line, word, t);
     let number = put_text(line, asked, b": number ");
-    let all = put_read(line, number, read_signed(t));
+    let all = put_option(line, number, read_signed(t), b"none", put_signed);
     print_line(rt, line, all)
 }
 

@@ -26,6 +26,7 @@ const CANVAS: Svq1PlaneCanvas = Svq1PlaneCanvas {
 };
 
 // The plane written into `out` from bit `start` on.
+#[tactic(auto, unfolding(crate::specs::Planes::small_given, crate::specs::Planes::small_task, crate::specs::Planes::fresh_slices))]
 fn write_plane(book: &[u8], codebook: &[u8], lambda: u64, out: &mut [u8], start: usize) -> WriteEnd
     ensures { CardWrote (small_given book.now codebook.now) (small_task lambda) out.old start fresh_slices (writeEnd result) out.new }
 {
@@ -105,6 +106,7 @@ pub fn print_planes(rt: &impl Print, line: &mut [u8], book: &[u8], codebook: &[u
 }
 
 // The plane of some bytes, read into `recon`.
+#[tactic(auto, unfolding(crate::specs::Planes::small_given))]
 fn read_plane(book: &[u8], codebook: &[u8], bytes: &[u8], recon: &mut [u8]) -> ReadEnd
     ensures { ReadOff (small_given book.now codebook.now) bytes.now (small_slices recon.old) (readEnd result) recon.new }
 {

@@ -1,25 +1,15 @@
 // Counts and sums over samples.
-ghost use Rattle.std.specs.Prelude.{◌≡◌, ◌≤◌, length};
+ghost use Rattle.std.specs.Prelude.{eqb, ◌≡◌, ◌≤◌, length};
+ghost use Rattle.std.specs.List.{count_by};
 ghost use Rattle.codebook.specs.Mean.{residual};
-ghost use Rattle.cards.specs.Numbers.{one_if, count_in};
 
 use leaf_search::svq1_enc_leaf::inner::sum_of;
 
-fn one_if(a: u8, b: u8) -> usize
-    ensures { (result ≡ one_if a b) × (result ≤ 1) }
-{
-    if a == b { 1 } else { 0 }
-}
-
 // How many samples are v.
 pub fn count_of(s: &[u8], v: u8) -> usize
-    ensures { result ≡ count_in v s.now }
+    ensures { result ≡ count_by (λ b. eqb b v) s.now }
 {
-    let mut n = 0;
-    for i in 0..s.len() {
-        n += one_if(s[i], v);
-    }
-    n
+    s.iter().filter(|b| **b == v).count()
 }
 
 // The sum of the residuals, target less predictor.

@@ -4,7 +4,7 @@ ghost use Rattle.motion.specs.Search.{search_answer};
 ghost use Rattle.bits.specs.Refusals.{answer_of};
 ghost use Rattle.cards.specs.Planes.{card_search};
 
-use super::super::inner::line::{print_line, put_number, put_vector};
+use super::super::inner::line::{print_line, put_number, put_option, put_vector};
 use bits::refusal::Refusal;
 use motion::svq1_enc_inter::search_motion_vector;
 use text::put_text;
@@ -12,13 +12,10 @@ use vectors::svq1_motion_predictor::{Svq1Mv, predict};
 
 // A neighbour's name and its vector, or none.
 fn put_neighbour(line: &mut [u8], at: usize, name: &[u8], n: Option<Svq1Mv>) -> usize {
-    match n {
-        Some(v) => put_vector(line, at, name, v),
-        None => {
-            let none = put_text(line, at, name);
-            put_text(line, none, b"none")
-        }
-    }
+    let end = put_text(line, at, name);
+    put_option(line, end, n, b"none", |line, at, v| {
+        put_vector(line, at, b"", v)
+    })
 }
 
 fn print_predictor(
@@ -60,6 +57,7 @@ fn put_searched(line: &mut [u8], at: usize, found: Result<Svq1Mv, Refusal>) -> u
 }
 
 // The search of a block of 16 x 16 samples in a plane of 32 x 32, all 100.
+#[tactic(auto, unfolding(crate::specs::Planes::card_search))]
 fn search_flat(x: usize, y: usize, predictor: Svq1Mv) -> Result<Svq1Mv, Refusal>
     ensures { answer_of result ≡ search_answer (card_search x y predictor) }
 {

@@ -14,6 +14,7 @@ use plane_enc::svq1_enc_inter::{WriteEnd, encode_inter_plane};
 const SAMPLE: u8 = 100;
 
 // The plane written into `out` from bit 0 on, with room for the vectors of 65 macroblocks.
+#[tactic(auto, unfolding(crate::specs::Planes::wide_slices))]
 fn write_plane(
     canvas: Svq1PlaneCanvas,
     source: &[u8],
@@ -58,37 +59,36 @@ fn print_plane(
     print_line(rt, line, all)
 }
 
-fn print_1024(rt: &impl Print, line: &mut [u8], book: &[u8], codebook: &[u8]) -> usize
-    ensures { result ≤ 1 }
-{
-    let source = [SAMPLE; 1024];
-    let reference = [SAMPLE; 16384];
-    let mut recon = [0u8; 16384];
-    let canvas = Svq1PlaneCanvas {
-        width: 1024,
-        height: 1,
-        stride: 1024,
-        rows: 16,
-    };
-    print_plane(
-        rt, line, canvas, &source, &reference, book, codebook, &mut recon,
-    )
-}
-
-fn print_1025(rt: &impl Print, line: &mut [u8], book: &[u8], codebook: &[u8]) -> usize
+// The card of a width, whose macroblocks take a row of 16 samples each.
+fn print_width(
+    rt: &impl Print,
+    line: &mut [u8],
+    book: &[u8],
+    codebook: &[u8],
+    width: usize,
+) -> usize
+    requires { width ≤ 1025 }
     ensures { result ≤ 1 }
 {
     let source = [SAMPLE; 1025];
     let reference = [SAMPLE; 16640];
     let mut recon = [0u8; 16640];
     let canvas = Svq1PlaneCanvas {
-        width: 1025,
+        width,
         height: 1,
-        stride: 1040,
+        stride: 16 * ((width + 15) / 16),
         rows: 16,
     };
+    let samples = canvas.stride * canvas.rows;
     print_plane(
-        rt, line, canvas, &source, &reference, book, codebook, &mut recon,
+        rt,
+        line,
+        canvas,
+        &source[..width],
+        &reference[..samples],
+        book,
+        codebook,
+        &mut recon[..samples],
     )
 }
 
@@ -96,6 +96,6 @@ fn print_1025(rt: &impl Print, line: &mut [u8], book: &[u8], codebook: &[u8]) ->
 pub fn print_planes(rt: &impl Print, line: &mut [u8], book: &[u8], codebook: &[u8]) -> usize
     ensures { result ≤ 2 }
 {
-    let largest = print_1024(rt, line, book, codebook);
-    largest + print_1025(rt, line, book, codebook)
+    let largest = print_width(rt, line, book, codebook, 1024);
+    largest + print_width(rt, line, book, codebook, 1025)
 }

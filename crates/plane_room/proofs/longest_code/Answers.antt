@@ -1,22 +1,20 @@
--- The longest so far and the longest from entry `i` on are the table's.
-use Prim.Native.Nat.{ℕ}
+-- The largest of the entries' lengths is the table's longest. Assumes nothing.
 use mathlib.Core.List.{List}
+use Prim.Native.Nat.{ℕ, ◌/◌}
+use lib.ListN.{length}
 use native.Mathlib.Omega.{arith}
-use Rattle.plane_room.specs.LongestLaws.{longest_turn, longest_last}
+use Rattle.std.proofs.Common.{rules, ap, ◌∙◌}
+use borrow.Author.Tests.{tests}
+use Rattle.std.specs.List.{range_with_len}
+use Rattle.std.specs.Option.{unwrap_or}
+use Rattle.std.proofs.lemmas.Iterator.{YieldsList-from_map, YieldsList-from_range}
+use Rattle.std.proofs.lemmas.Iterator.Consumers.{reduce_from_yields_List}
+use Rattle.std.proofs.lemmas.List.Folds.{max_of_map}
+use Rattle.code_tables.specs.Codes.{code_len}
+use Rattle.plane_room.proofs.LongestFold.{all_longest}
 use Rattle.plane_room.proofs.longest_code.Goals as goal
 
-pub loop-i-init : goal.loop-i-init
-loop-i-init c = omega arith
-
-pub entry_len-requires : goal.entry_len-requires
-entry_len-requires c = omega arith
-
-pub loop-i-preserved : goal.loop-i-preserved
-loop-i-preserved c =
-    let u = c in
-    let t : List ℕ = u.args.table.now in
-    let e = longest_turn t u.loop-i.i u.loop-i.most (omega arith) u.loop-i.invariant in
-    rw (c.max-most.ensures, c.entry_len.ensures) e
-
 pub returns : goal.returns
-returns c = longest_last c.args.table.now c.loop-i.i c.loop-i.most c.loop-i-test.false c.loop-i.invariant
+returns c =
+    let t : List ℕ = c.args.table.now in
+    c.unwrap_or.ensures ∙ ap (λ o. unwrap_or o 0) (reduce_from_yields_List _ c.map.result _ c.max.ensures.ran (YieldsList-from_map _ (code_len t) (YieldsList-from_range 0 _ (length t / 3) c.map.ensures.source (omega arith)) c.map.ensures.closure (λ x b q k. search (rules, tests)))) ∙ max_of_map (code_len t) (range_with_len 0 (length t / 3)) ∙ all_longest t

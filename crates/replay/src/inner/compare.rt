@@ -1,18 +1,19 @@
 // What the writer and the reader leave of a job, held against the original's answer.
-ghost use Rattle.std.specs.Prelude.{◌≡◌, ◌+◌, ◌*◌, ◌/◌, ◌≤◌, ◌<◌, eqb, length};
+ghost use Rattle.std.specs.Prelude.{◌≡◌, ◌+◌, ◌*◌, ◌/◌, ◌≤◌, ◌<◌, length};
 ghost use Rattle.bits.specs.Basics.{pick};
+ghost use Rattle.macroblock.specs.Mode.{mode_position};
 ghost use Rattle.replay.specs.Layout.{most_job_blocks, most_size};
-ghost use Rattle.replay.specs.Compare.{is_same, same_part, same_step, same_steps, modes_in, slices_differ, coded_differ, written_differ, read_differ};
+ghost use Rattle.replay.specs.Compare.{same_part, same_step, same_steps, modes_in, slices_differ, coded_differ, written_differ, read_differ};
 
 use super::super::inner::file::{Job, bytes_for, number_at, part};
+use macroblock::svq1_enc_inter::Svq1MbMode;
 use plane_dec::svq1_plane::ReadEnd;
 use plane_enc::svq1_enc_inter::WriteEnd;
 use text::same;
 
-// The first thing that differs.
+// What differs.
 #[derive(Clone, Copy)]
 pub enum Difference {
-    Same,
     Refusal,
     Done,
     Next,
@@ -24,24 +25,11 @@ pub enum Difference {
     Y,
 }
 
-pub fn is_same(d: Difference) -> bool
-    ensures { result ≡ is_same d }
-{
-    matches!(d, Difference::Same)
-}
-
-// The first of two that is one.
-pub fn first(a: Difference, b: Difference) -> Difference
-    ensures { result ≡ pick (is_same a) b a }
-{
-    if is_same(a) { b } else { a }
-}
-
 // What differs where a test fails, and else the rest.
-fn judged(passes: bool, what: Difference, rest: Difference) -> Difference
-    ensures { result ≡ pick passes rest what }
+fn judged(passes: bool, what: Difference, rest: Option<Difference>) -> Option<Difference>
+    ensures { result ≡ pick passes rest (Some what) }
 {
-    if passes { rest } else { what }
+    if passes { rest } else { Some(what) }
 }
 
 // Whether the first n bytes are those at a place of the file.
@@ -72,33 +60,15 @@ fn same_steps(steps: &[u8], stated: &[u32], n: usize) -> bool
     requires { (3 * n ≤ length stated.now) × (n ≤ most_job_blocks) }
     ensures { result ≡ same_steps steps.now stated.now n }
 {
-    for k in 0..n {
-        if !same_step(steps, stated, k) {
-            return false;
-        }
-    }
-    true
-}
-
-fn one_if(x: u32, y: u32) -> u64
-    ensures { (result ≡ pick (eqb x y) 1 0) × (result ≤ 1) }
-{
-    if x == y {
-        return 1;
-    }
-    0
+    (0..n).all(|k| same_step(steps, stated, k))
 }
 
 // How many of the first n macroblocks have a mode.
-pub fn count_mode(stated: &[u32], mode: u32, n: usize) -> u64
+pub fn count_mode(stated: &[u32], mode: Svq1MbMode, n: usize) -> u64
     requires { 3 * n ≤ length stated.now }
-    ensures { result ≡ modes_in stated.now mode n }
+    ensures { result ≡ modes_in stated.now (mode_position mode) n }
 {
-    let mut count = 0;
-    for k in 0..n {
-        count += one_if(stated[3 * k], mode);
-    }
-    count
+    (0..n).filter(|&k| stated[3 * k] == mode as u32).count() as u64
 }
 
 // The samples and the vectors of a plane of `size` samples.
@@ -109,15 +79,11 @@ pub fn slices_difference(
     recon: &[u8],
     vx: &[u8],
     vy: &[u8],
-) -> Difference
+) -> Option<Difference>
     ensures { result ≡ slices_differ file.now size j recon.now vx.now vy.now }
 {
     let vectors = size / 256 * 4;
-    let y = judged(
-        same_part(vy, file, j.vy, vectors),
-        Difference::Y,
-        Difference::Same,
-    );
+    let y = judged(same_part(vy, file, j.vy, vectors), Difference::Y, None);
     let x = judged(same_part(vx, file, j.vx, vectors), Difference::X, y);
     judged(
         same_part(recon, file, j.recon, size),
@@ -133,8 +99,8 @@ pub fn coded_difference(
     j: Job,
     out: &[u8],
     stated: &[u32],
-    rest: Difference,
-) -> Difference
+    rest: Option<Difference>,
+) -> Option<Difference>
     requires { (size ≤ most_size) × (3 * most_job_blocks ≤ length stated.now) }
     ensures { result ≡ coded_differ file.now size j out.now stated.now rest }
 {
@@ -146,7 +112,12 @@ pub fn coded_difference(
 }
 
 // What the writer answered, before the rest.
-pub fn written_difference(size: usize, count: u64, w: WriteEnd, rest: Difference) -> Difference
+pub fn written_difference(
+    size: usize,
+    count: u64,
+    w: WriteEnd,
+    rest: Option<Difference>,
+) -> Option<Difference>
     ensures { result ≡ written_differ size count w rest }
 {
     let bits = judged(w.bits == count, Difference::Count, rest);
@@ -156,7 +127,12 @@ pub fn written_difference(size: usize, count: u64, w: WriteEnd, rest: Difference
 }
 
 // What the reader answered, before the rest.
-pub fn read_difference(size: usize, count: u64, r: ReadEnd, rest: Difference) -> Difference
+pub fn read_difference(
+    size: usize,
+    count: u64,
+    r: ReadEnd,
+    rest: Option<Difference>,
+) -> Option<Difference>
     ensures { result ≡ read_differ size count r rest }
 {
     let next = judged(r.next as u64 == count, Difference::Next, rest);

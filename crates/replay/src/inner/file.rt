@@ -45,7 +45,7 @@ pub struct Job {
     pub next: usize,
 }
 
-// Reads until there is no more room or the file ends; the answer is how many bytes were read.
+// Reads until there is no more room or the file ends; the answer is how many bytes were read. Reads differ in length, so that a `for` is no plainer.
 pub fn read_full(file: &mut impl Read, bytes: &mut [u8]) -> io::Result<usize>
     ensures { IfOk result (λ n. n ≤ length bytes.new) }
 {
@@ -78,10 +78,7 @@ pub fn part(t: &[u8], at: usize, n: usize) -> &[u8]
 pub fn byte(t: &[u8], at: usize) -> u8
     ensures { result ≡ get_or t.now at 0 }
 {
-    if at < t.len() {
-        return t[at];
-    }
-    0
+    t.get(at).copied().unwrap_or(0)
 }
 
 // The number of at most eight bytes, lowest first; 0 for more of them.

@@ -58,7 +58,7 @@ fn read_job_back(
 #[derive(Drop)]
 struct Wrote {
     end: WriteEnd,
-    differs: Difference,
+    differs: Option<Difference>,
 }
 
 fn replay_writer(
@@ -88,7 +88,7 @@ fn replay_reader(
     recon: &mut [u8],
     vx: &mut [u8],
     vy: &mut [u8],
-) -> Difference {
+) -> Option<Difference> {
     let end = read_job_back(file, s, j, bytes, recon, vx, vy);
     let slices = slices_difference(file, s.size, j, recon, vx, vy);
     read_difference(s.size, j.count, end, slices)

@@ -2,9 +2,10 @@
 ghost use Rattle.std.specs.Prelude.{◌≡◌, ◌*◌, ◌≤◌, min, length};
 ghost use Rattle.replay.specs.Tally.{none, added, tallied_of};
 
-use super::super::inner::compare::{Difference, count_mode, first, is_same};
+use super::super::inner::compare::{Difference, count_mode};
 use super::super::inner::file::part;
 use costs::svq1_enc_tree::saturating_add;
+use macroblock::svq1_enc_inter::Svq1MbMode;
 use plane_enc::svq1_enc_inter::WriteEnd;
 use std::io;
 use text::{put_decimal, put_text};
@@ -20,8 +21,8 @@ pub struct Tally {
     pub skip: u64,
     pub bits: u64,
     pub error: u64,
-    pub written: Difference,
-    pub read: Difference,
+    pub written: Option<Difference>,
+    pub read: Option<Difference>,
 }
 
 pub fn no_tally() -> Tally
@@ -36,8 +37,8 @@ pub fn no_tally() -> Tally
         skip: 0,
         bits: 0,
         error: 0,
-        written: Difference::Same,
-        read: Difference::Same,
+        written: None,
+        read: None,
     }
 }
 
@@ -46,8 +47,8 @@ pub fn job_tally(
     stated: &[u32],
     blocks: usize,
     w: WriteEnd,
-    written: Difference,
-    read: Difference,
+    written: Option<Difference>,
+    read: Option<Difference>,
 ) -> Tally
     requires { 3 * blocks ≤ length stated.now }
     ensures { result ≡ tallied_of stated.now blocks w written read }
@@ -56,10 +57,10 @@ pub fn job_tally(
     Tally {
         jobs: 1,
         blocks: done as u64,
-        inter: count_mode(stated, 0, done),
-        four: count_mode(stated, 1, done),
-        intra: count_mode(stated, 2, done),
-        skip: count_mode(stated, 3, done),
+        inter: count_mode(stated, Svq1MbMode::Inter, done),
+        four: count_mode(stated, Svq1MbMode::Inter4Mv, done),
+        intra: count_mode(stated, Svq1MbMode::Intra, done),
+        skip: count_mode(stated, Svq1MbMode::Skip, done),
         bits: w.bits,
         error: w.error,
         written,
@@ -71,10 +72,6 @@ pub fn job_tally(
 pub fn add(a: Tally, b: Tally) -> Tally
     ensures { result ≡ added a b }
 {
-    let written = a.written;
-    let written_too = b.written;
-    let read = a.read;
-    let read_too = b.read;
     Tally {
         jobs: saturating_add(a.jobs, b.jobs),
         blocks: saturating_add(a.blocks, b.blocks),
@@ -84,8 +81,8 @@ pub fn add(a: Tally, b: Tally) -> Tally
         skip: saturating_add(a.skip, b.skip),
         bits: saturating_add(a.bits, b.bits),
         error: saturating_add(a.error, b.error),
-        written: first(written, written_too),
-        read: first(read, read_too),
+        written: a.written.or(b.written),
+        read: a.read.or(b.read),
     }
 }
 
@@ -101,13 +98,12 @@ pub fn put_count(line: &mut [u8], at: usize, name: &[u8], n: u64) -> usize {
 }
 
 // Who differs, and in what; nothing where they do not.
-fn put_difference(line: &mut [u8], at: usize, who: &[u8], d: Difference) -> usize {
-    if is_same(d) {
+fn put_difference(line: &mut [u8], at: usize, who: &[u8], d: Option<Difference>) -> usize {
+    let Some(what) = d else {
         return at;
-    }
+    };
     let p = put_text(line, at, who);
-    match d {
-        Difference::Same => p,
+    match what {
         Difference::Refusal => put_text(line, p, b" refuses"),
         Difference::Done => put_text(line, p, b" differs in macroblocks done"),
         Difference::Next => put_text(line, p, b" differs in the next bit"),
@@ -120,8 +116,13 @@ fn put_difference(line: &mut [u8], at: usize, who: &[u8], d: Difference) -> usiz
     }
 }
 
-fn put_verdict(line: &mut [u8], at: usize, written: Difference, read: Difference) -> usize {
-    if is_same(first(written, read)) {
+fn put_verdict(
+    line: &mut [u8],
+    at: usize,
+    written: Option<Difference>,
+    read: Option<Difference>,
+) -> usize {
+    if written.or(read).is_none() {
         return put_text(line, at, b", same\n");
     }
     let p = put_difference(line, at, b", the writer", written);
@@ -143,7 +144,5 @@ pub fn put_tally(line: &mut [u8], at: usize, t: Tally) -> usize {
     let c = put_modes(line, b, t);
     let d = put_count(line, c, b", bits ", t.bits);
     let e = put_count(line, d, b", error ", t.error);
-    let written = t.written;
-    let read = t.read;
-    put_verdict(line, e, written, read)
+    put_verdict(line, e, t.written, t.read)
 }

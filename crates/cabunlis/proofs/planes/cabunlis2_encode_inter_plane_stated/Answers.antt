@@ -5,4 +5,4 @@ use Rattle.cabunlis.proofs.planes.cabunlis2_encode_inter_plane_stated.Goals as g
 pub returns : goal.returns
 returns c =
     let e = c in
-    host_stated _ _ _ _ _ _ _ _ _ (rw e.settings_of-settings.ensures at e.encode_inter_plane_stated-e.ensures) c.answer.ensures
+    host_stated _ _ _ _ _ _ _ _ _ (rw e.settings_of-settings.ensures at e.encode_inter_plane_stated-e.ensures) c.plane_answer.ensures

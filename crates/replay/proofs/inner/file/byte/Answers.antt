@@ -1,7 +1,0 @@
--- The byte, or 0. Assumes nothing.
-use mathlib.Core.Path.{sym}
-use lib.ListN.{get_or-eq_default}
-use Rattle.replay.proofs.inner.file.byte.Goals as goal
-
-pub returns : goal.returns
-returns c = sym (get_or-eq_default c.args.t.now 0 c.if-at-t.false)
