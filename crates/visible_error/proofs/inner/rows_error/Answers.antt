@@ -24,4 +24,4 @@ returns c =
     let s : ShownPlane = shown_by a.canvas a.source.now a.recon.now in
     let h : ℕ → ℕ = λ j. total (λ i. square_at s (a.x + i) (a.y + j)) a.n in
     let e : c.sum.result ≡ total h a.m = sum_from_yields_List c.map.result _ c.sum.ensures.ran (YieldsList-from_map _ h (YieldsList-from_range 0 _ a.m c.map.ensures.source (omega arith)) c.map.ensures.closure (λ x r q k. search (rules, tests))) ∙ range_sum h a.m in
-    (e, omega (arith, e, c.requires.2, sum_most h (λ j. omega (arith, c.requires.1, row_most s c.requires.0 (λ k. (c.type_inv.source k).fits) (λ k. (c.type_inv.recon k).fits) a.x (a.y + j) a.n)) a.m))
+    (e, omega (arith, e, c.requires.2, sum_most h 1040400 (λ j. omega (arith, c.requires.1, row_most s c.requires.0 (λ k. (c.type_inv.source k).fits) (λ k. (c.type_inv.recon k).fits) a.x (a.y + j) a.n)) a.m))
