@@ -117,13 +117,38 @@ pub fn check_bits(bytes: usize, at: usize, width: u32, short: Refusal) -> Result
     check_room(bytes, at, width, short)
 }
 
-// The run `xs` into `out` from place `at` on.
+// The number of what `check_room` refuses, 0 for nothing; here `short` may be any number.
+pub fn room_refusal(bytes: usize, at: usize, width: u32, short: u8) -> u8
+    ensures { result ≡ room_refusal bytes at width short }
+{
+    if let Err(refusal) = check_start(bytes, at) {
+        return refusal.number();
+    }
+    if width as usize <= 8 * bytes - at {
+        return 0;
+    }
+    short
+}
+
+// The number of what `check_bits` refuses, likewise.
+pub fn bits_refusal(bytes: usize, at: usize, width: u32, short: u8) -> u8
+    ensures { result ≡ bits_refusal bytes at width short }
+{
+    if width <= 32 {
+        return room_refusal(bytes, at, width, short);
+    }
+    Refusal::CodeWidth.number()
+}
+
+// The run `xs` into `out` from place `at` on. Byte by byte: of a length that is known only at run time, `copy_from_slice` calls `memmove`, which the
+// library would then ask of its host.
 pub fn put_row(out: &mut [u8], at: usize, xs: &[u8])
     requires { at + length xs.now ≤ length out.old }
     ensures { out.new ≡ sets out.old at xs.now }
 {
-    let end = at + xs.len();
-    out[at..end].copy_from_slice(xs);
+    for i in 0..xs.len() {
+        out[at + i] = xs[i];
+    }
 }
 
 // The number that a two's complement byte stands for.

@@ -84,5 +84,7 @@ pub fn stage_table(book: &[u8], half: Svq1Half, level: Svq1Level) -> &[u8]
     requires { length book.now ≡ book_bytes }
     ensures { result.now ≡ stage_table (level_number level) (stage_family half book.now) }
 {
-    level.family_part(stage_family(book, half))
+    let intra = stage_family(book, Svq1Half::Intra);
+    let inter = stage_family(book, Svq1Half::Inter);
+    level.stage_table(intra, inter, half)
 }

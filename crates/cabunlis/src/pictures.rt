@@ -32,7 +32,7 @@ fn picture_answer(e: PictureEnd) -> HostPicture
     let third = e.third;
     HostPicture {
         refusal: number_told(e.refused) as u32,
-        macroblock: index_of(e.refused, e.done),
+        macroblock: index_of(number_told(e.refused), e.done),
         done: e.done,
         first: plane_answer(first),
         second: plane_answer(second),

@@ -1,7 +1,7 @@
 // The plane writer and the plane reader.
 ghost use Rattle.std.specs.Prelude.{not, ◌≡◌, eqb};
 ghost use Rattle.bits.specs.Basics.{pick};
-ghost use Rattle.bits.specs.Refusals.{number_of, number_told};
+ghost use Rattle.bits.specs.Refusals.{number_told};
 ghost use Rattle.macroblock.specs.MacroblockNeeds.{given_by};
 ghost use Rattle.macroblock_choice.specs.ChosenNeeds.{task_by};
 ghost use Rattle.plane.specs.Refusals.{mid_plane};
@@ -27,28 +27,13 @@ pub struct HostAnswer {
     pub error: u64,
 }
 
-// Whether a refusal comes in the middle of a plane, at a macroblock.
+// The index of the macroblock at which a refusal came, by the refusal's number; 0 for every number that does not come in the middle of a plane.
 #[tactic(auto, unfolding(plane::specs::Refusals::mid_plane))]
-fn mid_plane(refusal: Refusal) -> bool
-    ensures { result ≡ mid_plane (number_of refusal) }
-{
-    match refusal {
-        Refusal::NoCode | Refusal::LeafClosed | Refusal::NoRoom | Refusal::BitsEnd => true,
-        Refusal::PlaneSize | Refusal::SourceLength | Refusal::CanvasSize => false,
-        Refusal::ReferenceLength | Refusal::TableLength | Refusal::CodeWidth => false,
-        Refusal::NotPrefixFree | Refusal::Block | Refusal::SearchBlock => false,
-        Refusal::ResultLength | Refusal::StartBit | Refusal::NoVector => false,
-        Refusal::FileOrder | Refusal::Allowance => false,
-    }
-}
-
-// The index of the macroblock at which a refusal came, or 0.
-#[tactic(auto, unfolding(plane::specs::Refusals::mid_plane))]
-pub fn index_of(refused: Option<Refusal>, done: usize) -> usize
-    ensures { result ≡ pick (mid_plane (number_told refused)) done 0 }
+pub fn index_of(refused: u8, done: usize) -> usize
+    ensures { result ≡ pick (mid_plane refused) done 0 }
 {
     match refused {
-        Some(refusal) if mid_plane(refusal) => done,
+        10 | 11 | 22 | 24 => done,
         _ => 0,
     }
 }
@@ -59,7 +44,7 @@ fn answer(refused: Option<Refusal>, done: usize, next: usize, bits: u64, error: 
 {
     HostAnswer {
         refusal: number_told(refused) as u32,
-        macroblock: index_of(refused, done),
+        macroblock: index_of(number_told(refused), done),
         done,
         next,
         bits,

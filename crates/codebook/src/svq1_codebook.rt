@@ -20,7 +20,7 @@ pub fn half_byte_offset_in_payload(level: Svq1Level, half: Svq1Half) -> Option<u
 {
     let d = level.number();
     if d < 4 {
-        return Some(page_start(half, level));
+        return Some(page_start(half, d));
     }
     None
 }

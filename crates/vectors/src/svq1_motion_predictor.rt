@@ -2,7 +2,7 @@
 pub mod inner;
 
 ghost use Rattle.std.specs.Prelude.{◌≡◌, ◌+ℤ◌};
-ghost use Rattle.vectors.specs.Vectors.{median, median_mv, predicted, clipped, final_mv};
+ghost use Rattle.vectors.specs.Vectors.{zero_mv, median, median_mv, predicted, clipped, final_mv};
 
 // A motion vector, in half samples.
 #[derive(Clone, Copy, Debug, PartialEq, Eq)]
@@ -20,6 +20,13 @@ impl Svq1Mv {
     {
         Svq1Mv { x, y }
     }
+}
+
+// The vector that SKIP and INTRA macroblocks store, as a call that says so.
+pub fn zero_vector() -> Svq1Mv
+    ensures { result ≡ zero_mv }
+{
+    Svq1Mv::ZERO
 }
 
 // The middle one of three numbers.

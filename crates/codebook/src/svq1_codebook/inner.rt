@@ -2,12 +2,10 @@
 // page begins in it.
 ghost use Rattle.std.specs.Prelude.{◌≡◌, ◌+◌, ◌*◌, ◌%◌, ◌<◌, ◌≤◌, length, get_or};
 ghost use Rattle.book.specs.Book.{codebook_bytes};
-ghost use Rattle.book.specs.Level.{level_number};
 ghost use Rattle.codebook.specs.CodebookForms.{raised_codebook, page_start};
 ghost use Rattle.codebook.specs.RaiseNeeds.{LevelVectors, VectorFilling, RaisedTo, four_raised};
 
 use super::super::svq1_codebook::{RASTER_NUMBERS, raster_order};
-use book::svq1_blocktree::Svq1Level;
 use book::svq1_vlc::Svq1Half;
 
 // A two's complement byte plus 128.
@@ -93,24 +91,24 @@ pub fn raise_codebook(codebook: &[u8], out: &mut [u8])
     raise_level(codebook, out, &order, 8, 0, 21504);
 }
 
-// Where a level's search looks for vectors in the raised codebook: its half's page; 0 for L4 and L5, which have none.
-#[tactic(auto, unfolding(crate::specs::Codebook::page_offset))]
-pub fn page_start(half: Svq1Half, level: Svq1Level) -> usize
-    ensures { result ≡ page_start half (level_number level) }
+// Where a level's search looks for vectors in the raised codebook: its half's page, by the level's number; 0 for L4 and L5, which have none, and for every
+// number above them.
+pub fn page_start(half: Svq1Half, d: usize) -> usize
+    ensures { result ≡ page_start half d }
 {
     match half {
-        Svq1Half::Intra => match level {
-            Svq1Level::L0 => 21504,
-            Svq1Level::L1 => 18432,
-            Svq1Level::L2 => 12288,
-            Svq1Level::L3 | Svq1Level::L4 | Svq1Level::L5 => 0,
+        Svq1Half::Intra => match d {
+            0 => 21504,
+            1 => 18432,
+            2 => 12288,
+            _ => 0,
         },
-        Svq1Half::Inter => match level {
-            Svq1Level::L0 => 22272,
-            Svq1Level::L1 => 19968,
-            Svq1Level::L2 => 15360,
-            Svq1Level::L3 => 6144,
-            Svq1Level::L4 | Svq1Level::L5 => 0,
+        Svq1Half::Inter => match d {
+            0 => 22272,
+            1 => 19968,
+            2 => 15360,
+            3 => 6144,
+            _ => 0,
         },
     }
 }

@@ -2,7 +2,6 @@
 ghost use Rattle.std.specs.Prelude.{◌≡◌, ◌&&◌, ◌+◌, ◌-◌, ◌*◌, ◌<◌, ◌≤◌, length, take, drop, ltb};
 ghost use Rattle.bits.specs.BitNeeds.{Fits};
 ghost use Rattle.bits.specs.Bits.{val_of, bits_of};
-ghost use Rattle.book.specs.Level.{level_number};
 ghost use Rattle.codebook.specs.Mean.{mean_at};
 ghost use Rattle.leaf.specs.LeafBits.{read_skip, read_leaf};
 ghost use Rattle.leaf.specs.LentNeeds.{LentTables, lent_tables, MeanTable, padded, LeafRead, nibbles, read_indices, read_mean, lent_rest};
@@ -10,7 +9,6 @@ ghost use Rattle.leaf.specs.LentNeeds.{LentTables, lent_tables, MeanTable, padde
 use super::super::svq1_enc_leaf::LeafCode;
 use super::super::svq1_enc_leaf::inner::signed_mean;
 use bits::refusal::Refusal;
-use book::svq1_blocktree::Svq1Level;
 use book::svq1_vlc::Svq1Half;
 use code_tables::inner::read_code;
 
@@ -103,10 +101,10 @@ fn read_skip(s: &[u8], at: usize, half: Svq1Half) -> Result<ReadLeaf, Refusal>
 
 // Whether a level has no place for this many stages.
 #[tactic(auto, using(std::proofs::lemmas::Bool::Decides::nat_tests))]
-fn stages_closed(level: Svq1Level, count: usize) -> bool
-    ensures { result ≡ (ltb 3 (level_number level) && ltb 0 count) }
+fn stages_closed(level: usize, count: usize) -> bool
+    ensures { result ≡ (ltb 3 level && ltb 0 count) }
 {
-    3 < level.number() && 0 < count
+    3 < level && 0 < count
 }
 
 // What stands behind the stage code at position k.
@@ -115,11 +113,11 @@ fn read_rest(
     at: usize,
     table: &[u8],
     half: Svq1Half,
-    level: Svq1Level,
+    level: usize,
     k: usize,
 ) -> Result<ReadLeaf, Refusal>
     requires { (k < 8) × Fits (length s.now) at 0 × MeanTable half table.now }
-    ensures { LeafRead (bits_of s.now) (lent_rest half table.now (level_number level) k (drop at (bits_of s.now))) result }
+    ensures { LeafRead (bits_of s.now) (lent_rest half table.now level k (drop at (bits_of s.now))) result }
 {
     if k == 0 {
         return read_skip(s, at, half);
@@ -138,10 +136,10 @@ pub fn read_leaf(
     stage: &[u8],
     means: &[u8],
     half: Svq1Half,
-    level: Svq1Level,
+    level: usize,
 ) -> Result<ReadLeaf, Refusal>
     requires { Fits (length s.now) at 0 × LentTables half stage.now means.now }
-    ensures { LeafRead (bits_of s.now) (read_leaf (lent_tables half stage.now means.now) (level_number level) (drop at (bits_of s.now))) result }
+    ensures { LeafRead (bits_of s.now) (read_leaf (lent_tables half stage.now means.now) level (drop at (bits_of s.now))) result }
 {
     let found = read_code(s, at, stage)?;
     read_rest(s, found.next, means, half, level, found.position)

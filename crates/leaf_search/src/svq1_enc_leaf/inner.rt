@@ -11,6 +11,7 @@ ghost use Rattle.leaf_search.specs.LevelLeafNeeds.{LevelReady, LevelChosen};
 ghost use Rattle.leaf_search.specs.StagesNeeds.{Searched};
 
 use super::super::svq1_enc_leaf::LeafChoice;
+use bits::inner::put_row;
 use book::svq1_blocktree::Svq1Level;
 use book::svq1_vlc::Svq1Half;
 use codebook::svq1_codebook::inner::page_start;
@@ -205,7 +206,7 @@ pub fn choose_leaf(
     if terms.skip {
         let e = distance_of(t, p);
         if e <= coded.error {
-            out.copy_from_slice(p);
+            put_row(out, 0, p);
             return LeafChoice {
                 code: LeafCode::Skip,
                 stages: [0u8; 6],
@@ -249,7 +250,7 @@ pub fn level_leaf(
 {
     let n = t.len();
     let half = terms.half;
-    let base = page_start(half, level);
+    let base = page_start(half, level.number());
     let open = terms_at(level, terms);
     choose_leaf(open, t, p, &mut a[..n], &mut out[..n], raised, base)
 }

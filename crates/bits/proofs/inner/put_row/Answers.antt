@@ -1,14 +1,6 @@
--- The run stands where the slice's part was.
-use Rattle.std.proofs.Common.{arith, length, refl, sym, ◌∙◌}
-use Rattle.std.proofs.lemmas.List.Edits.{sets-eq}
-use Rattle.std.proofs.Math.Seq.{take-length}
-use Rattle.std.proofs.lemmas.Slice.{put_mid-paste}
+-- The first i elements of the run are there.
+use Rattle.bits.specs.FillLaws.{row_step}
 use Rattle.bits.proofs.inner.put_row.Goals as goal
 
-pub returns : goal.returns
-returns c =
-    let xs = c.args.xs.now in
-    let out = c.args.out.now in
-    let at = c.args.at in
-    put_mid-paste at _ out _ xs (length xs) c.copy_from_slice.ensures.after (omega arith) refl
-    ∙ rw (take-length xs) (sym (sets-eq xs out at c.requires))
+pub loop-i-preserved : goal.loop-i-preserved
+loop-i-preserved c = rw c.loop-i.invariant (row_step c.args.out.now c.args.xs.now c.args.at c.loop-i.i c.loop-i-test.true)

@@ -141,7 +141,7 @@ fn read_leaf_at(
 {
     let stage = stage_table(book, half, level);
     let means = mean_table(book, half);
-    let leaf = read_leaf(s, at, stage, means, half, level)?;
+    let leaf = read_leaf(s, at, stage, means, half, level.number())?;
     let stages = leaf.stages;
     Ok(ReadNode {
         next: leaf.next,

@@ -40,7 +40,7 @@ fn paint_leaf(
     let w = dims.width;
     let h = dims.height;
     let at = place_of(s, i);
-    let page = page_start(half, level);
+    let page = page_start(half, level.number());
     gather_block(predictor, s, at, w, h, under);
     show_leaf(half, under, sums, over, raised, page, code, stages);
     paint_block(out, s, at, w, h, over);

@@ -7,15 +7,14 @@ use Rattle.bits.specs.Bits.{bits_of}
 use Rattle.code_tables.specs.CallsLaws.{answer_found}
 use Rattle.leaf.specs.LentNeeds.{lent_rest}
 use Rattle.leaf.specs.LentReadLaws.{read_on, read_by, take_found, take_refused, refused_read}
-use Rattle.book.specs.Level.{level_number}
 use Rattle.leaf.proofs.svq1_plane.inner.read_leaf.Goals as goal
 
 pub returns-in_err-found : goal.returns-in_err-found
 returns-in_err-found c =
     let a = c.args in
     let from = drop a.at (bits_of a.s.now) in
-    let rest = lent_rest a.half a.means.now (level_number a.level) in
-    let e = read_by a.half a.stage.now a.means.now (level_number a.level) from ∙ take_refused a.stage.now (bits_of a.s.now) a.at _ rest c.in_err-found.ensures in
+    let rest = lent_rest a.half a.means.now a.level in
+    let e = read_by a.half a.stage.now a.means.now a.level from ∙ take_refused a.stage.now (bits_of a.s.now) a.at _ rest c.in_err-found.ensures in
     search (rules, refused_read, sym e)
 
 pub read_rest-requires : goal.read_rest-requires
@@ -31,5 +30,5 @@ returns c =
     let b = bits_of a.s.now in
     let found = c.in_ok-found.found in
     let e = answer_found _ found c.in_ok-found.ensures in
-    rw (read_by a.half a.stage.now a.means.now (level_number a.level) (drop a.at b), take_found a.stage.now b a.at found.position found.next (lent_rest a.half a.means.now (level_number a.level)) e)
+    rw (read_by a.half a.stage.now a.means.now a.level (drop a.at b), take_found a.stage.now b a.at found.position found.next (lent_rest a.half a.means.now a.level) e)
     c.read_rest.ensures

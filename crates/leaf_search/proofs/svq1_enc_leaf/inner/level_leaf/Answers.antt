@@ -54,7 +54,7 @@ choose_leaf-requires c =
     let m = area_range (level_number a.level) q.level in
     let n = length a.t.now in
     let d = level_number a.level in
-    let e = c.page_start-base.ensures in
+    let e = rw c.number.ensures.0 at c.page_start-base.ensures in
     let f = c.terms_at-open.ensures in
     record {
       few = omega (arith, q.target, m.1);
@@ -96,7 +96,7 @@ returns c =
     let m = area_range (level_number a.level) q.level in
     let n = length a.t.now in
     let d = level_number a.level in
-    let e = c.page_start-base.ensures in
+    let e = rw c.number.ensures.0 at c.page_start-base.ensures in
     let f = c.terms_at-open.ensures in
     let w = c.choose_leaf in
     let new = w.new.out in

@@ -20,10 +20,10 @@ read_leaf-requires c =
 pub returns-in_err-leaf : goal.returns-in_err-leaf
 returns-in_err-leaf c =
     let a = c.args in
-    let e = leaf_refused a.book.now a.half (level_number a.level) _ _ a.s.now a.at _ c.stage_table-stage.ensures c.mean_table-means.ensures c.in_err-leaf.ensures in
+    let e = leaf_refused a.book.now a.half (level_number a.level) _ _ a.s.now a.at _ c.stage_table-stage.ensures c.mean_table-means.ensures (rw c.number.ensures.0 at c.in_err-leaf.ensures) in
     search (rules, e)
 
 pub returns : goal.returns
 returns c =
     let a = c.args in
-    leaf_here a.book.now a.half (level_number a.level) _ _ a.s.now a.at _ c.stage_table-stage.ensures c.mean_table-means.ensures c.in_ok-leaf.ensures
+    leaf_here a.book.now a.half (level_number a.level) _ _ a.s.now a.at _ c.stage_table-stage.ensures c.mean_table-means.ensures (rw c.number.ensures.0 at c.in_ok-leaf.ensures)

@@ -18,7 +18,7 @@ show_leaf-requires c =
     let u = c.gather_block.auto.out ∙ s.requires.cells.predictor in
     let most = area_most (level_number s.args.level) (five _ _ _ _ _ s.requires.drawing.lies) in (
       record { few = omega (arith, u, most); sums = s.requires.cells.totals ∙ sym u; shown = s.requires.cells.samples ∙ sym u },
-      code_shows s.args.half (level_number s.args.level) _ _ _ s.args.code s.args.stages (search rules) s.requires.drawing.sound s.requires.drawing.copy c.page_start-page.ensures u,
+      code_shows s.args.half (level_number s.args.level) _ _ _ s.args.code s.args.stages (search rules) s.requires.drawing.sound s.requires.drawing.copy (rw c.number.ensures.0 at c.page_start-page.ensures) u,
     )
 
 pub paint_block-requires : goal.paint_block-requires
@@ -30,4 +30,4 @@ pub returns : goal.returns
 returns c =
     let s = c in
     leaf_painted s.args.s (level_number s.args.level) s.args.i _ _ _ _ s.args.predictor.now s.args.raised.now _ _ _ s.args.half _ s.requires.drawing.lies.deep c.place_of-at.ensures.0 c.block_dims-dims.ensures.0 c.block_dims-dims.ensures.1
-    c.page_start-page.ensures s.requires.drawing.lies.predictor _ c.gather_block.ensures c.show_leaf.ensures c.paint_block.ensures
+    (rw c.number.ensures.0 at c.page_start-page.ensures) s.requires.drawing.lies.predictor _ c.gather_block.ensures c.show_leaf.ensures c.paint_block.ensures
